@@ -44,6 +44,7 @@ one_more true false m n e t = absurd (omega arith)
 one_more false b m n e t = absurd (let z : false ≡ true = t in cc)
 
 module _ (g : Graph) (s u : Scenario) (same : active_numbers g s ≡ active_numbers g u) where
+  -- the active numbers are those of the processes and then those of the conditions, each at its place
   faults_at : (r : Scenario) (p : ℕ) → p < process_count g → get_or (active_numbers g r) p 0 ≡ active_fault g r p
   faults_at r p l = get_or_append_left (map (active_fault g r) (numbers_below (process_count g)))
       (map (active_value g r) (numbers_below (condition_count g))) 0 p
@@ -60,6 +61,7 @@ module _ (g : Graph) (s u : Scenario) (same : active_numbers g s ≡ active_numb
       ∙ ap (λ i. get_or (map (active_value g r) (numbers_below (condition_count g))) i 0) at
       ∙ get_or-map-below (active_value g r) (condition_count g) c 0 l
 
+  -- two scenarios with the same active numbers agree on what is active
   pub alike_from_numbers : AreActiveAlike g s u
   alike_from_numbers = record {
     values =
@@ -69,8 +71,11 @@ module _ (g : Graph) (s u : Scenario) (same : active_numbers g s ≡ active_numb
         (sym (faults_at s p l) ∙ ap (λ xs. get_or xs p 0) same ∙ faults_at u p l) a;
   }
 
+-- given two scenarios that agree on what is active in the first
 module _ (g : Graph) (urgency : List ℕ) (urgent : IsUrgencyOrder g urgency) (lawful : IsTopological g urgency)
     (s u : Scenario) (alike : AreActiveAlike g s u) where
+  -- they activate the same processes, in the same way, make the same edges live, and are decided by the same
+  -- conditions
   activation_is_same : (p : ℕ) → p < process_count g → activation g s.values p ≡ activation g u.values p
   activation_is_same p l = same_everywhere g urgency lawful s.values u.values p (omega arith) alike.values
 
@@ -114,6 +119,7 @@ module _ (g : Graph) (urgency : List ℕ) (urgent : IsUrgencyOrder g urgency) (l
         (λ y c. item_is_same y (item_cases g y (numbers-Contains (item_count g) y
         (Contains-filter_parts (λ (z : ℕ). is_queued_before g order z x) (numbers_below (item_count g)) y c).0))))
 
+    -- the bounds of an item are the same in both scenarios
     bounds_same : (x : ℕ) → ItemCases g x →
         bounds_of_item g order s t x (item_at g x) ≡ bounds_of_item g order u t x (item_at g x)
     bounds_same x (inl c) =

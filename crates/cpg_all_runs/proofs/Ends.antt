@@ -19,7 +19,8 @@ use Rattle.cpg_all_runs.proofs.Measured.{HasIn, AreMeasured, measured}
 
 module _ (g : Graph) (order : List ℕ) (top : IsTopological g order) where
   module _ (frozen : List (Option ℕ)) (s : Scenario) (t : Times) (run : IsRun g order frozen s t) where
-    -- what the search among the processes finds
+    -- what the search finds is the least process that ends at the finish, and it finds none only if there is no
+    -- process
     pub ends_last : (by : Option ℕ) → IfSome by (λ p. IsFirstEnding t t.finish p) →
         IfNone by ((q : ℕ) → q < process_count g → get_or t.ends q None ≢ Some t.finish) →
         IsLeastEnding g t t.finish by
@@ -29,6 +30,7 @@ module _ (g : Graph) (order : List ℕ) (top : IsTopological g order) where
     ]
     ends_last (Some p) some none = (some.ends, some.first)
 
+  -- given a number that is read off each run, and the place of the greatest
   module _ (value : Times → ℕ) (urgency : List ℕ) (frozen : List (Option ℕ)) (list : List Scenario)
       (all : AreScenarios g list) (numbers : List ℕ) (m : AreMeasured g order frozen value list numbers)
       (at : ℕ) (f : IsFirstGreatest g urgency (length list) list numbers at) where
@@ -39,10 +41,12 @@ module _ (g : Graph) (order : List ℕ) (top : IsTopological g order) where
         let h = m.each c.0 s c.1 in
         sym h.2 ∙ ap value (run_unique g order top frozen s h.0 t (subst (λ z. IsRun g order frozen z h.0) c.2 h.1) run)
 
+    -- no run has a greater number than the one at that place
     pub peak_greatest : (s : Scenario) (t : Times) → IsScenario g s → IsRun g order frozen s t →
         value t ≤ get_or numbers at 0
     peak_greatest s t lawful run = let c = all.all s lawful in omega (arith, f.most c.0 c.1, number_is s t c run)
 
+    -- the scenario at that place is the least one whose run has the greatest number
     pub peak_least : (s d : Scenario) → s ≡ get_or list at d →
         IsLeast g urgency (HasIn g order frozen value (get_or numbers at 0)) s
     peak_least s d e = record {
@@ -59,6 +63,7 @@ module _ (g : Graph) (order : List ℕ) (top : IsTopological g order) where
       HasIn g order frozen value n s → IsRun g order frozen s t → value t ≡ n
   one_number value frozen n s t has run = ap value (run_unique g order top frozen s t has.0 run has.1) ∙ has.2
 
+  -- given the runs of all scenarios, a number of each, and the place of the greatest
   module _ (urgency : List ℕ) (frozen : List (Option ℕ)) (list : List Scenario) (all : AreScenarios g list)
       (runs : List Times) (are : AreRuns g order frozen list runs)
       (numbers : List ℕ) (at : ℕ) (f : IsFirstGreatest g urgency (length list) list numbers at) (s : Scenario)
@@ -68,6 +73,7 @@ module _ (g : Graph) (order : List ℕ) (top : IsTopological g order) where
     its_run = subst (λ z. IsRun g order frozen z t) (sym (scenario_at s))
         (subst (IsRun g order frozen (get_or list at s)) (sym (run_at t)) (are.each at s t f.there))
 
+    -- if the numbers are the finishes of the runs, what is found is the greatest finish
     pub is_worst : numbers ≡ map (λ u. u.finish) runs → IfSome by (λ p. IsFirstEnding t t.finish p) →
         IfNone by ((q : ℕ) → q < process_count g → get_or t.ends q None ≢ Some t.finish) →
         IsWorst g urgency order frozen (get_or numbers at 0) s by
@@ -83,6 +89,7 @@ module _ (g : Graph) (order : List ℕ) (top : IsTopological g order) where
               (ends_last frozen s t its_run by some none));
         }
 
+    -- if the numbers are the excesses of the runs, what is found is the greatest excess
     pub is_excess : numbers ≡ map (excess_in_run g) runs → IsLeastExceeding g t (excess_in_run g t) by →
         IsExcess g urgency order frozen (get_or numbers at 0) s by
     is_excess is exceeds =

@@ -8,26 +8,31 @@ use Rattle.cpg_order.specs.Scenario.{scenarios}
 use Rattle.cpg_order.proofs.Ways.{ways_small, ways_times, ways_some}
 use Rattle.cpg_order.proofs.ScenariosApart.{length-scenarios}
 
+-- the product by which the ways of one more fault are found fits in 64 bits
 pub product_fits : (m k : ℕ) → m ≤ 128 → k ≤ 7 → ways m k * (m + k + 1) < 2 ^ 64
 product_fits m k few l =
     let a = ways_small m few k (omega arith) in
     let b = mul-le (ways m k) (m + k + 1) (2 ^ 42) 136 (omega arith) (omega arith) in
     omega arith
 
+-- the ways of one fault more follow from those of the faults so far
 pub next_ways : (m k : ℕ) → ways m k * (m + k + 1) / (k + 1) ≡ ways m (k + 1)
 next_ways m k =
     let e : ways m k * (m + k + 1) ≡ (k + 1) * ways m (k + 1) = let a = ways_times m k in omega arith in
     ap (λ n. n / (k + 1)) e ∙ mul-div_cancel_left (ways m (k + 1)) (omega arith)
 
+-- up to 14 conditions there are at most 16384 outcomes
 pub power_small : (c : ℕ) → c ≤ 14 → 2 ^ c ≤ 16384
 power_small c l = let h = pow-le-pow_right {n = 2} (let p : 0 < 2 = omega arith in p) l in omega arith
 
+-- up to 14 conditions the number of scenarios fits in 64 bits
 pub all_fit : (c m k : ℕ) → c ≤ 14 → m ≤ 128 → k ≤ 8 → 2 ^ c * ways m k < 2 ^ 64
 all_fit c m k l few h =
     let a = ways_small m few k h in
     let b = mul-le (2 ^ c) (ways m k) 16384 (2 ^ 42) (power_small c l) (omega arith) in
     omega arith
 
+-- with more than 14 conditions there are more than 16384 scenarios
 pub too_many : (g : Graph) → 14 < condition_count g → length (scenarios g) ≤ 16384 → ⊥
 too_many g l few =
     let e = length-scenarios g in

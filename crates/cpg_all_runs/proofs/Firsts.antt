@@ -11,9 +11,12 @@ use Rattle.cpg_base.specs.Scenario.{Scenario, is_before}
 use Rattle.cpg_base.proofs.ScenarioOrder.{before_irreflexive, before_one_way, not_before_transitive}
 use Rattle.cpg_all_runs.specs.Peaks.{IsFirstGreatest}
 
+-- given the place of the first greatest of n numbers
 module _ (g : Graph) (urgency : List ℕ) (n : ℕ) (list : List Scenario) (numbers : List ℕ) (at : ℕ)
     (f : IsFirstGreatest g urgency n list numbers at) where
-  -- the one at n is greater, or as great and before it
+  -- If the number at n is greater, or as great and its scenario comes first, its place is the one.
+  -- The number at n is at least the greatest so far; a scenario before its own with the same number would come before
+  -- that of the old place.
   pub takes_it : get_or numbers at 0 ≤ get_or numbers n 0 →
       (get_or numbers n 0 ≡ get_or numbers at 0 → (d : Scenario) →
       is_before g urgency (get_or list n d) (get_or list at d) ≡ true) →
@@ -35,7 +38,7 @@ module _ (g : Graph) (urgency : List ℕ) (n : ℕ) (list : List Scenario) (numb
     ];
   }
 
-  -- it is less, or as great and not before it
+  -- if the number at n is less, or as great and its scenario does not come first, the place stays
   pub skips_it : get_or numbers n 0 ≤ get_or numbers at 0 →
       (get_or numbers n 0 ≡ get_or numbers at 0 → (d : Scenario) →
       is_before g urgency (get_or list n d) (get_or list at d) ≡ false) →
@@ -53,6 +56,7 @@ module _ (g : Graph) (urgency : List ℕ) (n : ℕ) (list : List Scenario) (numb
     ];
   }
 
+-- of one number the greatest is that one
 pub starts_it : (g : Graph) (urgency : List ℕ) (list : List Scenario) (numbers : List ℕ) →
     IsFirstGreatest g urgency 1 list numbers 0
 starts_it g urgency list numbers = record {
@@ -62,11 +66,12 @@ starts_it g urgency list numbers = record {
       z) ∙ before_irreflexive g urgency (get_or list 0 d);
 }
 
--- the greatest of one number more
+-- the greatest of one number more is the greater of the old one and that number
 pub greatest_more : (f : ℕ → ℕ) (n : ℕ) →
     greatest (map f (numbers_below (n + 1))) ≡ max (greatest (map f (numbers_below n))) (f n)
 greatest_more f n = ap (λ xs. greatest (map f xs)) (below_push n) ∙ ap greatest (map_push f (numbers_below n) n)
     ∙ greatest_push (map f (numbers_below n)) (f n)
 
+-- the greater of two numbers by their comparison is their maximum
 pub the_max : (a b : ℕ) → ord_max nat_cmp a b ≡ max a b
 the_max a b = grind (arith, common_steps)

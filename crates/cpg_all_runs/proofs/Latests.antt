@@ -39,6 +39,7 @@ pub record IsLatest (g : Graph) (order : List ℕ) (frozen : List (Option ℕ)) 
       get_or t.times x None ≡ Some time →
       IsUpTo latest time
 
+-- the later of two times is one of them
 later_cases : (a b : Option ℕ) (time : ℕ) → later a b ≡ Some time → (a ≡ Some time) ⊎ (b ≡ Some time)
 later_cases None b time e = inr e
 later_cases (Some m) None time e = inl e
@@ -47,6 +48,7 @@ later_cases (Some m) (Some n) time e = elim (cases_lt m n) [
   | inr l ↦ inl (ap (λ k. Some k) (let k : max m n ≡ m = omega arith in sym k) ∙ e)
 ]
 
+-- a time up to the first is up to the later one
 later_first : (a b : Option ℕ) (time : ℕ) → IsUpTo a time → IsUpTo (later a b) time
 later_first None b time u = absurd (none-some u.most u.is)
 later_first (Some m) None time u = u
@@ -59,18 +61,22 @@ later_first (Some m) (Some n) time u = record {
     same_some : (a b : ℕ) → Some a ≡ Some b → a ≡ b
     same_some a b e = cc
 
+-- the second time is up to the later one
 later_second : (a : Option ℕ) (time : ℕ) → IsUpTo (later a (Some time)) time
 later_second None time = record { most = time; is = refl; few = omega arith }
 later_second (Some m) time = record { most = max m time; is = refl; few = omega arith }
 
+-- given an item and scenarios that are gone through
 module _ (g : Graph) (order : List ℕ) (top : IsTopological g order) (frozen : List (Option ℕ)) (x : ℕ)
     (list : List Scenario) where
+  -- before the first scenario there is no greatest time
   pub latest_first : IsLatest g order frozen x 0 list None
   latest_first = record {
     reached = λ time e. absurd (none-some time e);
     above = λ i s t time l at run e. absurd (omega arith);
   }
 
+  -- with one scenario more, the greatest time is the later of the old one and that of the scenario's run
   pub latest_more : (n : ℕ) (latest : Option ℕ) (s : Scenario) (t : Times) → n < length list → get_or list n s ≡ s →
       IsRun g order frozen s t →
       IsLatest g order frozen x n list latest →
@@ -110,6 +116,7 @@ module _ (g : Graph) (order : List ℕ) (top : IsTopological g order) (frozen : 
               (sym (time_active g order frozen h.scenario h.times h.run x within p.1) ∙ h.has);
         }
 
+    -- no time that the item would have is above the greatest one
     would_be_up_to : (n : ℕ) (latest : Option ℕ) (time : ℕ) → n ≡ length list →
         IsLatest g order frozen x n list latest → WouldHave g order frozen x time →
         IsUpTo latest time
@@ -121,6 +128,7 @@ module _ (g : Graph) (order : List ℕ) (top : IsTopological g order) (frozen : 
         (time_active g order frozen w.scenario w.times w.run x within w.active
         ∙ ap (λ k. Some k) (time_unset w.scenario w.times w.run ∙ w.has))
 
+    -- the greatest time in all scenarios is the unfrozen time of the item
     pub latest_is : (n : ℕ) (latest : Option ℕ) → n ≡ length list → IsLatest g order frozen x n list latest →
         IsUnfrozenTime g order frozen x latest
     latest_is n latest long is = record {

@@ -19,7 +19,7 @@ pub use Rattle.cpg_run.proofs.ZeroScenario.{zero_lawful}
 use Rattle.cpg_all_runs.specs.Listing.{AreScenarios, HasValue, with_fault, with_true, with_each_fault, with_both}
 use Rattle.cpg_all_runs.specs.Listing.{with_faults_below, with_values_below}
 
--- one more, as at a step of a loop
+-- the step of a loop that adds what a function gives of each number
 pub appended_push : {X : Type 0} (f : ℕ → X) (before xs ys : List X) (y : X) (n : ℕ) →
     xs ≡ before ++ map f (numbers_below n) → y ≡ f n →
     ys ≡ xs ++ y ∷ [] →
@@ -51,6 +51,7 @@ module _ (g : Graph) where
         get_or_past (replicate (process_count g) 0) q 0 (omega (arith, length-replicate {A = ℕ} (process_count g) 0))
   ]
 
+  -- another fault count of a process leaves a scenario lawful if the graph allows all the faults
   faults_changed : (p f : ℕ) (s : Scenario) → p < process_count g → IsScenario g s →
       sum s.faults + f ≤ g.faults + fault_of s p →
       IsScenario g (with_fault p s f)
@@ -60,6 +61,8 @@ module _ (g : Graph) where
     budget = let e = sum_by-set (λ (x : ℕ). x) s.faults p f 0 (omega (arith, is.faults)) in omega arith;
   }
 
+  -- Each scenario of the list has no faults from the process p on, and every value false.
+  -- By induction on p: a scenario of the list comes from one with no fault of p, by a count that the budget allows.
   pub faults_listed : (p : ℕ) → p ≤ process_count g → (s : Scenario) → Contains (with_faults_below g p) s →
       HasFaultsBelow p s
   unfolding with_faults_below
@@ -79,6 +82,8 @@ module _ (g : Graph) where
         quiet = i.quiet;
       })
 
+  -- Each such scenario is in the list.
+  -- By induction on p: the scenario without the faults of p is in the list before, and its count brings it back.
   pub lists_faults : (p : ℕ) → p ≤ process_count g → (s : Scenario) → HasFaultsBelow p s →
       Contains (with_faults_below g p) s
   unfolding with_faults_below
@@ -113,6 +118,7 @@ module _ (g : Graph) where
     pub lawful : IsScenario g s
     pub later : (d : ℕ) → c ≤ d → get_or s.values d false ≡ false
 
+  -- without true values each value is false
   all_quiet : (d : ℕ) → get_or (replicate (condition_count g) false) d false ≡ false
   all_quiet d = elim (cases_lt d (condition_count g)) [
     | inl h ↦ get_or-replicate (condition_count g) d false false h
@@ -120,11 +126,14 @@ module _ (g : Graph) where
         (omega (arith, length-replicate (condition_count g) false))
   ]
 
+  -- another value of a condition leaves a scenario lawful
   value_changed : (c : ℕ) (v : Bool) (s : Scenario) → IsScenario g s →
       IsScenario g (record s { values = set s.values c v })
   value_changed c v s is =
       record { values = length-set s.values c v ∙ is.values; faults = is.faults; budget = is.budget }
 
+  -- Each scenario of the list has every value false from the condition c on.
+  -- By induction on c: a scenario of the list comes from one with the value of c false, as it is or with true.
   pub values_listed : (c : ℕ) → (s : Scenario) → Contains (with_values_below g c) s → HasValuesBelow c s
   unfolding with_values_below
   values_listed zero s k =
@@ -145,6 +154,8 @@ module _ (g : Graph) where
         ]
       ]
 
+  -- Each such scenario is in the list.
+  -- By induction on c: the scenario with the value of c false is in the list before, and its value brings it back.
   pub lists_values : (c : ℕ) → c ≤ condition_count g → (s : Scenario) → HasValuesBelow c s →
       Contains (with_values_below g c) s
   unfolding with_values_below
@@ -183,6 +194,8 @@ module _ (g : Graph) where
   fault_cleared : (p f : ℕ) (s : Scenario) → fault_of s p ≡ 0 → set (with_fault p s f).faults p 0 ≡ s.faults
   fault_cleared p f s z = set_twice s.faults p f 0 0 ∙ sym (ap (set s.faults p) z) ∙ set-get_or s.faults p 0
 
+  -- No scenario of the list is there twice.
+  -- Two scenarios from one differ in the count of p; two from different ones differ when this count is taken away.
   faults_apart : (p : ℕ) → p ≤ process_count g → AllPairs (λ s t. s ≢ t) (with_faults_below g p)
   unfolding with_faults_below
   faults_apart zero within = AllPairs-cons_by (λ s t. s ≢ t) (zero_scenario g) [] (λ s c. absurd (Contains-nil s c))
@@ -219,9 +232,12 @@ module _ (g : Graph) where
     ]
   ]
     where
+      -- to set a value that is false to false changes nothing
       unset : set s.values c false ≡ s.values
       unset = sym (ap (set s.values c) z) ∙ set-get_or s.values c false
 
+  -- No scenario of the list is there twice.
+  -- Two scenarios from one differ in the value of c; two from different ones differ when this value is taken away.
   values_apart : (c : ℕ) → c ≤ condition_count g → AllPairs (λ s t. s ≢ t) (with_values_below g c)
   unfolding with_values_below
   values_apart zero within = faults_apart (process_count g) (omega arith)
@@ -243,6 +259,7 @@ module _ (g : Graph) where
       d (same s t (sym x.0 ∙ ap (λ z. set z.values c false) e ∙ y.0) (sym x.1 ∙ ap (λ z. z.faults) e ∙ y.1)))
       (values_apart c (omega arith))
 
+  -- with the values of all conditions, the list has each scenario of the graph once and no other
   pub are_scenarios : AreScenarios g (with_values_below g (condition_count g))
   are_scenarios = record {
     lawful = λ s c. (values_listed (condition_count g) s c).lawful;
@@ -251,31 +268,37 @@ module _ (g : Graph) where
     apart = values_apart (condition_count g) (omega arith);
   }
 
+  -- the scenarios of the list are scenarios of the graph
   pub all_lawful_faults : (p : ℕ) → p ≤ process_count g → All (IsScenario g) (with_faults_below g p)
   all_lawful_faults p h i d l =
       (faults_listed p h (get_or (with_faults_below g p) i d) (Contains-get_or (with_faults_below g p) i d l)).lawful
 
+  -- each scenario of the list has a value of the next condition
   pub all_within : (c : ℕ) → c < condition_count g → All (HasValue c) (with_values_below g c)
   all_within c h i d l = let is =
       (values_listed c (get_or (with_values_below g c) i d) (Contains-get_or (with_values_below g c) i d l)).lawful in
       let e = is.values in
       omega arith
 
+  -- each scenario with each count of the next process gives the next list
   pub faults_more : (p : ℕ) (xs ys : List Scenario) → xs ≡ with_faults_below g p →
       ys ≡ flat_map (with_each_fault g p) xs →
       ys ≡ with_faults_below g (p + 1)
   unfolding with_faults_below
   faults_more p xs ys e f = f ∙ ap (flat_map (with_each_fault g p)) e ∙ ap (with_faults_below g) (sym (add-one p))
 
+  -- each scenario with both values of the next condition gives the next list
   pub values_more : (c : ℕ) (xs ys : List Scenario) → xs ≡ with_values_below g c → ys ≡ flat_map (with_both c) xs →
       ys ≡ with_values_below g (c + 1)
   unfolding with_values_below
   values_more c xs ys e f = f ∙ ap (flat_map (with_both c)) e ∙ ap (with_values_below g) (sym (add-one c))
 
+  -- the scenario without faults, in which every value is false, is the first list
   pub faults_first : (s : Scenario) → s ≡ zero_scenario g → s ∷ [] ≡ with_faults_below g 0
   unfolding with_faults_below
   faults_first s e = ap (λ x. x ∷ []) e
 
+  -- the list with the faults of all processes is the first with values
   pub values_first : with_faults_below g (process_count g) ≡ with_values_below g 0
   unfolding with_values_below
   values_first = refl

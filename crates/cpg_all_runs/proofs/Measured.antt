@@ -21,7 +21,7 @@ pub record AreMeasured (g : Graph) (order : List ℕ) (frozen : List (Option ℕ
       HasIn g order frozen value (get_or numbers i 0) (get_or list i s)
 
 module _ (g : Graph) (order : List ℕ) (frozen : List (Option ℕ)) where
-  -- one run more
+  -- with the run of one scenario more, these are the runs of the first n + 1
   pub runs_more : (n : ℕ) (list : List Scenario) (runs more : List Times) (t : Times) →
       AreFirstRuns g order frozen n list runs →
       ((d : Scenario) → IsRun g order frozen (get_or list n d) t) →
@@ -41,7 +41,7 @@ module _ (g : Graph) (order : List ℕ) (frozen : List (Option ℕ)) where
     ];
   }
 
-  -- what is read off each run
+  -- the numbers that are read off runs are those of their scenarios
   pub measured : (value : Times → ℕ) (list : List Scenario) (runs : List Times) (numbers : List ℕ) →
       AreRuns g order frozen list runs →
       numbers ≡ map value runs →

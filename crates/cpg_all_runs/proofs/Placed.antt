@@ -20,7 +20,7 @@ use Rattle.cpg_base.proofs.Lists.{map_below_push}
 use Rattle.cpg_all_runs.specs.FirstAlike.{AreFirstPlaces}
 use Rattle.cpg_all_runs.specs.Placed.{place_in, with_place, GetsPlace}
 
--- numbers are told one after another behind others
+-- numbers are listed one after another, behind others
 pub map_below_after : (f : ℕ → ℕ) (before xs more : List ℕ) (v n : ℕ) → xs ≡ before ++ map f (numbers_below n) →
     v ≡ f n → more ≡ xs ++ v ∷ [] →
     more ≡ before ++ map f (numbers_below (n + 1))
@@ -33,6 +33,7 @@ same_some : (a b : ℕ) → Some a ≡ Some b → a ≡ b
 same_some a b e = cc
 
 module _ (P : Vec ℕ × ℕ → Type 0) where
+  -- what holds of all entries of a map holds of one that is found
   placed_found : (f : Vec ℕ → Ordering) (es : List (Vec ℕ × ℕ)) (i : ℕ) → All P es → lookup (is_at f) es ≡ Some i →
       (k : Vec ℕ) × (f k ≡ Equal) × P (k, i)
   placed_found f [] i a e = absurd (none-some i e)
@@ -45,6 +46,7 @@ module _ (P : Vec ℕ × ℕ → Type 0) where
     | inr t ↦ placed_found f es i (All-tail P x es a) (sym (lookup_tail (is_at f) x es t) ∙ e)
   ]
 
+  -- whichever way the comparison goes, what holds of all entries holds after one is put in
   put_by_order : (k : Vec ℕ) (v : ℕ) (e : Vec ℕ × ℕ) (es rest : List (Vec ℕ × ℕ)) → P (k, v) → (o : Ordering) →
       (o ≡ Equal → P (e.0, v)) → All P (e ∷ es) → All P rest →
       All P (match_ordering o ((k, v) ∷ e ∷ es) ((e.0, v) ∷ es) (e ∷ rest))
@@ -52,6 +54,7 @@ module _ (P : Vec ℕ × ℕ → Type 0) where
   put_by_order k v e es rest p Equal q a r = All-cons P (e.0, v) es (q refl) (All-tail P e es a)
   put_by_order k v e es rest p Greater q a r = All-cons P e rest (All-head P e es a) r
 
+  -- what holds of all entries holds after one more is put in
   placed_inserted : (cmp : Vec ℕ → Vec ℕ → Ordering) (k : Vec ℕ) (v : ℕ) → P (k, v) →
       ((j : Vec ℕ) → cmp k j ≡ Equal → P (j, v)) → (es : List (Vec ℕ × ℕ)) → All P es →
       All P (insert_entry cmp es k v)
@@ -84,11 +87,13 @@ module _ (numbers : List ℕ) where
     | inr t ↦ h (sym (lookup_tail (is_key numbers) e es t) ∙ none)
   ]
 
+  -- a list of numbers that is not the first key has its place among the rest
   known_behind : (e : Vec ℕ × ℕ) (es : List (Vec ℕ × ℕ)) → is_key numbers e.0 ≡ false →
       place_in (e ∷ es) numbers ≢ None →
       place_in es numbers ≢ None
   known_behind e es t h none = h (lookup_tail (is_key numbers) e es t ∙ none)
 
+  -- a list of numbers that has a place still has one if a value changes
   known_again : (e : Vec ℕ × ℕ) (v : ℕ) (es : List (Vec ℕ × ℕ)) → place_in (e ∷ es) numbers ≢ None →
       place_in ((e.0, v) ∷ es) numbers ≢ None
   known_again e v es h = elim (cases_Bool (is_key numbers e.0)) [
@@ -97,6 +102,7 @@ module _ (numbers : List ℕ) where
   ]
 
   module _ (k : Vec ℕ) (v : ℕ) where
+    -- whichever way the comparison goes, a list of numbers that has a place keeps one
     kept_by_order : (e : Vec ℕ × ℕ) (es rest : List (Vec ℕ × ℕ)) → place_in (e ∷ es) numbers ≢ None →
         (place_in es numbers ≢ None → place_in rest numbers ≢ None) → (o : Ordering)
         → place_in (match_ordering o ((k, v) ∷ e ∷ es) ((e.0, v) ∷ es) (e ∷ rest)) numbers ≢ None
@@ -114,6 +120,7 @@ module _ (numbers : List ℕ) where
         kept_by_order e es (with_place es k v) h (known_kept es) (slice_cmp nat_cmp k.items e.0.items)
 
 module _ (k : Vec ℕ) (v : ℕ) where
+  -- whichever way the comparison goes, what is put in has a place
   put_in_order : (e : Vec ℕ × ℕ) (es rest : List (Vec ℕ × ℕ)) → place_in rest k.items ≢ None → (o : Ordering) →
       slice_cmp nat_cmp k.items e.0.items ≡ o
       → place_in (match_ordering o ((k, v) ∷ e ∷ es) ((e.0, v) ∷ es) (e ∷ rest)) k.items ≢ None
@@ -127,9 +134,11 @@ module _ (k : Vec ℕ) (v : ℕ) where
   known_put (e ∷ es) = put_in_order e es (with_place es k v) (known_put es) (slice_cmp nat_cmp k.items e.0.items) refl
 
 module _ (f : ℕ → List ℕ) (n : ℕ) where
+  -- before the first place the empty map has all first places
   pub none_placed : ArePlaced f 0 []
   none_placed = record { each = search rules; all = λ i l. absurd (omega arith) }
 
+  -- given that the numbers of one more place get a place
   module _ (old new : List (Vec ℕ × ℕ)) (k : Vec ℕ) (place : ℕ) (a : ArePlaced f n old) (is : k.items ≡ f n)
       (gets : GetsPlace k n old new place) where
     -- if the numbers have no place, none before n has them
@@ -139,6 +148,7 @@ module _ (f : ℕ → List ℕ) (n : ℕ) where
       | inr h ↦ h
     ]
 
+    -- the place that the numbers get or keep is the first one at which they stand
     pub first_place : (f place ≡ f n) × ((j : ℕ) → f j ≡ f n → place ≤ j)
     first_place = elim gets [
       | inl c ↦
@@ -174,6 +184,7 @@ module _ (f : ℕ → List ℕ) (n : ℕ) where
       | inr c ↦ subst (λ es. place_in es k.items ≢ None) (sym c.2) (known_put k n old)
     ]
 
+    -- the map then has the first places of the numbers of one more place
     pub places_more : ArePlaced f (n + 1) new
     places_more = record {
       each = each_more;
@@ -183,6 +194,7 @@ module _ (f : ℕ → List ℕ) (n : ℕ) where
       ];
     }
 
+    -- the list of first places then has one more
     pub firsts_more : (firsts more : List ℕ) → AreFirstPlaces f n firsts → more ≡ firsts ++ place ∷ [] →
         AreFirstPlaces f (n + 1) more
     firsts_more firsts more b pushed =

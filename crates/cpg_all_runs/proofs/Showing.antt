@@ -18,10 +18,12 @@ pub record AreFirstExamples (g : Graph) (n : ℕ) (scenarios list : List Scenari
   pub shown : (i : ℕ) → i < n → IsShown g list (scenario_at g scenarios i)
 
 module _ (g : Graph) where
+  -- a scenario has the same runs as itself
   same_itself : (s : Scenario) → HaveSameRuns g s s
   same_itself s =
       record { onward = λ order frozen t topological run. run; back = λ order frozen t topological run. run }
 
+  -- to have the same runs goes through a third scenario
   same_through : (s r u : Scenario) → HaveSameRuns g s r → HaveSameRuns g r u → HaveSameRuns g s u
   same_through s r u h k = record {
     onward =
@@ -29,6 +31,7 @@ module _ (g : Graph) where
     back = λ order frozen t topological run. h.back order frozen t topological (k.back order frozen t topological run);
   }
 
+  -- what a list shows, a longer one shows too
   shown_longer : (list : List Scenario) (r s : Scenario) → IsShown g list s → IsShown g (list ++ r ∷ []) s
   shown_longer list r s w = (
     w.0,
@@ -36,6 +39,7 @@ module _ (g : Graph) where
     λ d. subst (λ z. HaveSameRuns g z s) (sym (get_or_append_left list (r ∷ []) d w.0 w.1)) (w.2 d),
   )
 
+  -- a list shows its last scenario
   shown_itself : (list : List Scenario) (r : Scenario) → IsShown g (list ++ r ∷ []) r
   shown_itself list r = (
     length list,
@@ -43,6 +47,7 @@ module _ (g : Graph) where
     λ d. subst (λ z. HaveSameRuns g z r) (sym (get_or-append_seam list r [] d)) (same_itself r),
   )
 
+  -- a list of scenarios of the graph with one more of them has only such scenarios
   lawful_longer : (list : List Scenario) (r : Scenario) → IsScenario g r →
       ((s : Scenario) → Contains list s → IsScenario g s) → (s : Scenario) → Contains (list ++ r ∷ []) s →
       IsScenario g s
@@ -54,9 +59,10 @@ module _ (g : Graph) where
     ]
   ]
 
+  -- given a list that shows what is active in the first n scenarios
   module _ (n : ℕ) (scenarios list : List Scenario) (a : AreFirstExamples g n scenarios list)
       (within : n < length scenarios) where
-    -- a scenario more
+    -- with the next scenario added, the list shows one scenario more
     pub examples_more : (more : List Scenario) (r : Scenario) → r ≡ scenario_at g scenarios n → IsScenario g r →
         more ≡ list ++ r ∷ [] →
         AreFirstExamples g (n + 1) scenarios more
@@ -68,7 +74,7 @@ module _ (g : Graph) where
       ]);
     }
 
-    -- one before has its active numbers
+    -- if an earlier scenario has the same active numbers, the list shows the next one already
     pub examples_kept : (firsts : List ℕ) → AreFirstAlike g scenarios firsts → get_or firsts n 0 ≢ n →
         AreFirstExamples g (n + 1) scenarios list
     examples_kept firsts alike other = record {
@@ -88,6 +94,7 @@ module _ (g : Graph) where
       ];
     }
 
+  -- a list that shows what is active in all scenarios of the graph is one of examples
   pub examples_all : (n : ℕ) (scenarios list : List Scenario) → AreScenarios g scenarios → n ≡ length scenarios →
       AreFirstExamples g n scenarios list →
       AreExamples g list

@@ -19,6 +19,7 @@ pub record AreBeginnings (g : Graph) (n : ℕ) (found : List ProgressState) : Ty
   pub each : (order : List ℕ) (frozen : List (Option ℕ)) (s : Scenario) (j : ℕ) (p : ProgressState) → j < n →
       IsAlong g order frozen s 0 (get_or found j p)
 
+-- one scenario more of whose run nothing is known
 pub beginnings_more : (g : Graph) (n : ℕ) (found more : List ProgressState) (q : ProgressState) →
     AreBeginnings g n found →
     ((order : List ℕ) (frozen : List (Option ℕ)) (s : Scenario) → IsAlong g order frozen s 0 q)
@@ -45,6 +46,7 @@ pub record AreStepped (g : Graph) (order : List ℕ) (frozen : List (Option ℕ)
       IsAlong g order frozen (get_or list j s) i (get_or found j p)
 
 module _ (g : Graph) (order : List ℕ) (frozen : List (Option ℕ)) (i : ℕ) (list : List Scenario) where
+  -- one scenario more has gone on over the place
   pub stepped_more : (n : ℕ) (found more : List ProgressState) (q : ProgressState) →
       AreStepped g order frozen i n list found → n < length list
       → ((s : Scenario) → IsAlong g order frozen (get_or list n s) (i + 1) q) → more ≡ set found n q →
@@ -62,6 +64,7 @@ module _ (g : Graph) (order : List ℕ) (frozen : List (Option ℕ)) (i : ℕ) (
         ∙ get_or-set_other found n j q p (λ e. omega arith))) (a.others j s p (omega arith) k);
   }
 
+  -- once all scenarios have gone on over the place, what is found is that before the next place
   pub stepped_all : (n : ℕ) (found : List ProgressState) → AreStepped g order frozen i n list found → n ≡ length list →
       AreAlong g order frozen (i + 1) list found
   stepped_all n found a e = record { count = a.count; each = λ j s p l. a.stepped j s p (omega arith) l }

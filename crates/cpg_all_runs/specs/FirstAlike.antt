@@ -4,9 +4,11 @@ use Rattle.cpg_base.specs.Graph.{Graph}
 use Rattle.cpg_base.specs.Scenario.{Scenario, zero_scenario}
 use Rattle.cpg_all_runs.specs.Active.{active_numbers, HaveSameRuns}
 
+-- the scenario at a place of a list
 abbrev pub scenario_at : Graph → List Scenario → ℕ → Scenario
 scenario_at g list i = get_or list i (zero_scenario g)
 
+-- the active numbers of the scenario at a place of a list
 abbrev pub numbers_at : Graph → List Scenario → ℕ → List ℕ
 numbers_at g list i = active_numbers g (scenario_at g list i)
 

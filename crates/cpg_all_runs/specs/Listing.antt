@@ -16,19 +16,19 @@ pub record AreScenarios (g : Graph) (list : List Scenario) : Type 0 where
 abbrev pub HasValue : ℕ → Scenario → Type 0
 HasValue c s = c < length s.values
 
--- with another count of a process
+-- the scenario with another count of a process
 abbrev pub with_fault : ℕ → Scenario → ℕ → Scenario
 with_fault p s f = record s { faults = slice_set s.faults p f }
 
--- with each count that the graph allows beside the others
+-- the scenario with each count of a process that the graph allows together with the other counts
 abbrev pub with_each_fault : Graph → ℕ → Scenario → List Scenario
 with_each_fault g p s = map (with_fault p s) (numbers_below (g.faults - sum s.faults + 1))
 
--- with the condition true
+-- the scenario with the condition true
 abbrev pub with_true : ℕ → Scenario → Scenario
 with_true c s = record s { values = slice_set s.values c true }
 
--- with a condition as it is, and with true
+-- the scenario as it is, and with the condition true
 abbrev pub with_both : ℕ → Scenario → List Scenario
 with_both c s = s ∷ with_true c s ∷ []
 

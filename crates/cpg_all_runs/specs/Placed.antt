@@ -10,7 +10,7 @@ use Rattle.std.specs.Ordering.{nat_cmp}
 abbrev pub place_in : List (Vec ℕ × ℕ) → List ℕ → Option ℕ
 place_in entries numbers = lookup (is_at (λ k. slice_cmp nat_cmp numbers k.items)) entries
 
--- with a place for a list of numbers
+-- the map with a place for a list of numbers
 abbrev pub with_place : List (Vec ℕ × ℕ) → Vec ℕ → ℕ → List (Vec ℕ × ℕ)
 with_place entries numbers place = insert_entry (λ x y. slice_cmp nat_cmp x.items y.items) entries numbers place
 

@@ -10,7 +10,7 @@ use crate::few::MOST_SCENARIOS;
 use cpg_base::{OutOfMemory, Problem, Scenario};
 use std::alloc::Global;
 
-/// Adds a scenario with each count of a process that the graph allows beside the other counts.
+/// Adds the scenario with each count of a process that the graph allows together with the other counts.
 fn add_faults(
     problem: &Problem,
     process: u32,
@@ -30,7 +30,7 @@ fn add_faults(
     Ok(())
 }
 
-/// Adds a scenario with the value of a condition as it is, and with true.
+/// Adds the scenario with the value of a condition as it is, and with that value true.
 fn add_values(
     condition: u32,
     scenario: &Scenario,
@@ -94,7 +94,7 @@ fn faulty(alloc: Global, problem: &Problem) -> Result<Vec<Scenario>, OutOfMemory
     Ok(list)
 }
 
-/// The scenarios of a graph of at most 16,384, each of them and no other.
+/// The scenarios of a graph that has at most 16,384 of them, each once.
 pub fn scenarios(alloc: Global, problem: &Problem) -> Result<Vec<Scenario>, OutOfMemory>
     requires { length (scenarios problem.now) ≤ MOST_SCENARIOS }
     ensures { IfOk result (λ list. AreScenarios problem.now list.items) }

@@ -8,7 +8,7 @@ ghost use Rattle.cpg_all_runs.specs.Listing.{AreScenarios};
 use cpg_base::{OutOfMemory, Scenario};
 use std::alloc::Global;
 
-/// The first scenario with each list of active numbers, given what `first_alike` answers for all scenarios.
+/// The first scenario with each list of active numbers, given the result of `first_alike` for all scenarios.
 pub(crate) fn examples(
     alloc: Global,
     scenarios: &[Scenario],

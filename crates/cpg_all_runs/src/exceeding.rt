@@ -32,7 +32,7 @@ fn excess_in_run(problem: &Problem, times: &RunTimes) -> u64
     most
 }
 
-/// The first process with an excess.
+/// The first process with this excess.
 fn first_exceeding(problem: &Problem, times: &RunTimes, excess: u64) -> Option<u32>
     ensures found { IfSome result (IsFirstExceeding problem.now times.now excess) }
     ensures none { IfNone result ((q : ℕ) → q < process_count problem.now → excess_of problem.now times.now q ≢ excess) }
@@ -68,9 +68,9 @@ fn excesses(alloc: Global, problem: &Problem, runs: &[RunTimes]) -> Result<Vec<u
     Ok(numbers)
 }
 
-/// How far an end is past its due at most over all scenarios of a graph, given all of them and the run of each: the
-/// first scenario by the urgency order that has it, and the first process that has it there, or `None` if nothing
-/// exceeds.
+/// The greatest excess over all scenarios of a graph, given all of them and the run of each: how far an end is past its
+/// due at most. It comes with the first scenario by the urgency order that has it, and the first process that has it
+/// there, or `None` if nothing exceeds.
 pub fn excess(
     alloc: Global,
     admitted: &Admitted,

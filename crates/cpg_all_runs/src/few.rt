@@ -5,14 +5,15 @@ ghost use Rattle.cpg_order.specs.Scenario.{scenarios};
 
 use cpg_base::{MOST_FAULTS, MOST_PROCESSES, Problem};
 
-/// The most scenarios of a graph that are gone over one by one.
+/// The most scenarios that a graph may have if they are to be listed one by one.
 pub const MOST_SCENARIOS: u64 = 16_384;
 
-/// Each condition doubles the scenarios, so more conditions make too many.
+/// The most conditions of a graph with few scenarios. Each condition doubles the scenarios, so more conditions make too
+/// many.
 const MOST_DOUBLINGS: u32 = 14;
 
-/// In how many ways `counts` counts of faults add up to at most `faults` faults: the binomial coefficient of both
-/// together over the faults.
+/// The number of ways in which `counts` counts of faults add up to at most `faults` faults. It is the binomial
+/// coefficient of `counts + faults` over `faults`.
 fn ways(counts: u64, faults: u8) -> u64
     requires counts { counts ≤ MOST_PROCESSES }
     requires faults { faults ≤ MOST_FAULTS }

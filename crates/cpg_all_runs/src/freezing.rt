@@ -99,9 +99,9 @@ fn settle(
     Ok(())
 }
 
-/// The times of the frozen items, as `frozen_times` has them, given these items along the order and scenarios that show what
-/// can be active. The scenarios go along the order together, as far as the last frozen item, and each frozen item is found at
-/// its place.
+/// The times of the frozen items, as in `frozen_times`, given these items along the order and scenarios that show what
+/// can be active. All scenarios go along the order together, as far as the last frozen item. The time of each frozen item
+/// is found at its place.
 fn sweep(
     alloc: Global,
     setting: &Setting<'_>,
@@ -135,9 +135,9 @@ fn sweep(
     Ok(frozen)
 }
 
-/// The times of the frozen items under an order, in time units, given all scenarios and what `first_alike` answers for them:
-/// of each item the greatest time that it would have in some scenario if it were not frozen, and none if it is never
-/// active. If nothing is frozen, no scenario is gone over.
+/// The times of the frozen items under an order, in time units, given all scenarios and the result of `first_alike` for
+/// them. The time of an item is the greatest that it would have in some scenario if it were not frozen. An item that is
+/// never active has none. If nothing is frozen, no scenario is looked at.
 pub fn frozen_times(
     alloc: Global,
     admitted: &Admitted,

@@ -27,7 +27,8 @@ fn later(first: Option<u64>, second: Option<u64>) -> Option<u64>
     }
 }
 
-/// The time in a scenario of an item of the process at the place that the scenario's run is found before.
+/// The time of an item in a scenario. The item comes from the process at a place, and the scenario's run is known before
+/// that place.
 fn time_there(
     alloc: Global,
     setting: &Setting<'_>,
@@ -53,9 +54,9 @@ fn time_there(
     Ok(next.time(item))
 }
 
-/// The greatest time over all scenarios that an item would have if it were not frozen, in time units, or `None` if it
-/// is never active: given scenarios that show what can be active and what is found of each before the item's place, and frozen
-/// times that leave the item out.
+/// The greatest time over all scenarios that an item would have if it were not frozen, in time units, or `None` if it is
+/// never active. Given are scenarios that show what can be active, what is known of the run of each before the item's
+/// place, and frozen times that leave the item out.
 pub(crate) fn unfrozen_time(
     alloc: Global,
     setting: &Setting<'_>,

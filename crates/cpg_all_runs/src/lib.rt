@@ -1,4 +1,4 @@
-//! All scenarios of a graph, one by one: the run of each, and what is greatest over all of them.
+//! All scenarios of a graph, one by one: the run of each, and the greatest finish and excess over all of them.
 #![tactic(auto)]
 
 mod active;

@@ -43,7 +43,7 @@ fn ends_at(times: &RunTimes, process: u32, time: u64) -> bool
     }
 }
 
-/// The first of these many processes that ends at a time.
+/// The first of this many processes that ends at a time.
 fn first_ending(times: &RunTimes, processes: u32, time: u64) -> Option<u32>
     ensures found { IfSome result (λ p. IsFirstEnding times.now time p) }
     ensures none { IfNone result ((q : ℕ) → q < processes → get_or times.now.ends q None ≢ Some time) }
@@ -56,8 +56,9 @@ fn first_ending(times: &RunTimes, processes: u32, time: u64) -> Option<u32>
     None
 }
 
-/// The greatest finish over all scenarios of a graph, given all of them and the run of each: the first scenario by the
-/// urgency order that has it, and the first process that ends then, or `None` if the graph has no process.
+/// The greatest finish over all scenarios of a graph, given all of them and the run of each. It comes with the first
+/// scenario by the urgency order that has it, and the first process that ends then, or `None` if the graph has no
+/// process.
 pub fn worst(
     alloc: Global,
     admitted: &Admitted,

@@ -10,7 +10,7 @@ use cpg_rules::Admitted;
 use std::alloc::Global;
 use std::collections::BTreeMap;
 
-/// The place of a list of numbers: the one that it has, else the given one, which it gets.
+/// The place of a list of numbers. If it has none, it gets the given one.
 fn kept_place(
     places: &mut BTreeMap<Vec<u16>, usize>,
     numbers: Vec<u16>,
@@ -25,7 +25,7 @@ fn kept_place(
     Ok(at)
 }
 
-/// For each scenario of a list the place of the first one with the same active numbers: these two have the same runs.
+/// For each scenario of a list, the place of the first one with the same active numbers. These two have the same runs.
 pub fn first_alike(
     alloc: Global,
     admitted: &Admitted,

@@ -17,8 +17,8 @@ use cpg_rules::Admitted;
 use cpg_run::{FrozenTimes, RunTimes, Setting, run_by};
 use std::alloc::Global;
 
-/// The run of the scenario at a place of a list, given the place of one that has the same runs: if that stands before it,
-/// its run is known.
+/// The run of the scenario at a place of a list, given the place of one that has the same runs. If that place comes
+/// before, its run is known and is copied.
 fn run_at(
     alloc: Global,
     setting: &Setting<'_>,
@@ -46,8 +46,8 @@ fn run_at(
     Ok(run)
 }
 
-/// The run of each scenario of a list, in its order, given what `first_alike` answers for the list. Scenarios with the same
-/// active numbers have one run, which is found once.
+/// The run of each scenario of a list, in its order, given the result of `first_alike` for the list. Scenarios with the
+/// same active numbers have one run, which is found once.
 pub fn runs(
     alloc: Global,
     admitted: &Admitted,
@@ -65,7 +65,7 @@ pub fn runs(
     requires firsts { AreFirstAlike admitted.now.graph scenarios.now firsts.now }
     ensures { IfOk result (λ runs. AreRuns admitted.now.graph order.now frozen.now scenarios.now runs.items) }
 {
-    // called for its contract: the graph is admitted
+    // called for its contract, which says that the graph is admitted
     let _problem = admitted.problem();
     let setting = Setting::of(admitted, order, plan);
     let mut runs = Vec::new(alloc);

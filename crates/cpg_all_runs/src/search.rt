@@ -28,7 +28,7 @@ fn goes_first(
     is_before(problem, urgency, scenario, other)
 }
 
-/// Where the greatest of the numbers of scenarios stands, and of equal ones that of the scenario that comes first.
+/// The place of the greatest of the numbers of scenarios. Of equal numbers it is the one whose scenario comes first.
 pub(crate) fn first_greatest(
     problem: &Problem,
     urgency: &Order,

@@ -10,7 +10,7 @@ use cpg_base::{OutOfMemory, Problem, Scenario};
 use cpg_run::{FrozenTimes, RunProgress, Setting};
 use std::alloc::Global;
 
-/// Nothing is known of the run of any of these scenarios.
+/// For each of these scenarios, progress with nothing known of its run.
 pub(crate) fn beginnings(
     alloc: Global,
     problem: &Problem,
@@ -26,7 +26,7 @@ pub(crate) fn beginnings(
     Ok(found)
 }
 
-/// Goes on in each scenario over the process at a place.
+/// For each scenario, finds the times of the process at a place.
 fn step_each(
     alloc: Global,
     setting: &Setting<'_>,
@@ -49,7 +49,7 @@ fn step_each(
     Ok(())
 }
 
-/// Goes on in each scenario from a place to another that isn't before it.
+/// For each scenario, goes on from a place to another that isn't before it.
 pub(crate) fn advance(
     alloc: Global,
     setting: &Setting<'_>,

@@ -36,13 +36,14 @@ is_open t name f is =
     let table = ap (λ (g : Follower). g.table) is.opened in
     subst (λ h. f ≡ open_follower h f.table) (sym head) (subst (λ n. f ≡ open_follower t.head n) (sym table) is.opened)
 
--- its stream may be fetched
+-- the stream of `live` is one of its files, so it may be fetched
 pub may_follow : (may : Text → Type 0) (c : Command) (vs : List Value) (f : Follower) (path : Text) →
     IsLive c vs f path → All may (file_words c) → may path
 may_follow may c vs f path live files =
     (subst (λ (k : Command). All may (file_words k)) live.command files) 1 path (omega arith)
 
 -- the run of a node that followed a stream
+-- `words`, `reads`: the run's words are the command, whose files were read. `live`: the command follows a stream.
 module _ (r : Ran) (c : Command) (vs : List Value) (f : Follower) (path : Text) (mid : List Fetch)
     (words : command_of r.words ≡ Some c) (reads : Reads None (files_of c) r.shelf.old.history mid vs)
     (live : IsLive c vs f path) where
@@ -58,6 +59,7 @@ module _ (r : Ran) (c : Command) (vs : List Value) (f : Follower) (path : Text) 
       one vs live.said (subst (λ (k : Command). Reads None (files_of k) r.shelf.old.history mid vs) live.command reads)
 
   module _ (at : IsFollowedAt f.head f.table path mid r.shelf.new.history r.out r.err r.status) where
+    -- what the run has read and followed, from the words of its command
     abbrev follows : Follows r
     follows = record {
       pack = live.pack;
@@ -87,6 +89,7 @@ module _ (r : Ran) (c : Command) (vs : List Value) (f : Follower) (path : Text) 
         head_is
         (subst (λ n. IsToldTo f.head n (streamed at.fetch r.out) r.err r.status) table_is at.ends)
 
+    -- a run in which a node followed its stream ends lawfully
     pub followed_lawful : IsLawful r
     followed_lawful = elim told [
       | inl all ↦ lawful_closed r (record { follows = follows; completes = all.0; status = all.1; err = all.2 })

@@ -25,6 +25,7 @@ use Rattle.cpg_app.specs.Endings.{Ran, Has, Prints, Stops}
 
 -- ---- by what was read
 
+-- a fact of the graph that the files say is one of a graph that is alike
 pub on_graph : (a : Admission) (values : List Value) (F : Admission → Type 0) → AllAlike (graph_value a ∷ []) values →
     OnGraph values F →
     (b : Admission) × AreAlike a b × F b
@@ -32,12 +33,14 @@ on_graph a values F alike (b, is, fact) =
     let k : AllAlike (graph_value a ∷ []) (graph_value b ∷ []) = subst (AllAlike (graph_value a ∷ [])) is alike in
     (b, k.0, fact)
 
+-- a fact of the tables that the files say is one of the tables
 pub on_tables : (t : Tables) (values : List Value) (F : Tables → Type 0) → AllAlike (tables_value t ∷ []) values →
     OnTables values F → F t
 on_tables t values F alike (u, is, fact) =
     let k : AllAlike (tables_value t ∷ []) (tables_value u ∷ []) = subst (AllAlike (tables_value t ∷ [])) is alike in
     subst F k.0 fact
 
+-- a fact of the graph and the tables that the files say is one of a graph that is alike, and of the tables
 pub on_judged : (a : Admission) (t : Tables) (values : List Value) (F : Admission → Tables → Type 0) →
     AllAlike (graph_value a ∷ tables_value t ∷ []) values → OnJudged values F →
     (b : Admission) ×
@@ -47,6 +50,7 @@ on_judged a t values F alike (b, u, is, fact) =
     subst (AllAlike (graph_value a ∷ tables_value t ∷ [])) is alike in
     (b, k.0, subst (F b) k.1.0 fact)
 
+-- a fact of the graph, the tables and the play that the files say is one of a graph that is alike, and of the others
 pub on_played : (a : Admission) (t : Tables) (p : Played) (values : List Value)
     (F : Admission → Tables → Played → Type 0) →
     AllAlike (graph_value a ∷ tables_value t ∷ played_value p ∷ []) values →
@@ -57,6 +61,7 @@ on_played a t p values F alike (b, u, q, is, fact) =
     subst (AllAlike (graph_value a ∷ tables_value t ∷ played_value p ∷ [])) is alike in
     (b, k.0, subst (F b t) k.1.1.0 (subst (λ v. F b v q) k.1.0 fact))
 
+-- a fact of the graph, the tables and the log that the files say is one of a graph that is alike, and of some log
 pub on_logged : (a : Admission) (t : Tables) (l : Log) (values : List Value) (F : Admission → Tables → Log → Type 0) →
     AllAlike (graph_value a ∷ tables_value t ∷ log_value l ∷ []) values →
     OnLogged values F → (b : Admission) × AreAlike a b × ((m : Log) × F b t m)
@@ -82,6 +87,7 @@ same_parts (pair ∷ pairs) (p ∷ parts) [] alike x y = absurd y
 same_parts (pair ∷ pairs) (p ∷ parts) (q ∷ others) alike x y =
     ap₂ (λ d ds. d ∷ ds) (same_part q p (y.0 ∙ sym x.0) alike.0) (same_parts pairs parts others alike.1 x.1 y.1)
 
+-- a fact of the parts that the files say is one of the parts with the given periods
 pub on_parts : (pairs : List Pair) (parts : List Part) (values : List Value) (F : List Part → Type 0) →
     AllAlike (part_values parts) values → HavePeriods pairs parts → OnParts pairs values F → F parts
 on_parts pairs parts values F alike periods (others, is, also, fact) =

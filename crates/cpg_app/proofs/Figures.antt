@@ -36,7 +36,7 @@ use Rattle.cpg_outputs.specs.declared.figures.Trial.{Trial}
 use Rattle.cpg_app.specs.Trial.{AreFiguresOf, IsEnding, IsGenerated, IsTrial, planned_world}
 use Rattle.cpg_app.proofs.Finishes.{finish_is}
 
--- its rules are kept
+-- a generated graph keeps all rules, so only lack of memory keeps it from being admitted
 pub admission_fault : (number : ℕ) (g : Graph) (fault : RuleFault) → g ≡ generated number → ShowsFault g fault →
     fault ≡ RuleFault.OutOfMemory
 admission_fault number g fault same shows = no_fault number fault (subst (λ x. ShowsFault x fault) same shows)
@@ -69,6 +69,7 @@ is_yes Verdict.Yes = true
 is_yes (Verdict.Other part) = false
 is_yes (Verdict.No fault) = false
 
+-- a verdict is yes exactly if the tables have the graph's head and are valid
 pub verdict_is : (g : Graph) (urgency : List ℕ) (t : Tables) (v : Verdict) → AreTablesOf t.head t.nodes →
     ShowsVerdict g urgency t v →
     IsTrue (is_yes v) ↔ (IsHeadFor g t.head × IsValid g t.nodes)
@@ -105,7 +106,7 @@ reaches_worst g formed urgency c is number e ending =
     ending.finish ∙ finish_is g formed c.built.tables.nodes c.order c.built.frozen is.built.exact.times
     (planned_world g c.built.worst_in) worst.lawful run.0 run.1 ending.cluster ending.whole ∙ run.2
 
--- what follows from the figures
+-- if the figures are those of the generated graph and its tables, they are those of the trial
 pub trial_is : (number : ℕ) (a : Admission) (c : Compiled) → a.graph ≡ generated number →
     IsAdmitted a.graph a.order a.guards → IsCompilation a.graph a.order c →
     (r : Result Trial OutOfMemory) →

@@ -26,6 +26,7 @@ use Rattle.cpg_app.proofs.Written.{stopped}
 of_whole : (f : File) (fetch : Fetch) → IsWhole f fetch → IsFetchOf f fetch
 of_whole f fetch w = record { named = w.named }
 
+-- by why the file stops: it can't be read, it is too long, or memory is out
 wants_too : (g : Option Graph) (f : File) (fetch : Fetch) (h : Halt) → h ≢ Read → StopsAt g f fetch h →
     IsWanting f fetch Memory
 wants_too g f fetch h other (inl unread) = absurd (other unread.halt_is)
@@ -68,6 +69,7 @@ module _ (r : Ran) where
   either_lawful h other stops silent (inl sent) = told_lawful h stops silent sent
   either_lawful h other stops silent (inr sent) = told_lawful Memory (memory_too h other stops) silent sent
 
+  -- a run that stops, writes nothing to `out` and reports its halt ends lawfully
   pub stopped_lawful : (h : Halt) → Stops r h → Untouched r.out → IsStopped h r.err r.status → IsLawful r
   stopped_lawful Words stops silent said = told_lawful Words stops silent said
   stopped_lawful Read stops silent said = told_lawful Read stops silent said
@@ -77,7 +79,7 @@ module _ (r : Ran) where
   stopped_lawful (Unsafe a fault) stops silent said = either_lawful (Unsafe a fault) (λ e. cc) stops silent said
   stopped_lawful Memory stops silent said = told_lawful Memory stops silent said
 
-  -- its output was written
+  -- a run whose output was written, or met a fault, ends lawfully
   pub written_lawful : (text : Text) (written : Result Unit WriteFault) → Prints r text → IsWritten r.out written text →
       IsEnded written r.err r.status → IsLawful r
   written_lawful text (Ok done) prints out ended = lawful_with r text
@@ -89,7 +91,7 @@ module _ (r : Ran) where
       inr (inr (record { command = prints.command; values = prints.values; has = prints.has; stops = inr refl })) in
       told_lawful Memory stops out ended
 
-  -- its words can't be had
+  -- a run whose words can't be had ends lawfully
   pub wordless_lawful : (fault : WordsFault) → (fault ≡ WordsFault.Bad → command_of r.words ≡ None) →
       r.shelf.new.history ≡ r.shelf.old.history →
       Untouched r.out →

@@ -22,6 +22,9 @@ use Rattle.cpg_cluster.specs.Correct.{ends_asked, ended_in}
 use Rattle.cpg_cluster.specs.Whole.{IsWholePlay}
 use Rattle.cpg_show.specs.TraceText.{finish_of, end_times}
 
+-- a whole play of tables that have the times of each run, in a world whose scenario has a run
+-- `exact`: the tables have the times of the runs. `run`: t is the run of the world's scenario. `whole`: the play of
+-- the cluster is at its end.
 module _ (g : Graph) (formed : WellFormed g) (tables : List NodeTable) (order : List ℕ) (frozen : List (Option ℕ))
     (exact : HasRunTimes g order frozen tables) (w : World)
     (lawful : IsScenario g w.scenario)
@@ -113,6 +116,7 @@ module _ (g : Graph) (formed : WellFormed g) (tables : List NodeTable) (order : 
       (subst (Contains (end_times c.ends node)) started.2
       (Contains-map (λ (e : ℕ × Ended). e.0) (get_or c.ends node []) (planned_end p started.0) told))
 
+  -- the greatest end of the play is the finish of the scenario's run
   pub finish_is : finish_of g c.ends ≡ t.finish
   finish_is =
       let a = greatest-le times (greatest (flat_map option_to_list t.ends))

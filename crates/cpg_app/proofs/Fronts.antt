@@ -1,4 +1,4 @@
--- What a run packed, cut short, is refused where it ends.
+-- What a run packed is rejected, if it is cut short, at the place where it ends.
 use Rattle.std.proofs.Common.{ℕ, ◌≡◌, ◌<◌, ◌≤◌, ◌∙◌, Option, length, take, sym, ap, subst, arith, inl, inr, true≢false}
 use Rattle.std.specs.Prelude.{◌⊎◌}
 use Rattle.std.proofs.lemmas.List.{length-take}
@@ -63,6 +63,7 @@ module _ (g : Graph) (pack : Text) (is : IsOutputFor packed_of g pack) (n : ℕ)
       ∙ ap (λ m. Refused (BadPack m)) (one_place fetch refused.refuses.length gave refused.refuses.bad))
   stops o fetch halt gave (inr (inr (inr wanting))) = inr wanting.halt_is
 
+-- a pack that is cut short is rejected at the place where it ends, unless memory runs out
 pub fronts_are_refused : FrontsAreRefused
 fronts_are_refused r g pack n has l = let is = pack_of r g pack has in
     record { unread = unread g pack is n l; stops = stops g pack is n l }

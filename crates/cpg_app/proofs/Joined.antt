@@ -1,4 +1,4 @@
--- What a run packed, the others take, and it asks what `show` prints.
+-- The other commands accept what a run packed, and it asks the same as what `show` prints.
 use Rattle.std.proofs.Common.{ℕ, ◌≡◌, ◌<◌, ◌≤◌, ◌∙◌, Bool, true, false, List, [], ◌∷◌, Option, Some, None, append-nil}
 use Rattle.std.proofs.Common.{get_or, length, refl, sym, ap, subst, arith, inl, inr, lt-ltb, true≢false}
 use Rattle.std.specs.Prelude.{position}
@@ -52,7 +52,7 @@ use Rattle.cpg_app.proofs.Streamed.{is_live, other_words}
 put_out : (r : Ran) (bytes text : Text) → Whole r.out bytes → Whole r.out text → bytes ≡ text
 put_out r bytes text wrote took = append_cancel_left r.out.old bytes text (sym wrote.taken ∙ took.taken)
 
--- what is made of a graph is made of it as it is admitted once more
+-- what is made of a graph is also made of another admission of the graph
 made_again : (a b : Admission) → AreAlike a b → (spell : Graph → Compiled → Text) (bytes : Text) →
     IsMadeOf b spell bytes →
     IsMadeOf a spell bytes
@@ -97,6 +97,7 @@ output_of asked spell puts dead files r g made has = elim (has.lawful.done has.d
 shown_of : (r : Ran) (g : Graph) (text : Text) → HasShown r g text → IsOutputFor shown g text
 shown_of = output_of Show shown (λ graph text vs puts. puts) (λ graph. refl) (λ graph. refl)
 
+-- the pack that `compile` wrote is that of the tables of an admitted graph
 pub pack_of : (r : Ran) (g : Graph) (pack : Text) → HasPacked r g pack → IsOutputFor packed_of g pack
 pack_of = output_of Compile packed_of (λ graph text vs puts. puts) (λ graph. refl) (λ graph. refl)
 
@@ -142,6 +143,7 @@ module _ (g : Graph) (pack : Text) (is : IsOutputFor packed_of g pack) where
       (subst (λ h. IsValid h t.nodes) graph
       (subst (λ (u : Tables). IsValid is.admission.graph u.nodes) same is.made_of.safe.valid))
 
+  -- the pack has the tables of the graph, so the node of that name is found and its text is written
   taken : (r : Ran) (path : Text) (t : Tables) (node : ℕ) → IsLawful r → pack ≡ spelling t → node < length g.nodes →
       Asks r (Node path (get_or g.nodes node [])) (tables_value t ∷ []) → EndsWell r
   taken r path t node lawful e l asks =
@@ -176,6 +178,7 @@ module _ (g : Graph) (pack : Text) (is : IsOutputFor packed_of g pack) where
       stops_memory o (file PackFile fetch.name ∷ []) [] (fetch ∷ []) (tables_value all.0 ∷ []) halt (fetch, all.1, refl)
       (fetch, inl (stops, refl))
 
+-- the other commands accept the pack that `compile` wrote
 pub packs_are_taken : PacksAreTaken
 packs_are_taken r g pack has = let is = pack_of r g pack has in record {
   read = read g pack is;
@@ -184,7 +187,7 @@ packs_are_taken r g pack has = let is = pack_of r g pack has in record {
   printed = taken g pack is;
 }
 
--- ---- what is shown is what is packed
+-- ---- what is shown and what is packed ask the same
 
 -- two admissions of one graph
 alike : (g : Graph) (a b : Admission) → a.graph ≡ g → b.graph ≡ g → IsAdmitted a.graph a.order a.guards →
@@ -197,6 +200,7 @@ alike g a b e f x y =
           one_urgency_order a.graph b.order a.order (subst (λ h. IsUrgencyOrder h b.order) same y.urgency) x.urgency;
     }
 
+-- what `show` printed and what `compile` wrote for one graph ask the same in every scenario
 pub show_and_compile_agree : ShowAndCompileAgree
 show_and_compile_agree r q g text pack shows packs =
     let one = shown_of r g text shows in

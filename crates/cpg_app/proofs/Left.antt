@@ -1,4 +1,4 @@
--- Of what a command asks for, the halts that are left.
+-- The halts that are left for a command, once it is known what it asks for.
 use Rattle.std.proofs.Common.{ℕ, ◌≡◌, ◌≢◌, ◌∙◌, List, length, ap, inl, inr}
 use Rattle.std.specs.Prelude.{◌⊎◌, Err}
 use Rattle.cpg_rules.specs.Admission.{Admission}
@@ -39,6 +39,7 @@ module _ (a b : Admission) (same : AreAlike a b) (h : Halt) where
   of_fault (CompileFault.Late s p time) e shows = inr (inl (ap status_of e, moved a b same IsLate shows.0))
   of_fault CompileFault.OutOfMemory e shows = inl (ap status_of e)
 
+  -- the compile of a graph that is alike stops for lack of memory, or because the graph is late or too wide
   pub compile_left : IsUncompiled b h → CompileLeft a h
   compile_left wrong = of_fault wrong.fault wrong.halt_is wrong.shows
 
@@ -50,6 +51,7 @@ CheckLeft a t h = ((status_of h ≡ 4) × (IsHeadFor a.graph t.head → ⊥)) �
     ((status_of h ≡ 7) × IsHeadFor a.graph t.head × (IsValid a.graph t.nodes → ⊥))
 
 module _ (a b : Admission) (same : AreAlike a b) (t : Tables) (lawful : AreLawful t) where
+  -- a check for a graph that is alike stops because the head is another graph's or the tables aren't valid
   pub check_left : (h : Halt) → StopsVerdict b t h → CheckLeft a t h
   check_left h (inl other) = inl (
     ap status_of other.halt_is,
@@ -61,7 +63,7 @@ module _ (a b : Admission) (same : AreAlike a b) (t : Tables) (lawful : AreLawfu
       (broken.head, faulty_tables b.graph t.nodes b.order broken.fault count broken.first) in
       inr (ap status_of broken.halt_is, here.0, here.1)
 
-  -- what was found safe is valid, and its head the graph's
+  -- tables that were found safe are valid and have the graph's head
   pub judged_is : AreJudgedSafe b t → IsHeadFor a.graph t.head × IsValid a.graph t.nodes
   judged_is judged = moved a b same (λ g o. IsHeadFor g t.head × IsValid g t.nodes) (judged.head, judged.safe.valid)
 
@@ -72,6 +74,7 @@ abbrev pub PartsLeft : List Part → Halt → Type 0
 PartsLeft parts h = (status_of h ≡ 8) ⊎
     ((status_of h ≡ 4) × ((fault : HyperFault) × ShowsUnrolled parts (Err fault) × (fault ≢ OutOfMemory)))
 
+-- by the fault: a range, or what else unrolling the parts meets
 refused_left : (parts : List Part) (h : Halt) (fault : HyperFault) → h ≡ halt_of_parts fault →
     ShowsUnrolled parts (Err fault) →
     PartsLeft parts h
@@ -84,5 +87,6 @@ refused_left parts h (HyperFault.LongName p) e shows = inr (ap status_of e, (Hyp
 refused_left parts h (HyperFault.Order p) e shows = inr (ap status_of e, (HyperFault.Order p, shows, λ k. cc))
 refused_left parts h HyperFault.OutOfMemory e shows = inl (ap status_of e)
 
+-- parts without a common graph stop a run for lack of memory, or with a refusal and its cause
 pub parts_left : (parts : List Part) (h : Halt) → IsNotUnrolled parts h → PartsLeft parts h
 parts_left parts h wrong = refused_left parts h wrong.fault wrong.halt_is wrong.shows

@@ -1,4 +1,4 @@
--- What is told of tables that have a compile's rows, though they aren't made.
+-- The text of tables by the rows of a compile, without the tables.
 use Rattle.std.proofs.Common.{ℕ, List, subst, sym}
 use Rattle.cpg_base.specs.Graph.{Graph}
 use Rattle.cpg_base.specs.WellFormed.{WellFormed}

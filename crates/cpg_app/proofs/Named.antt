@@ -1,4 +1,4 @@
--- What a halt of a run names is there.
+-- The items, processes and nodes that a halt of a run names are there.
 use Rattle.std.proofs.Common.{◌≡◌, List, [], ◌∷◌, Option, Some, None, sym, subst, inl, inr}
 use Rattle.cpg_base.specs.Graph.{Graph}
 use Rattle.cpg_base.specs.Scenario.{Scenario, IsScenario, zero_scenario}
@@ -91,6 +91,7 @@ file_named g f fetch h (inr (inl long)) = named_as h _ long.halt_is (long_named 
 file_named g f fetch h (inr (inr (inl refused))) = bytes_named g f.kind fetch.given h refused.refuses
 file_named g f fetch h (inr (inr (inr wanting))) = named_as h Memory wanting.halt_is tt
 
+-- a halt while files are read names only things that are there
 pub files_named : (g : Option Graph) (files : List File) (past now : List Fetch) (h : Halt) →
     StopsReading g files past now h → IsNamed h
 files_named g [] past now h s = absurd s
@@ -125,6 +126,7 @@ of_parts (HyperFault.LongName p) = tt
 of_parts (HyperFault.Order p) = tt
 of_parts HyperFault.OutOfMemory = tt
 
+-- a halt of a command's work names only things that are there
 pub work_named : (c : Command) (vs : List Value) (h : Halt) → StopsWork c vs h → IsNamed h
 work_named (Show graph) vs h (a, is, wrong) = compile_named a h wrong
 work_named (Compile graph) vs h (a, is, wrong) = compile_named a h wrong

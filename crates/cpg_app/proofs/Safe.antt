@@ -13,7 +13,7 @@ use Rattle.cpg_core.specs.declared.compiling.Compiled.{Compiled}
 use Rattle.cpg_core.specs.Compilation.{IsCompilation}
 use Rattle.cpg_app.specs.Outputs.{AreSafe}
 
--- valid tables are safe
+-- valid tables of a well-formed graph are safe
 pub valid_are_safe : (g : Graph) → WellFormed g → (nodes : List NodeTable) → HasShape g nodes → IsValid g nodes →
     AreSafe g nodes
 valid_are_safe g formed nodes shape valid = record {
@@ -24,6 +24,7 @@ valid_are_safe g formed nodes shape valid = record {
   planned = valid_tables_end_as_planned g nodes formed shape valid;
 }
 
+-- the tables that a compile makes are safe
 pub compilations_are_safe : (g : Graph) → WellFormed g → (urgency : List ℕ) (c : Compiled) → IsCompilation g urgency c →
     AreSafe g c.built.tables.nodes
 compilations_are_safe g formed urgency c is = valid_are_safe g formed c.built.tables.nodes is.built.shape is.valid

@@ -110,7 +110,7 @@ module _ (r : Ran) where
   check_faultless a t (graph, pack, inr (inl play)) = play.asks.faultless
   check_faultless a t (graph, pack, inr (inr audit)) = audit.asks.faultless
 
-  -- the tables are lawful
+  -- the tables that a run is asked to judge are lawful
   pub tables_lawful : (a : Admission) (t : Tables) → AsksVerdict r a t → AreLawful t
   tables_lawful a t (graph, pack, inl asks) = (values_lawful None (files_of (Check graph pack)) r.shelf.old.history
       r.shelf.new.history (graph_value a ∷ tables_value t ∷ []) asks.has.reads).1.0
@@ -246,6 +246,7 @@ module _ (r : Ran) where
         (r.status ≡ 4) ⊎ (r.status ≡ 8)
     with_unfollowed pack name stream t asks = absurd (printed r _ _ asks.has text with.prints).2
 
+    -- a run that ends with an output keeps what each status says
     pub lawful_with : IsLawful r
     lawful_with = record {
       ends = inl (text, with);
@@ -366,6 +367,7 @@ module _ (r : Ran) where
         let is = refused_of halt (status_at 4 four (λ e. omega arith)) in
         (is.0, subst (Stops r) is.1 by.stops, subst (IsTold r) is.1 (told_at 4 four (λ e. omega arith)))
 
+    -- status 5 is that of a late graph alone, so the run stops for it
     by_tardy : r.status ≡ 5 →
         (a : Admission) × (s : Scenario) × (p : ℕ) × (finish : ℕ) × Stops r (Late a s p finish) ×
         IsTold r (Late a s p finish)
@@ -525,6 +527,7 @@ module _ (r : Ran) where
       | inr refused ↦ inl (told_here asks.faultless ∙ refused.0)
     ]
 
+    -- a run that ends by a reason to stop keeps what each status says
     pub lawful_by : IsLawful r
     lawful_by = record {
       ends = inr (inl (halt, by));

@@ -31,6 +31,7 @@ use Rattle.cpg_app.specs.Causes.{IsUncompiled, StopsVerdict, StopsWork}
 
 -- ---- a halt by its status
 
+-- the status 1 is that of words that form no command
 pub words_of : (h : Halt) → status_of h ≡ 1 → h ≡ Words
 words_of Words e = refl
 words_of Read e = absurd (omega arith)
@@ -40,6 +41,7 @@ words_of (TooWide a x) e = absurd (omega arith)
 words_of (Unsafe a f) e = absurd (omega arith)
 words_of Memory e = absurd (omega arith)
 
+-- the status 2 is that of a read fault
 pub read_of : (h : Halt) → status_of h ≡ 2 → h ≡ Read
 read_of Words e = absurd (omega arith)
 read_of Read e = refl
@@ -49,6 +51,7 @@ read_of (TooWide a x) e = absurd (omega arith)
 read_of (Unsafe a f) e = absurd (omega arith)
 read_of Memory e = absurd (omega arith)
 
+-- the status 4 is that of a refusal
 pub refused_of : (h : Halt) → status_of h ≡ 4 → (r : Refusal) × (h ≡ Refused r)
 refused_of Words four = absurd (omega arith)
 refused_of Read four = absurd (omega arith)
@@ -58,6 +61,7 @@ refused_of (TooWide a x) four = absurd (omega arith)
 refused_of (Unsafe a f) four = absurd (omega arith)
 refused_of Memory four = absurd (omega arith)
 
+-- the status 5 is that of a late process
 pub late_of : (h : Halt) → status_of h ≡ 5 →
     (a : Admission) × (s : Scenario) × (p : ℕ) × (finish : ℕ) × (h ≡ Late a s p finish)
 late_of Words five = absurd (omega arith)
@@ -68,6 +72,7 @@ late_of (TooWide a x) five = absurd (omega arith)
 late_of (Unsafe a f) five = absurd (omega arith)
 late_of Memory five = absurd (omega arith)
 
+-- the status 6 is that of an item that is too wide
 pub wide_of : (h : Halt) → status_of h ≡ 6 → (a : Admission) × (x : ℕ) × (h ≡ TooWide a x)
 wide_of Words six = absurd (omega arith)
 wide_of Read six = absurd (omega arith)
@@ -77,6 +82,7 @@ wide_of (TooWide a x) six = (a, x, refl)
 wide_of (Unsafe a f) six = absurd (omega arith)
 wide_of Memory six = absurd (omega arith)
 
+-- the status 7 is that of tables that break a rule
 pub unsafe_of : (h : Halt) → status_of h ≡ 7 → (a : Admission) × (f : Fault) × (h ≡ Unsafe a f)
 unsafe_of Words seven = absurd (omega arith)
 unsafe_of Read seven = absurd (omega arith)
@@ -86,6 +92,7 @@ unsafe_of (TooWide a x) seven = absurd (omega arith)
 unsafe_of (Unsafe a f) seven = (a, f, refl)
 unsafe_of Memory seven = absurd (omega arith)
 
+-- no halt has the status 3
 pub not_three : (h : Halt) → status_of h ≡ 3 → ⊥
 not_three Words e = omega arith
 not_three Read e = omega arith
@@ -95,6 +102,7 @@ not_three (TooWide a x) e = omega arith
 not_three (Unsafe a f) e = omega arith
 not_three Memory e = omega arith
 
+-- no halt has the status 0
 pub not_zero : (h : Halt) → status_of h ≡ 0 → ⊥
 not_zero Words e = omega arith
 not_zero Read e = omega arith
@@ -155,6 +163,7 @@ pub record FailsLast (now : List Fetch) : Type 0 where
   pub last : now ≡ fetch ∷ past
   pub failed : fetch.failed ≡ true
 
+-- files stop a run by a fetch that failed, or with a status of at least 4
 pub of_files : (g : Option Graph) (files : List File) (past now : List Fetch) (h : Halt) →
     StopsReading g files past now h →
     ((h ≡ Read) × FailsLast now) ⊎ (4 ≤ status_of h)
@@ -189,6 +198,7 @@ of_parts (HyperFault.LongName p) = omega arith
 of_parts (HyperFault.Order p) = omega arith
 of_parts HyperFault.OutOfMemory = omega arith
 
+-- a command's work stops a run with a status of at least 4
 pub of_work : (c : Command) (vs : List Value) (h : Halt) → StopsWork c vs h → 4 ≤ status_of h
 of_work (Show graph) vs h (a, is, wrong) = of_made a h wrong
 of_work (Compile graph) vs h (a, is, wrong) = of_made a h wrong

@@ -44,7 +44,7 @@ name_in (Some (Live pack name stream)) = name
 name_in other = []
 
 module _ (r : Ran) (f : Follows r) where
-  -- no other command follows a stream
+  -- words of a command other than `live` follow no stream
   pub other_words : (c : Option Command) → is_live c ≡ false → command_of r.words ≡ c → ⊥
   other_words c off e = true≢false (ap is_live (sym f.words ∙ e) ∙ off)
 
@@ -73,6 +73,7 @@ module _ (r : Ran) (f g : Follows r) where
   histories : f.fetch ∷ f.read ∷ r.shelf.old.history ≡ g.fetch ∷ g.read ∷ r.shelf.old.history
   histories = sym f.history ∙ g.history
 
+  -- two ways in which a run follows a stream have the same fetch
   pub same_fetch : f.fetch ≡ g.fetch
   unfolding head_or
   same_fetch = ap (head_or f.fetch) histories
@@ -92,10 +93,11 @@ module _ (r : Ran) (f g : Follows r) where
   same_node = same_Some g.node f.node (sym g.named ∙ (ap (λ (t : Tables). first_named t.head g.name) same_tables
       ∙ (ap (first_named f.tables.head) (sym same_name) ∙ f.named)))
 
+  -- and the node has the same table
   pub same_table : table_of g ≡ table_of f
   same_table = ap (λ (t : Tables). table_at t.nodes g.node) same_tables ∙ ap (table_at f.tables.nodes) same_node
 
-  -- how it ends is one thing
+  -- the end of the stream is the same by both
   pub same_end : stream_end (table_of g) g.fetch.given ≡ stream_end (table_of f) f.fetch.given
   same_end = ap (λ (e : Fetch). stream_end (table_of g) e.given) (sym same_fetch)
       ∙ ap (λ t. stream_end t f.fetch.given) same_table
@@ -124,6 +126,7 @@ module _ (r : Ran) (ends : EndsAtClose r) where
   closes : (g : Follows r) → r.status ≡ status_of_end (stream_end (table_of g) g.fetch.given)
   closes g = ends.status ∙ sym (ap status_of_end (same_end r closed_stream g ∙ ends.completes.1.ends))
 
+  -- a run that follows its stream to the close keeps what each status says
   pub lawful_closed : IsLawful r
   lawful_closed = record {
     ends = inr (inr (inl ends));
@@ -260,6 +263,7 @@ module _ (r : Ran) (ends : EndsInStream r) where
     | inr other ↦ (said.whole other).0 ∙ sym (ap status_of_end (same_end r stream g ∙ breaks.1.ends))
   ]
 
+  -- a run that doesn't follow its stream to the close keeps what each status says
   pub lawful_stream : IsLawful r
   lawful_stream = record {
     ends = inr (inr (inr ends));

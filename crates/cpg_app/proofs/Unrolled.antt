@@ -27,6 +27,7 @@ enough What.Conditions g over few = let l = few.conditions in let m = over.2 in 
 one_hyperperiod : (parts : List Part) (n m : ℕ) → IsHyperperiod parts n → IsHyperperiod parts m → n ≡ m
 one_hyperperiod parts n m a b = dvd_antisymm (a.least m b.common) (b.least n a.common)
 
+-- parts that have a common graph aren't rejected
 pub not_both : (parts : List Part) (g : Graph) (fault : HyperFault) → ShowsUnrolled parts (Ok g) →
     ShowsUnrolled parts (Err fault) → fault ≢ OutOfMemory → ⊥
 not_both parts g (HyperFault.Range p) made refused other =

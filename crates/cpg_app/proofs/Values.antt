@@ -15,6 +15,7 @@ one_true : (c n : ℕ) →
 one_true zero n = refl
 one_true (suc c) n = ap (λ vs. true ∷ vs) (one_true c n)
 
+-- setting the next value to true makes one true value more
 pub next_true : (count c : ℕ) (vs new : List Bool) → c < count → vs ≡ replicate c true ++ replicate (count - c) false →
     new ≡ slice_set vs c true →
     new ≡ replicate (c + 1) true ++ replicate (count - (c + 1)) false
@@ -25,6 +26,7 @@ next_true count c vs new l is made =
     ∙ one_true c (count - (c + 1)) ∙
     ap (λ n. replicate n true ++ replicate (count - (c + 1)) false) more
 
+-- the scenario with all values true and two faults of the first process is one of the graph
 pub true_lawful : (g : Graph) → 0 < process_count g → 2 ≤ g.faults → IsScenario g (true_scenario g)
 true_lawful g l h =
     let none = replicate {A = ℕ} (process_count g) 0 in

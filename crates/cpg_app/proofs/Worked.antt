@@ -28,10 +28,12 @@ use Rattle.cpg_app.specs.Tunes.{IsTuningText}
 
 -- ---- answers
 
+-- if one fact of a value implies another, a result whose value has the first has the second
 pub if_ok : {T E : Type 0} {P Q : T → Type 0} (r : Result T E) → ((x : T) → P x → Q x) → IfOk r P → IfOk r Q
 if_ok (Ok x) f p = f x p
 if_ok (Err e) f p = p
 
+-- the same holds for the error of a result
 pub if_err : {T E : Type 0} {P Q : E → Type 0} (r : Result T E) → ((e : E) → P e → Q e) → IfErr r P → IfErr r Q
 if_err (Ok x) f p = p
 if_err (Err e) f p = f e p
@@ -51,53 +53,63 @@ module _ (c : Command) (vs : List Value) (r : Result Output Halt) where
   puts : {P Q : Text → Type 0} → ((text : Text) → P text → Q text) → IfOk r (λ o. Puts o P) → IfOk r (λ o. Puts o Q)
   puts f = if_ok r (λ o. put_on o f)
 
+  -- an answer to the inputs of `show` is an answer to the command
   pub of_show : (a : Admission) → AreInputs c vs (Inputs.Graph a Purpose.Show) →
       IfOk r (λ o. Puts o (IsMadeOf a shown)) →
       IfOk r (Answers c vs)
   of_show a (graph, e, is) ok = known (Show graph) e (puts (λ text made. (a, is, made)) ok)
 
+  -- an answer to the inputs of `compile` is an answer to the command
   pub of_compile : (a : Admission) → AreInputs c vs (Inputs.Graph a Purpose.Compile) →
       IfOk r (λ o. Puts o (IsMadeOf a packed)) →
       IfOk r (Answers c vs)
   of_compile a (graph, e, is) ok = known (Compile graph) e (puts (λ text made. (a, is, made)) ok)
 
+  -- an answer to the inputs of `tune` is an answer to the command
   pub of_tune : (a : Admission) → AreInputs c vs (Inputs.Graph a Purpose.Tune) →
       IfOk r (λ o. Puts o (IsTuningText a.graph)) →
       IfOk r (Answers c vs)
   of_tune a (graph, e, is) ok = known (Tune graph) e (puts (λ text made. (a, is, made)) ok)
 
+  -- an answer to the inputs of `check` is an answer to the command
   pub of_check : (a : Admission) (t : Tables) → AreInputs c vs (Inputs.Check a t) →
       IfOk r (λ o. Puts o (IsSafeText a t)) →
       IfOk r (Answers c vs)
   of_check a t (graph, pack, e, is) ok = known (Check graph pack) e (puts (λ text made. (a, t, is, made)) ok)
 
+  -- an answer to the inputs of `play` is an answer to the command
   pub of_play : (a : Admission) (t : Tables) (p : Played) (turns : ℕ) → AreInputs c vs (Inputs.Play a t p turns) →
       IfOk r (λ o. Puts o (IsPlayedText a t p turns)) →
       IfOk r (Answers c vs)
   of_play a t p turns (graph, pack, scenario, e, is) ok =
       known (Play graph pack scenario turns) e (puts (λ text made. (a, t, p, is, made)) ok)
 
+  -- an answer to the inputs of `audit` is an answer to the command
   pub of_audit : (a : Admission) (t : Tables) (l : Log) → AreInputs c vs (Inputs.Audit a t l) →
       IfOk r (λ o. Puts o (IsAuditedText a t l)) →
       IfOk r (Answers c vs)
   of_audit a t l (graph, pack, log, e, is) ok =
       known (Audit graph pack log) e (puts (λ text made. (a, t, l, is, made)) ok)
 
+  -- an answer to the inputs of `node` is an answer to the command
   pub of_node : (t : Tables) (name : Text) → AreInputs c vs (Inputs.Node t name) →
       IfOk r (λ o. Puts o (IsNodeText t name)) →
       IfOk r (Answers c vs)
   of_node t name (pack, e, is) ok = known (Node pack name) e (puts (λ text made. (t, is, made)) ok)
 
+  -- an answer to the inputs of `live` is an answer to the command
   pub of_live : (t : Tables) (name stream : Text) → AreInputs c vs (Inputs.Live t name stream) →
       IfOk r (Opens t name stream) →
       IfOk r (Answers c vs)
   of_live t name stream (pack, e, is) ok = known (Live pack name stream) e (if_ok r (λ o opens. (t, is, opens)) ok)
 
+  -- an answer to the inputs of `hyper` is an answer to the command
   pub of_hyper : (parts : List Part) → AreInputs c vs (Inputs.Hyper parts) →
       IfOk r (λ o. Puts o (IsUnrolledText parts)) →
       IfOk r (Answers c vs)
   of_hyper parts (pairs, e, is, periods) ok = known (Hyper pairs) e (puts (λ text made. (parts, is, periods, made)) ok)
 
+  -- an answer to the inputs of `trial` is an answer to the command
   pub of_trial : (number : ℕ) → AreInputs c vs (Inputs.Trial number) → IfOk r (λ o. Puts o (IsTrialText number)) →
       IfOk r (Answers c vs)
   of_trial number (e, is) ok = known (Trial number) e ok
@@ -114,45 +126,53 @@ module _ (c : Command) (vs : List Value) (r : Result Output Halt) where
       go h (inl p) = inl (f h p)
       go h (inr memory) = inr memory
 
+  -- a halt of the work on the inputs of `show` is one of the command's work
   pub stops_show : (a : Admission) → AreInputs c vs (Inputs.Graph a Purpose.Show) → IfErr r (IsUncompiled a) →
       IfErr r (OrMemory (StopsWork c vs))
   stops_show a (graph, e, is) err = stop_as (Show graph) e (if_err r (λ h wrong. inl (a, is, wrong)) err)
 
+  -- a halt of the work on the inputs of `compile` is one of the command's work
   pub stops_compile : (a : Admission) → AreInputs c vs (Inputs.Graph a Purpose.Compile) → IfErr r (IsUncompiled a) →
       IfErr r (OrMemory (StopsWork c vs))
   stops_compile a (graph, e, is) err = stop_as (Compile graph) e (if_err r (λ h wrong. inl (a, is, wrong)) err)
 
-  -- out of memory alone
+  -- lack of memory may stop the work of any command
   pub stops_memory : IfErr r (λ h. h ≡ Memory) → IfErr r (OrMemory (StopsWork c vs))
   stops_memory err = if_err r (λ h memory. inr memory) err
 
+  -- a halt of the work on the inputs of `check` is one of the command's work
   pub stops_check : (a : Admission) (t : Tables) → AreInputs c vs (Inputs.Check a t) →
       IfErr r (OrMemory (StopsVerdict a t)) →
       IfErr r (OrMemory (StopsWork c vs))
   stops_check a t (graph, pack, e, is) err = stop_as (Check graph pack) e (stops (λ h wrong. (a, t, is, wrong)) err)
 
+  -- a halt of the work on the inputs of `play` is one of the command's work
   pub stops_play : (a : Admission) (t : Tables) (p : Played) (turns : ℕ) → AreInputs c vs (Inputs.Play a t p turns) →
       IfErr r (OrMemory (StopsVerdict a t)) →
       IfErr r (OrMemory (StopsWork c vs))
   stops_play a t p turns (graph, pack, scenario, e, is) err =
       stop_as (Play graph pack scenario turns) e (stops (λ h wrong. (a, t, p, is, wrong)) err)
 
+  -- a halt of the work on the inputs of `audit` is one of the command's work
   pub stops_audit : (a : Admission) (t : Tables) (l : Log) → AreInputs c vs (Inputs.Audit a t l) →
       IfErr r (OrMemory (StopsVerdict a t)) →
       IfErr r (OrMemory (StopsWork c vs))
   stops_audit a t l (graph, pack, log, e, is) err =
       stop_as (Audit graph pack log) e (stops (λ h wrong. (a, t, l, is, wrong)) err)
 
+  -- a halt of the work on the inputs of `node` is one of the command's work
   pub stops_node : (t : Tables) (name : Text) → AreInputs c vs (Inputs.Node t name) →
       IfErr r (OrMemory (StopsNaming t name)) →
       IfErr r (OrMemory (StopsWork c vs))
   stops_node t name (pack, e, is) err = stop_as (Node pack name) e (stops (λ h wrong. (t, is, wrong)) err)
 
+  -- a halt of the work on the inputs of `live` is one of the command's work
   pub stops_live : (t : Tables) (name stream : Text) → AreInputs c vs (Inputs.Live t name stream) →
       IfErr r (OrMemory (StopsNaming t name)) →
       IfErr r (OrMemory (StopsWork c vs))
   stops_live t name stream (pack, e, is) err = stop_as (Live pack name stream) e (stops (λ h wrong. (t, is, wrong)) err)
 
+  -- a halt of the work on the inputs of `hyper` is one of the command's work
   pub stops_hyper : (parts : List Part) → AreInputs c vs (Inputs.Hyper parts) → IfErr r (IsNotUnrolled parts) →
       IfErr r (OrMemory (StopsWork c vs))
   stops_hyper parts (pairs, e, is, periods) err =
@@ -174,6 +194,7 @@ not_opened t name stream (OfNode tables node) is opens = opens
 not_opened t name stream (Pack tables) is opens = opens
 not_opened t name stream (Stream follower path) is opens = is
 
+-- an answer that is a text is the output that the command puts out
 pub text_of : (c : Command) (vs : List Value) (o : Output) → IsText o → Answers c vs o → Puts o (PutsOut c vs)
 text_of (Show graph) vs o is answers = answers
 text_of (Compile graph) vs o is answers = answers
@@ -195,6 +216,7 @@ pub record IsLive (c : Command) (vs : List Value) (f : Follower) (path : Text) :
   pub said : vs ≡ tables_value tables ∷ []
   pub follower : IsFollower tables name f
 
+-- a node that is to follow a stream is the answer of `live`, and it is the node of the given name
 pub live_of : (c : Command) (vs : List Value) (f : Follower) (path : Text) → Answers c vs (Stream f path) →
     IsLive c vs f path
 live_of (Show graph) vs f path answers = absurd answers

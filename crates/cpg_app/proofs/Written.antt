@@ -11,6 +11,7 @@ use Rattle.cpg_refusal.specs.Lines.{line_of, status_of}
 use Rattle.cpg_outputs.specs.Told.{SinkSeen, Sent, Part, Untouched, IsWritten, sent}
 use Rattle.cpg_app.specs.Endings.{Ran, IsTold, IsMuted}
 
+-- the line of the halt was taken whole, or `err` met a fault
 pub stopped : (r : Ran) (h : Halt) → Untouched r.out → Sent r.err r.status (status_of h) (line_of h) →
     IsTold r h ⊎ IsMuted r h
 stopped r h silent sent = elim (cases_eq r.status 3) [
@@ -18,15 +19,17 @@ stopped r h silent sent = elim (cases_eq r.status 3) [
   | inr other ↦ inl (record { status = (sent.whole other).0; out = silent; err = (sent.whole other).1 })
 ]
 
+-- if a write failed, a part was taken
 pub cut_of : (sink : SinkSeen) (bytes : List ℕ) (fault : WriteFault) → fault ≡ WriteFault.Failed →
     IsWritten sink (Err fault) bytes → Part sink bytes
 cut_of sink bytes fault is written = subst (λ f. IsWritten sink (Err f) bytes) is written
 
+-- if memory ran out for a write, nothing was taken
 pub none_of : (sink : SinkSeen) (bytes : List ℕ) (fault : WriteFault) → fault ≡ WriteFault.OutOfMemory →
     IsWritten sink (Err fault) bytes → Untouched sink
 none_of sink bytes fault is written = subst (λ f. IsWritten sink (Err f) bytes) is written
 
--- a pack was written
+-- what a write took, with its faults, is what was written of the bytes
 pub packed : (old new : SinkState) (bytes : List ℕ) (result : Result Unit WriteFault) →
     OnOk result (Took old.taken new.taken bytes) →
     OnOk result (new.faults ≡ old.faults) →

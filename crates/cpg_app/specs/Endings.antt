@@ -31,6 +31,7 @@ pub record ShelfSeen : Type 0 where
   pub old : ShelfState
   pub new : ShelfState
 
+-- a shelf's states before and after, together
 abbrev pub seen : ShelfState → ShelfState → ShelfSeen
 seen old new = record { old = old; new = new }
 
@@ -130,15 +131,19 @@ pub record EndsBy (r : Ran) (halt : Halt) : Type 0 where
 -- A run in which a node follows a stream: the first node of the given name in the tables of a pack. The pack was read,
 -- then the stream was fetched, and nothing else was.
 pub record Follows (r : Ran) : Type 0 where
+  -- the words: the file of the pack, the name of the node and the file of the stream
   pub pack : Text
   pub name : Text
   pub stream : Text
   pub words : command_of r.words ≡ Some (Live pack name stream)
+  -- the pack was read first, and has these tables
   pub read : Fetch
   pub tables : Tables
   pub spelled : IsRead None (file PackFile pack) read (tables_value tables)
+  -- the first node that has the name
   pub node : ℕ
   pub named : first_named tables.head name ≡ Some node
+  -- then the stream was fetched, and nothing else
   pub fetch : Fetch
   pub of : fetch.name ≡ stream
   pub history : r.shelf.new.history ≡ fetch ∷ read ∷ r.shelf.old.history

@@ -24,10 +24,13 @@ use Rattle.cpg_outputs.specs.Told.{Whole}
 -- a command ran on a graph file that says this graph, and wrote these bytes, whole
 pub record HasMade (asked : Text → Command) (r : Ran) (g : Graph) (made : Text) : Type 0 where
   pub lawful : IsLawful r
+  -- the graph's file, and the graph as it is admitted
   pub graph : Text
   pub admission : Admission
   pub of : admission.graph ≡ g
+  -- the run's words are the command on this file, which says the graph
   pub has : Has r (asked graph) (graph_value admission ∷ [])
+  -- it ended well, and its output took all of the bytes
   pub done : r.status ≡ 0
   pub wrote : Whole r.out made
 
@@ -88,11 +91,15 @@ FrontsAreRefused =
 
 -- A text and a pack come from two compilations of one admitted graph. These ask the same in every scenario.
 pub record AreOfOneGraph (g : Graph) (text pack : Text) : Type 0 where
+  -- the graph, as it is admitted
   pub admission : Admission
   pub of : admission.graph ≡ g
   pub admitted : IsAdmitted admission.graph admission.order admission.guards
+  -- the text is made of one compilation
   pub shows : IsMadeOf admission shown text
+  -- the pack is made of another
   pub packs : IsMadeOf admission packed_of pack
+  -- in each scenario both have the same times
   pub same : AskTheSame admission.graph shows.compiled packs.compiled
 
 -- what `show` printed and what `compile` wrote for a graph belong together

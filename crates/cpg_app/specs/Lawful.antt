@@ -59,11 +59,13 @@ pub record AsksPlay (r : Ran) (graph pack : Text) (a : Admission) (t : Tables) :
   pub played : Played
   pub asks : Asks r (Play graph pack scenario turns) (graph_value a ∷ tables_value t ∷ played_value played ∷ [])
 
+-- the words ask to audit a log of the graph by the tables, and no sink met a fault
 pub record AsksAudit (r : Ran) (graph pack : Text) (a : Admission) (t : Tables) : Type 0 where
   pub path : Text
   pub log : Log
   pub asks : Asks r (Audit graph pack path) (graph_value a ∷ tables_value t ∷ log_value log ∷ [])
 
+-- the words ask to check the tables, to play them, or to audit a log by them
 abbrev pub AsksVerdict : Ran → Admission → Tables → Type 0
 AsksVerdict r a t = (graph : Text) × (pack : Text) × (Asks r (Check graph pack) (graph_value a ∷ tables_value t ∷ []) ⊎
     (AsksPlay r graph pack a t ⊎ AsksAudit r graph pack a t))

@@ -15,6 +15,7 @@ use Rattle.cpg_tune.specs.declared.judge.Judged.{Judged}
 use Rattle.cpg_tune.specs.declared.judge.Judged.TheVariants.{Worst, Late, Wide}
 use Rattle.cpg_app.specs.Tunes.{IsCompileAnswer, IsJudged}
 
+-- given a well-formed graph with its urgency order and its first order, both topological
 module _ (g : Graph) (w : WellFormed g) (urgency : List ℕ) (top : IsTopological g urgency)
     (first_top : IsTopological g (first_order g urgency)) where
   order_topological : (c : Compiled) → IsCompilation g urgency c → IsTopological g c.order
@@ -32,6 +33,7 @@ module _ (g : Graph) (w : WellFormed g) (urgency : List ℕ) (top : IsTopologica
       (one_measure g w urgency c.order (order_topological c x) c.built.excess c.built.worst d.built.excess d.built.worst
       (measured g urgency c.order c.built x.built) other).1
 
+  -- by the two answers: equal kinds give equal values, and different kinds rule each other out
   one_answer : (a b : Judged) → IsCompileAnswer g urgency a → IsCompileAnswer g urgency b → a ≡ b
   one_answer (Worst m) (Worst n) x y = ap Worst (sym x.3 ∙ (one_worst x.1 y.1 x.2 y.2 ∙ y.3))
   one_answer (Worst m) (Late n) x y =

@@ -44,7 +44,7 @@ pub record AreEndings (g : Graph) (c : Compiled) (number : ℕ) (e : Endings) : 
   pub worst_case : IsEnding g c.built.tables.nodes c.built.worst_in number e.worst_case
   pub all_true : IsEnding g c.built.tables.nodes (true_scenario g) number e.all_true
 
--- how many columns all tables have, with those for what is heard
+-- how many columns all tables have, with those of hear rows
 abbrev pub columns_in : List NodeTable → ℕ
 columns_in tables = sum_by (λ t. column_count (rows_of t)) tables
 

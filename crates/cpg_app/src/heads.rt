@@ -26,7 +26,7 @@ fn processes_are_named(processes: &[Process])
     }
 }
 
-/// That the head of a graph's tables is one that a pack may have: it is within its limits, and so are its names, which are gone over.
+/// The head of a graph's tables is one that a pack may have: it is within its limits, and so are its names, which are gone over.
 pub fn head_is_lawful(graph: &Problem)
     ensures { IsPackHead (head_of graph.now) }
 {

@@ -93,6 +93,7 @@ pub fn run<S: Shelf, O: Sink, E: Sink>(
 /// Ends a run whose words can't be had: one of them is no text, or memory ran out. Writes the line that says so to `err`, which
 /// needs no memory, and answers the exit status.
 pub fn run_without_words<E: Sink>(alloc: Global, fault: WordsFault, err: &mut E) -> u8
+    // the line of the fault has been sent to `err`, as far as it takes it, and the result is the status of the fault
     ensures { Sent (sent (E.state err.old) (E.state err.new)) result (status_of (halt_of_words fault)) (line_of (halt_of_words fault)) }
 {
     match fault {

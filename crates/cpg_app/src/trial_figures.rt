@@ -70,6 +70,7 @@ fn compiled_of(alloc: Global, admitted: &Admitted) -> Result<Compiled, OutOfMemo
 
 /// Whether tables are valid for a graph.
 fn are_valid(alloc: Global, admitted: &Admitted, tables: &Tables) -> Result<bool, OutOfMemory>
+    // the answer is yes exactly if the head is that of the graph and the tables are valid
     ensures { IfOk result (λ found. IsTrue found ↔ (IsHeadFor admitted.now.graph tables.now.head × IsValid admitted.now.graph tables.now.nodes)) }
 {
     // its contract says that the tables are lawful under their head

@@ -89,8 +89,10 @@ fn judged(alloc: Global, admitted: Admitted, tables: &Tables) -> Result<Admitted
     let _graph = admitted.problem();
     // its contract says that the tables are lawful under their head
     let _head = tables.head();
+    // yes: the graph comes back; other: the tables are of another graph; no: a rule is broken
     match check(alloc, &admitted, tables) {
         Ok(Verdict::Yes) => Ok(admitted),
+        // this part of the head differs from the graph
         Ok(Verdict::Other(part)) => Err(Halt::Refused(Refusal::OtherGraph(part))),
         Ok(Verdict::No(fault)) => Err(Halt::Unsafe {
             graph: admitted,
@@ -170,6 +172,7 @@ fn node_named(tables: Tables, name: &str) -> Result<Output, Halt>
     ensures text { IfOk result (λ o. Puts o (IsNodeText tables name.now)) }
     ensures halt { IfErr result (OrMemory (StopsNaming tables name.now)) }
 {
+    // no node of the tables has the name
     let Some(node) = first_named(tables.head(), name) else {
         return Err(Halt::Refused(Refusal::UnknownNode));
     };
@@ -182,6 +185,7 @@ fn opened(alloc: Global, tables: Tables, name: &str, stream: Word) -> Result<Out
     ensures opens { IfOk result (Opens tables name.now stream) }
     ensures halt { IfErr result (OrMemory (StopsNaming tables name.now)) }
 {
+    // no node of the tables has the name
     let Some(node) = first_named(tables.head(), name) else {
         return Err(Halt::Refused(Refusal::UnknownNode));
     };
@@ -193,10 +197,13 @@ fn opened(alloc: Global, tables: Tables, name: &str, stream: Word) -> Result<Out
 
 /// What a command puts out by a graph alone, or why it stops.
 fn work_on_graph(alloc: Global, graph: Admitted, purpose: Purpose) -> Result<Output, Halt>
+    // for each command and values that these inputs are read from: the output answers the command
     ensures output { (command : Command) (values : List Value) → AreInputs command values (Inputs.Graph graph purpose) → IfOk result (Answers command values) }
+    // for each command and values that these inputs are read from: a halt is one of the command, or memory is out
     ensures halt { (command : Command) (values : List Value) → AreInputs command values (Inputs.Graph graph purpose) →
         IfErr result (OrMemory (StopsWork command values)) }
 {
+    // the one thing in which the three commands differ is what they do with the graph
     match purpose {
         Purpose::Show => text_of(alloc, graph),
         Purpose::Compile => pack_of(alloc, graph),
@@ -207,7 +214,9 @@ fn work_on_graph(alloc: Global, graph: Admitted, purpose: Purpose) -> Result<Out
 /// What a command puts out by what its files say, or why it stops.
 pub fn work(alloc: Global, inputs: Inputs) -> Result<Output, Halt>
     requires { AreFit inputs }
+    // for each command and values that these inputs are read from: the output answers the command
     ensures output { (command : Command) (values : List Value) → AreInputs command values inputs → IfOk result (Answers command values) }
+    // for each command and values that these inputs are read from: a halt is one of the command, or memory is out
     ensures halt { (command : Command) (values : List Value) → AreInputs command values inputs → IfErr result (OrMemory (StopsWork command values)) }
 {
     match inputs {

@@ -40,6 +40,7 @@ use Rattle.cpg_log.proofs.TextLaws.{act_within}
 same_logged : (l : Logged) (time item : ℕ) → l.time ≡ time → l.item ≡ item → l ≡ record { time = time; item = item }
 same_logged l time item p q = λ i. record { time = p i; item = q i }
 
+-- in a log that names each item once, the time of a logged item is the one it is logged with
 pub logged_at : (ls : List Logged) → AllPairs (λ (a b : Logged). a.item ≢ b.item) ls → (l : Logged) → Contains ls l →
     logged_time ls l.item ≡ Some l.time
 logged_at [] pairs l c = absurd (Contains-nil l c)
@@ -52,6 +53,7 @@ logged_at (m ∷ ls) pairs l c = elim (Contains-cases m ls l c) [
       ∙ logged_at ls (λ i j d a b. pairs (suc i) (suc j) d (omega arith) (omega arith)) l r
 ]
 
+-- an item with a logged time is logged with that time
 pub logged_in : (ls : List Logged) (x time : ℕ) → logged_time ls x ≡ Some time →
     Contains ls (record { time = time; item = x })
 logged_in [] x time e = absurd (none-some time e)
@@ -63,13 +65,14 @@ logged_in (m ∷ ls) x time e = elim (cases_eq m.item x) [
       (sym (cond-false (m.item == x) (Some m.time) (logged_time ls x) (ne_eqb m.item x other)) ∙ e))
 ]
 
--- ---- what is due, and the columns that match
+-- ---- the acts that are due, and the columns that match
 
 -- no column that matches has an excluded time, and each logged item is active
 pub record Fits (g : Graph) (tables : List NodeTable) (log : Log) (s : Scenario) : Type 0 where
   pub times : (x : ℕ) (c : Column) → Match tables s x c → is_excluded log.until (logged_time log.acts x) c.time ≡ false
   pub active : (l : Logged) → Contains log.acts l → item_active g s.values (item_at g l.item) ≡ true
 
+-- a scenario of tables whose columns match once and for active items, and a log
 module _ {g : Graph} {tables : List NodeTable} {s : Scenario} (k : Setting g tables s) (log : Log)
     (is : IsLog g log) where
   -- the act of a column that matches
@@ -99,6 +102,7 @@ module _ {g : Graph} {tables : List NodeTable} {s : Scenario} (k : Setting g tab
         m.2 ∙ ap (λ (z : Logged). z.time) due.2,
       )
 
+  -- in a scenario that gives the log, no column that matches has an excluded time, and logged items are active
   pub gives_fits : Gives g tables log s → Fits g tables log s
   gives_fits gives = record {
     times = λ x c m. times x c m (logged_time log.acts x) refl;
@@ -117,6 +121,7 @@ module _ {g : Graph} {tables : List NodeTable} {s : Scenario} (k : Setting g tab
           let d = match_due gives (record { time = time; item = x }) l in
           ap not (eq-eqb c.time time (ap (λ (z : Column). z.time) (match_once k x c d.0 m d.1) ∙ d.2))
 
+  -- a scenario in which that is so gives the log
   pub fits_gives : Fits g tables log s → Gives g tables log s
   fits_gives fits = record {
     named = λ a h early.
@@ -147,8 +152,10 @@ module _ {g : Graph} {tables : List NodeTable} {s : Scenario} (k : Setting g tab
 
   -- ---- the cubes
 
+  -- columns that match just where a logged item is idle
   module _ (idle : List Column)
       (told : list_any (λ (c : Column). matches c.cube s) idle ≡ is_some_idle g log.acts s) where
+    -- then no excluded cube matches, nor one of the scenarios in which a logged item is idle
     pub fits_left : Fits g tables log s →
         list_any (λ b. matches b s)
         (flat_map (excluded_of tables log) (numbers_below (item_count g)) ++ map (λ (c : Column). c.cube) idle) ≡ false
@@ -180,6 +187,7 @@ module _ {g : Graph} {tables : List NodeTable} {s : Scenario} (k : Setting g tab
         of_idle b h = from_any_false (λ b. matches b s) (map (λ (c : Column). c.cube) idle) b
             (any_map (λ b. matches b s) (λ (c : Column). c.cube) idle ∙ told ∙ none_idle) h
 
+    -- if none of these cubes matches, no column that matches has an excluded time, and logged items are active
     pub left_fits : list_any (λ b. matches b s) (flat_map (excluded_of tables log) (numbers_below (item_count g))
         ++ map (λ (c : Column). c.cube) idle) ≡ false →
         Fits g tables log s
@@ -213,6 +221,10 @@ left_is : (b : Bool) → not b ≡ true → b ≡ false
 left_is false e = refl
 left_is true e = absurd (true≢false (sym e))
 
+-- the excluded cubes of all items, and those of the scenarios in which a logged item is idle
+-- `setting`: in each scenario, the tables are valid ones of a lawful graph; `log`, `is`: the log
+-- `idle`, `told`: columns that match exactly where one of the log's acts is idle
+-- `by`, `are`: the cubes: the excluded ones of all items, then those of `idle`
 module _ (g : Graph) (order : List ℕ) (tables : List NodeTable)
     (setting : (s : Scenario) → IsScenario g s → Setting g tables s) (log : Log) (is : IsLog g log)
     (idle : List Column) (told : (s : Scenario) → IsScenario g s →
@@ -227,6 +239,7 @@ module _ (g : Graph) (order : List ℕ) (tables : List NodeTable)
   gives_left s law gives = ap not (ap (list_any (λ b. matches b s)) are
       ∙ fits_left (setting s law) log is idle (told s law) (gives_fits (setting s law) log is gives))
 
+  -- the first scenario that the cubes leave is the least that gives the log
   pub least_gives : (r : Option Scenario) → IsFirst g order (is_left by []) r →
       IfSome r (IsLeast g order (Gives g tables log))
   least_gives None first = tt
@@ -236,6 +249,7 @@ module _ (g : Graph) (order : List ℕ) (tables : List NodeTable)
     least = λ t law gives. first.least t law (gives_left t law gives);
   }
 
+  -- if the cubes leave no scenario, none gives the log
   pub none_gives : (r : Option Scenario) → IsFirst g order (is_left by []) r →
       IfNone r ((s : Scenario) → IsScenario g s → Gives g tables log s → ⊥)
   none_gives None first = λ s law gives. true≢false (sym (gives_left s law gives) ∙ first s law)
@@ -250,6 +264,7 @@ excluded_known g tables log x known =
     All-map (IsKnown g) (λ (c : Column). c.cube) (filter excluded (columns_of tables x))
     (All-filter excluded (λ (c : Column). IsKnown g c.cube) (columns_of tables x) known)
 
+-- the kept cubes and the idle ones are on variables of the graph
 pub idle_known : (g : Graph) (kept : List (List Literal)) (idle : List Column) → All (IsKnown g) kept →
     All (λ (c : Column). IsKnown g c.cube) idle →
     All (IsKnown g) (kept ++ map (λ (c : Column). c.cube) idle)

@@ -1,4 +1,4 @@
--- The columns of the tree of where an item isn't active match in just the scenarios in which it isn't.
+-- The columns of the tree of an item's idle scenarios match in just the scenarios in which it isn't active.
 use Rattle.std.proofs.Common.{ℕ, ◌+◌, ◌<◌, ◌≡◌, ◌||◌, Bool, true, false, not, List, [], ◌++◌, length, take, get_or}
 use Rattle.std.proofs.Common.{Option, Some, None, Contains, IsPermutation, refl, sym, ap, ap₂, ◌∙◌, subst, inl}
 use Rattle.std.proofs.Common.{inr}
@@ -43,6 +43,9 @@ idle_at true e = absurd (true_false (sym e))
     true_false e = cc
 idle_at false e = refl
 
+-- a tree that says where an item is active, mapped to a time where it isn't, and the columns of that tree
+-- `a`, `tree`, `active`: the tree of where item x is active; `t`, `is`, `each`: that with a time where x isn't active
+-- `columns`, `all`: the columns of t, in some order; `s`, `law`: a scenario
 module _ (g : Graph) (x : ℕ) (a : TreeState Bool) (tree : IsTree g a) (active : IsActivityOf g x a)
     (t : TreeState (Option ℕ)) (is : IsMap (λ b z. z ≡ idle_time b) a t)
     (each : HasOnePathEach t.faults t.paths) (columns : List Column)
@@ -80,11 +83,12 @@ module _ (g : Graph) (x : ℕ) (a : TreeState Bool) (tree : IsTree g a) (active 
       (Contains-flat_map (λ (p : Path (Option ℕ)). column_of p.0 p.1) t.paths z.0 idle z.1.stands
       (subst (λ o. Contains (column_of z.0.0 o) idle) (sym here) (Contains-first idle [])))) z.1.matched
 
+  -- some of the columns matches exactly if the item isn't active
   pub idle_columns : list_any (λ (c : Column). matches c.cube s) columns ≡ not (item_active g s.values (item_at g x))
   idle_columns = same_truth (list_any (λ (c : Column). matches c.cube s) columns)
       (not (item_active g s.values (item_at g x))) from_column to_column
 
--- the columns of one act more
+-- with the columns of the next act added, some column matches exactly if some of one act more is idle
 pub idle_more : (g : Graph) (s : Scenario) (acts : List Logged) (i : ℕ) (d : Logged) → i < length acts →
     (old columns : List Column) →
     list_any (λ (c : Column). matches c.cube s) old ≡ is_some_idle g (take i acts) s

@@ -1,4 +1,4 @@
--- What ranges tell of the cubes that they are narrowed by.
+-- Spaces narrowed by cubes, and the ranges that are left.
 use Rattle.std.proofs.Common.{ℕ, zero, suc, refl, ◌||◌, ◌∷◌, ◌++◌, ◌+◌, ◌-◌, ◌<◌, ◌≤◌, ◌≡◌, true, false, not, ◌&&◌}
 use Rattle.std.proofs.Common.{List, [], length, get_or, take, drop, map, All, Bor, Bool, arith, sym, ap, ◌∙◌}
 use Rattle.std.proofs.Common.{subst, inl, inr, Option, Some, None}
@@ -27,6 +27,7 @@ use Rattle.cpg_audit.specs.Narrowing.{IsRange}
 -- ---- where a literal doesn't hold
 
 module _ (s : Scenario) (l : Literal) (off : holds s l ≡ false) where
+  -- a number that is not below the low and not in the literal's range is above its high
   pub above_range : (most : ℕ) → l.low ≤ number_of s l.variable → number_of s l.variable ≤ most →
       holds s (record { variable = l.variable; low = l.high + 1; high = most }) ≡ true
   above_range most h k = elim (cases_lt l.high (number_of s l.variable)) [
@@ -35,6 +36,7 @@ module _ (s : Scenario) (l : Literal) (off : holds s l ≡ false) where
     | inr within ↦ absurd (both_ways (holds s l) off (holds-from s l h within))
   ]
 
+  -- a number that is not above the high and not in the literal's range is below its low
   pub below_range : (least : ℕ) → least ≤ number_of s l.variable → number_of s l.variable ≤ l.high →
       holds s (record { variable = l.variable; low = least; high = l.low - 1 }) ≡ true
   below_range least h k = elim (cases_lt (number_of s l.variable) l.low) [
@@ -45,6 +47,7 @@ module _ (s : Scenario) (l : Literal) (off : holds s l ≡ false) where
 
 -- ---- one cube more, from the last
 
+-- a list from a place on, with the element before it, is the list from the place before on
 pub before_place : {X : Type 0} (f : X → Bool) (xs : List X) (place : ℕ) (x : X) (held : Bool) → 0 < place →
     place ≤ length xs →
     x ≡ get_or xs (place - 1) x →
@@ -63,6 +66,7 @@ before_place f xs place x held some within is =
     turn false false true = refl
     turn false false false = refl
 
+-- if nothing passes from the place before on, neither the rest nor the element passes
 pub one_before : {X : Type 0} (f : X → Bool) (xs : List X) (place : ℕ) (x : X) → 0 < place → place ≤ length xs →
     x ≡ get_or xs (place - 1) x →
     list_any f (drop (place - 1) xs) ≡ false →
@@ -86,6 +90,7 @@ any_dropped f zero xs off = off
 any_dropped f (suc n) [] off = off
 any_dropped f (suc n) (x ∷ xs) off = any_dropped f n xs (or_parts (f x) (list_any f xs) off).1
 
+-- if nothing in a list passes, nothing in a part of it does
 pub any_within : {X : Type 0} (f : X → Bool) (n m : ℕ) (xs : List X) → list_any f xs ≡ false →
     list_any f (take m (drop n xs)) ≡ false
 any_within f n m xs off = any_taken f m (drop n xs) (any_dropped f n xs off)
@@ -96,10 +101,12 @@ module _ (kept : List (Bor (List Literal))) (cube : Bor (List Literal)) (s : Sce
   abbrev matched : List (Bor (List Literal)) → Bool
   matched bs = list_any (λ (b : Bor (List Literal)). matches b.now s) bs
 
+  -- with a cube added, a scenario matches some cube if it did or matches the new one
   pub pushed : matched (kept ++ cube ∷ []) ≡ (matched kept || matches cube.now s)
   pushed = list_any-append (λ (b : Bor (List Literal)). matches b.now s) kept (cube ∷ [])
       ∙ ap (λ b. matched kept || b) (or-false (matches cube.now s))
 
+  -- without it, too, if the new one matches only where some cube does
   pub passed : (matched kept ≡ false → matches cube.now s ≡ false) → matched kept ≡ (matched kept || matches cube.now s)
   passed h = elim (cases_Bool (matched kept)) [
     | inl on ↦ on ∙ sym (ap (λ b. b || matches cube.now s) on)
@@ -114,11 +121,13 @@ any_flat p f [] = refl
 any_flat p f (x ∷ xs) = ap (list_any p) (flat_map-cons f x xs) ∙ list_any-append p (f x) (flat_map f xs)
     ∙ ap (λ b. list_any p (f x) || b) (any_flat p f xs)
 
+-- in another order, the same test holds for some element
 pub any_in_order : {X Y : Type 0} (p : Y → Bool) (f : X → List Y) (xs ys : List X) → IsPermutation xs ys →
     list_any p (flat_map f ys) ≡ list_any p (flat_map f xs)
 any_in_order p f xs ys perm =
     any_flat p f ys ∙ sym (list_any-IsPermutation (λ x. list_any p (f x)) xs ys perm) ∙ sym (any_flat p f xs)
 
+-- a mapped front of one element more has that element's list at its end
 pub flat_more : {X Y Z : Type 0} (f : Y → List Z) (g : X → Y) (xs : List X) (i : ℕ) (d : X) → i < length xs →
     flat_map f (map g (take (i + 1) xs)) ≡ flat_map f (map g (take i xs)) ++ f (g (get_or xs i d))
 flat_more f g xs i d within =
@@ -136,12 +145,14 @@ module _ (space : Space) (ls : List Literal) (i : ℕ) (d : Literal) (within : i
     same_with_told s lies = list_all_more (holds s) ls i d within ∙ ap (λ b. matches (take i ls) s && b) (told s lies)
         ∙ and-true (matches (take i ls) s)
 
+    -- a literal that holds in the whole space leaves the extent of those before as it is
     pub none_with_told : (o : Option Literal) →
         IfNone o ((s : Scenario) → IsInSpace space s → matches (take i ls) s ≡ true)
         → IfNone o ((s : Scenario) → IsInSpace space s → matches (take (i + 1) ls) s ≡ true)
     none_with_told None h = λ s lies. same_with_told s lies ∙ h s lies
     none_with_told (Some l) h = tt
 
+    -- and so does it if a literal before decides the extent
     pub some_with_told : (o : Option Literal) →
         IfSome o (λ l. (s : Scenario) → IsInSpace space s → matches (take i ls) s ≡ holds s l) →
         IfSome o (λ l. (s : Scenario) → IsInSpace space s → matches (take (i + 1) ls) s ≡ holds s l)
@@ -161,22 +172,25 @@ module _ (space : Space) (ls : List Literal) (i : ℕ) (d : Literal) (within : i
 -- ---- the cube of a space
 
 module _ (g : Graph) (space : Space) where
+  -- ranges on variables below a bound are below any greater bound
   pub ranges_weaker : (m n : ℕ) → m ≤ n → (cube : List Literal) → All (IsRange g space m) cube →
       All (IsRange g space n) cube
   ranges_weaker m n h cube all = All-weaker (IsRange g space m) (IsRange g space n)
       (λ l r. record { known = r.known; below = omega (arith, r.below); told = r.told }) cube all
 
+  -- a cube of ranges of a space matches each scenario in it
   pub matches_space : (n : ℕ) (cube : List Literal) → All (IsRange g space n) cube → (s : Scenario) →
       IsInSpace space s →
       matches cube s ≡ true
   matches_space n cube all s lies = all_from (holds s) cube
       (λ l c. let r : IsRange g space n l = All-contains (IsRange g space n) cube l all c in r.told s lies)
 
+  -- a cube of ranges of a space is on variables of the graph
   pub known_ranges : (n : ℕ) (cube : List Literal) → All (IsRange g space n) cube → IsKnown g cube
   known_ranges n cube all =
       All-weaker (IsRange g space n) (λ (l : Literal). IsVariable g l.variable) (λ l r. r.known) cube all
 
--- what no cube matches is left of a cube that matches it, and cubes that match alike leave the same
+-- a scenario that no cube matches is left of a cube that matches it, and cubes that match alike leave the same
 module _ (kept by : List (Bor (List Literal))) (idle all : List (List Literal)) (cube : List Literal)
     (s : Scenario) where
   abbrev seen : Bor (List Literal) → List Literal
@@ -185,6 +199,7 @@ module _ (kept by : List (Bor (List Literal))) (idle all : List (List Literal)) 
   abbrev test : List Literal → Bool
   test b = matches b s
 
+  -- the kept cubes leave the same scenarios of the space's cube as all cubes leave of everything
   pub left_of_whole : map seen by ≡ map seen kept ++ idle →
       list_any (λ (b : Bor (List Literal)). matches b.now s) kept ≡ list_any test all
       → (list_any (λ (b : Bor (List Literal)). matches b.now s) kept ≡ false → matches cube s ≡ true) →

@@ -10,12 +10,12 @@ use Rattle.cpg_cube.specs.declared.column.Column.{Column}
 use Rattle.cpg_log.specs.Log.{Log, logged_time}
 use Rattle.cpg_log.specs.declared.log.Logged.{Logged}
 
--- whether a log excludes a time of an item: another than the one that is logged, or any up to the log's time if none is
+-- whether a log excludes a time of an item: any but the logged time, or any up to the log's end if none is logged
 abbrev pub is_excluded : ℕ → Option ℕ → ℕ → Bool
 is_excluded until None time = nat_le time until
 is_excluded until (Some logged) time = not (time == logged)
 
--- the cubes of the columns with such times
+-- the cubes of the columns with times that a log excludes
 abbrev pub excluded_cubes : ℕ → Option ℕ → List Column → List (List Literal)
 excluded_cubes until logged columns = map (λ c. c.cube) (filter (λ c. is_excluded until logged c.time) columns)
 

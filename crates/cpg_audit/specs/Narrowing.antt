@@ -1,4 +1,4 @@
--- What cubes leave of a space, and its ranges as a cube.
+-- The scenarios of a space that cubes leave, and its ranges as a cube.
 use Rattle.std.specs.Prelude.{ℕ, ◌≡◌, ◌<◌, List, false, true, ⊤}
 use Rattle.std.specs.Borrow.{Bor}
 use Rattle.std.specs.List.{list_any}

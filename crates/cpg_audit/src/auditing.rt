@@ -32,7 +32,9 @@ fn is_excluded(until: u64, logged: Option<u64>, time: u64) -> bool
     ensures { result ≡ is_excluded until logged time }
 {
     match logged {
+        // an item that isn't logged has no time up to the log's end
         None => time <= until,
+        // an item that is logged has that time
         Some(logged) => time != logged,
     }
 }
@@ -55,7 +57,7 @@ fn excluded_cubes<'a>(
     Ok(by)
 }
 
-/// The cubes of all columns with times that a log excludes, but for some that match nothing of what is left of a space, which is
+/// The cubes of all columns with times that a log excludes, but for some that match nothing in the rest of a space, which is
 /// narrowed by them item by item.
 fn excluded<'a>(
     alloc: Global,
@@ -76,6 +78,7 @@ fn excluded<'a>(
         let columns = tables.columns_of(timed.item);
         let by = excluded_cubes(alloc, log.until(), log.time_of(timed.item), columns)?;
         let first = kept.len();
+        // first from the last cube on, then from the first: each pass takes numbers off one end
         take_off_all(space, by.as_slice(), &mut kept)?;
         narrow(space, &kept[first..]);
     }
@@ -114,6 +117,7 @@ pub fn audit(
     let mut space = Space::whole(problem.faults());
     let mut by = excluded(alloc, problem, tables, log, &mut space)?;
     push_cubes(idle.as_slice(), &mut by)?;
+    // the least scenario of the space that no cube matches
     let cube = cube_of(alloc, problem, &space)?;
     let found = uncovered(alloc, problem, order, &cube, by.as_slice())?;
     Ok(found)

@@ -1,4 +1,4 @@
-//! Where logged items aren't active.
+//! The scenarios in which logged items aren't active.
 ghost use Rattle.std.specs.Prelude.{◌≡◌, ℕ, All, Bool, IfOk, not, true};
 ghost use Rattle.std.specs.List.{list_any};
 ghost use Rattle.cpg_base.specs.Activity.{item_active};
@@ -19,14 +19,14 @@ use cpg_tree::Tree;
 use cpg_tree_columns::columns;
 use std::alloc::Global;
 
-/// A time where something isn't active.
+/// A time if something isn't active.
 fn idle_time(active: bool) -> Option<u64>
     ensures { result ≡ idle_time active }
 {
     if active { None } else { Some(0) }
 }
 
-/// A time wherever a tree isn't true.
+/// A time in each scenario in which a tree isn't true.
 fn idle(active: &Tree<bool>) -> Result<Tree<Option<u64>>, OutOfMemory>
     ensures is { IfOk result (IsMap (λ x z. z ≡ idle_time x) active.now) }
     ensures each { IfOk result (λ t. HasOnePathEach t.faults t.paths) }

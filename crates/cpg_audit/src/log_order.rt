@@ -15,8 +15,8 @@ pub struct TimedItem {
     pub item: u32,
 }
 
-/// All items, those that a log names first, by time: a column speaks of what was before its item, which the items before it have
-/// told by then.
+/// All items, those that a log names first, by time: a column depends on what was before its item, which the items before it have
+/// shown by then.
 pub fn in_log_order(
     alloc: Global,
     problem: &Problem,

@@ -14,14 +14,14 @@ use cpg_cube::{Cube, Literal};
 use cpg_tree::Space;
 use std::alloc::Global;
 
-/// Which scenarios of a space a cube matches, as far as its literals tell one by one.
+/// Which scenarios of a space a cube matches, as far as single literals show it.
 #[derive(Drop)]
 enum Extent {
-    /// None.
+    /// No scenario.
     Nowhere,
-    /// Those in which a literal holds.
+    /// The scenarios in which a literal holds.
     Where(Literal),
-    /// Not told.
+    /// It isn't known.
     Unknown,
 }
 
@@ -38,10 +38,12 @@ fn extent_of(space: &Space, literals: &[Literal]) -> Extent
 {
     let mut open = None;
     for literal in literals {
+        // a literal that the space implies cuts nothing off
         if !space.implies(literal) {
             if is_apart(space, literal) {
                 return Extent::Nowhere;
             }
+            // two literals are open, so the extent depends on more than one variable
             if open.is_some() {
                 return Extent::Unknown;
             }
@@ -50,6 +52,7 @@ fn extent_of(space: &Space, literals: &[Literal]) -> Extent
     }
     match open {
         Some(literal) => Extent::Where(literal),
+        // all of the space is matched, which is left as it is
         None => Extent::Unknown,
     }
 }
@@ -61,6 +64,7 @@ fn range_outside(space: &Space, literal: Literal) -> Option<Literal>
     let variable = literal.variable;
     let least = space.least(variable);
     let most = space.most(variable);
+    // the part above the literal is left
     if literal.low <= least && literal.high < most {
         return Some(Literal {
             variable,
@@ -68,6 +72,7 @@ fn range_outside(space: &Space, literal: Literal) -> Option<Literal>
             high: most,
         });
     }
+    // the part below the literal is left
     if least < literal.low && most <= literal.high {
         return Some(Literal {
             variable,
@@ -75,6 +80,7 @@ fn range_outside(space: &Space, literal: Literal) -> Option<Literal>
             high: literal.low - 1,
         });
     }
+    // the literal cuts out the middle, or all
     None
 }
 
@@ -90,8 +96,8 @@ fn exclude(space: &mut Space, literal: Literal)
     }
 }
 
-/// Leaves the scenarios that a cube doesn't match, if it tells of one variable, and keeps the cube unless it is known to match
-/// none of the space.
+/// Leaves the scenarios that a cube doesn't match, if that depends on one variable, and keeps the cube unless it is known to
+/// match none of the space.
 fn take_off<'a>(
     space: &mut Space,
     cube: &'a Cube,
@@ -105,6 +111,7 @@ fn take_off<'a>(
         All (λ b. IsKnown g b.now) kept.new.items) }
 {
     match extent_of(space, cube.literals()) {
+        // the cube matches nothing of the space, so it isn't kept
         Extent::Nowhere => return Ok(()),
         Extent::Where(literal) => exclude(space, literal),
         Extent::Unknown => {}
@@ -113,9 +120,9 @@ fn take_off<'a>(
     Ok(())
 }
 
-/// Leaves the scenarios that no cube matches, as far as each by itself tells of one variable, and keeps the cubes but for those that
-/// are known to match nothing of what is left at their turn. It goes from the last on: if an item's cubes rise by the number of
-/// faults, each then takes off the greatest number that is left, down to the one that the log tells.
+/// Leaves the scenarios that no cube matches, as far as each cube depends on one variable, and keeps the cubes except those
+/// that are known to match nothing of what is left at their turn. It goes from the last on: if an item's cubes rise by the
+/// number of faults, each then takes off the greatest number that is left, down to the one that the log gives.
 pub fn take_off_all<'a>(
     space: &mut Space,
     by: &[&'a Cube],
@@ -136,8 +143,8 @@ pub fn take_off_all<'a>(
     Ok(())
 }
 
-/// Leaves the scenarios that no cube matches, as far as each by itself tells of one variable. It goes from the last on: of cubes that
-/// were kept from the last on, each then takes off the least number that is left.
+/// Leaves the scenarios that no cube matches, as far as each cube depends on one variable. It goes from the last on: of cubes
+/// that were kept from the last on, each then takes off the least number that is left.
 pub fn narrow(space: &mut Space, by: &[&Cube])
     ensures { (s : Scenario) → list_any (λ b. matches b.now s) by.now ≡ false → IsInSpace space.old s → IsInSpace space.new s }
 {
@@ -150,7 +157,7 @@ pub fn narrow(space: &mut Space, by: &[&Cube])
     }
 }
 
-/// Adds the ranges of the variables from one on and before another, but for those that all scenarios are in.
+/// Adds the ranges of the variables from one up to the one before another, except ranges that all scenarios are in.
 fn push_ranges(
     problem: &Problem,
     space: &Space,

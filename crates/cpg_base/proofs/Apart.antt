@@ -11,8 +11,10 @@ use Rattle.cpg_base.specs.Numbers.{are_apart}
 use Rattle.cpg_base.specs.Graph.{Process, Slot}
 use Rattle.cpg_base.proofs.Lists.{list_any_false, from_any_false}
 
+-- given a test that fails for two elements if and only if they are related
 module _ {X : Type 0} (same : X → X → Bool) (R : X → X → Type 0) (to : (x y : X) → same x y ≡ false → R x y)
     (back : (x y : X) → R x y → same x y ≡ false) where
+  -- if the test passes for no element and a later one, all pairs are related
   pub pairs_from_apart : (xs : List X) → are_apart same xs ≡ true → AllPairs R xs
   pairs_from_apart [] e = λ i j d l h. absurd (omega arith)
   pairs_from_apart (x ∷ xs) e =
@@ -20,6 +22,7 @@ module _ {X : Type 0} (same : X → X → Bool) (R : X → X → Type 0) (to : (
       AllPairs-cons R x xs (λ k d l. to x (get_or xs k d) (from_any_false (same x) xs (get_or xs k d)
       (not-true (list_any (same x) xs) p.0) (Contains-get_or xs k d l))) (pairs_from_apart xs p.1)
 
+  -- if all pairs are related, the test passes for no element and a later one
   pub apart_from_pairs : (xs : List X) → AllPairs R xs → are_apart same xs ≡ true
   apart_from_pairs [] h = refl
   apart_from_pairs (x ∷ xs) h = and_from (not (list_any (same x) xs)) (are_apart same xs)
@@ -39,14 +42,17 @@ names_differ x y e is = true≢false (sym ((bytes_eq-Decides x y).1 is) ∙ e)
 differ_names : (x y : List ℕ) → x ≢ y → bytes_eq x y ≡ false
 differ_names x y apart = false_from_ne_true (bytes_eq x y) (λ t. apart ((bytes_eq-Decides x y).0 t))
 
+-- the test of a list of names says whether no two are equal
 pub names_apart : (b : Bool) (xs : List (List ℕ)) → are_apart bytes_eq xs ≡ b → IsTrue b ↔ AllPairs (λ x y. x ≢ y) xs
 names_apart b xs e = apart_iff bytes_eq (λ x y. x ≢ y) names_differ differ_names b xs e
 
+-- the test of a list of processes says whether no two have the same name
 pub processes_apart : (b : Bool) (ps : List Process) → are_apart (λ p q. bytes_eq p.name q.name) ps ≡ b →
     IsTrue b ↔ AllPairs (λ p q. p.name ≢ q.name) ps
 processes_apart b ps e = apart_iff (λ p q. bytes_eq p.name q.name) (λ p q. p.name ≢ q.name)
     (λ p q. names_differ p.name q.name) (λ p q. differ_names p.name q.name) b ps e
 
+-- the test of a list of slots says whether no two belong to the same node
 pub slots_apart : (b : Bool) (ss : List Slot) → are_apart (λ s t. s.node == t.node) ss ≡ b →
     IsTrue b ↔ AllPairs (λ s t. s.node ≢ t.node) ss
 slots_apart b ss e = apart_iff (λ s t. s.node == t.node) (λ s t. s.node ≢ t.node) (λ s t e. eqb-false s.node t.node e)

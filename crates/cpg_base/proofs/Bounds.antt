@@ -10,6 +10,7 @@ use Rattle.cpg_base.specs.Duration.{duration_of, duration}
 use Rattle.cpg_base.specs.Limits.{IsProcessWithin, IsWithinLimits}
 use Rattle.cpg_base.proofs.Durations.{product_within, part_within}
 
+-- the round of a graph within the limits is at most 16000000000
 pub round-le : (g : Graph) → IsWithinLimits g → round g ≤ 16000000000
 round-le g within = omega (
   arith,
@@ -26,6 +27,7 @@ slot_length-le g node = elim (cases_lt (slot_place g node) (length g.slots)) [
       omega arith
 ]
 
+-- an execution of a process within the limits takes at most 600000000000
 pub duration_of-le : (nodes : ℕ) (p : Process) (f : ℕ) → IsProcessWithin nodes p → f ≤ 8 →
     duration_of p f ≤ 600000000000
 duration_of-le nodes p f within few =
@@ -36,5 +38,6 @@ duration_of-le nodes p f within few =
     (omega (arith, within.mu, within.alpha, within.wcet)) in
     omega (arith, within.wcet)
 
+-- so does an execution of a process of a graph within the limits
 pub duration-le : (g : Graph) (p f : ℕ) → IsWithinLimits g → p < process_count g → f ≤ 8 → duration g p f ≤ 600000000000
 duration-le g p f within l few = duration_of-le (length g.nodes) (process_at g p) f (within.processes p _ l) few

@@ -33,13 +33,16 @@ place-get_or xs k rises h =
     get_or_here ys i j = get_or_default ys i _ 0 j
 
 module _ (g : Graph) where
+  -- the process of a condition is one of those that have conditions
   pub Contains-disjunctions : (c : ℕ) → c < condition_count g → Contains (disjunctions g) (process_of g c)
   Contains-disjunctions c h = Contains-get_or (disjunctions g) c 0 h
 
+  -- the condition of a condition's process is that condition
   pub condition_of_process_of : (c : ℕ) → c < condition_count g → condition_of g (process_of g c) ≡ Some c
   condition_of_process_of c h = position-place (disjunctions g) (process_of g c) (Contains-disjunctions c h)
       ∙ ap Some (place-get_or (disjunctions g) c (disjunctions_rise g) h)
 
+  -- the process of a process's condition is that process
   pub process_of_condition_of : (p c : ℕ) → condition_of g p ≡ Some c → process_of g c ≡ p
   process_of_condition_of p c e = eqb-true (process_of g c) p (position-Some (λ q. q == p) (disjunctions g) c 0 e).1
 
@@ -61,10 +64,12 @@ module _ (g : Graph) where
       (outputs-Contains g e h)
       (ap is_some w))
 
+  -- the value of a process's condition is the one that the outcome gives the condition
   pub value_of_process : (values : List Bool) (c : ℕ) → c < condition_count g →
       value_of g values (process_of g c) ≡ get_or values c false
   value_of_process values c h = ap (λ o. get_or values (unwrap_or o 0) false) (condition_of_process_of c h)
 
 module _ (g : Graph) where
+  -- the condition of a process is a condition of the graph
   pub condition_of_below : (p c : ℕ) → condition_of g p ≡ Some c → c < condition_count g
   condition_of_below p c e = (position-Some (λ q. q == p) (disjunctions g) c 0 e).0

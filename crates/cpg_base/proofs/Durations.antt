@@ -8,9 +8,11 @@ use Rattle.cpg_base.specs.Graph.{Graph, process_count, process_at}
 use Rattle.cpg_base.specs.Duration.{duration}
 use Rattle.cpg_base.specs.Limits.{IsProcessWithin, IsWithinLimits}
 
+-- a product grows with its factors
 pub product_within : (a b m n : ℕ) → a ≤ m → b ≤ n → a * b ≤ m * n
 product_within a b m n h k = mul-le-mul h k
 
+-- a part of a work is no longer than the work
 pub part_within : (work parts : ℕ) → 1 ≤ parts → div_ceil work parts ≤ work
 part_within work parts h = elim (cases_lt work (div_ceil work parts)) [
   | inl l ↦
@@ -22,6 +24,7 @@ part_within work parts h = elim (cases_lt work (div_ceil work parts)) [
   | inr l ↦ l
 ]
 
+-- an execution in a graph within the limits takes less than 2 ^ 40
 pub duration_short : (g : Graph) → IsWithinLimits g → (p f : ℕ) → p < process_count g → f ≤ g.faults →
     duration g p f < 2 ^ 40
 duration_short g within p f l few =

@@ -22,6 +22,7 @@ module _ (g : Graph) (order : List ℕ) where
     least = λ t i k. f.least t i (h t i ∙ k);
   }
 
+  -- if no scenario passes a test, there is no first one
   pub first_none : (p : Scenario → Bool) → ((s : Scenario) → IsScenario g s → p s ≡ false) → IsFirst g order p None
   first_none p h = h
 
@@ -43,6 +44,7 @@ module _ (g : Graph) (order : List ℕ) where
   }
   first_or p q (Some s) (Some t) f h = of_two (is_before g order t s) refl
     where
+      -- by which of the two scenarios comes before the other; the earlier one is least by transitivity
       of_two : (b : Bool) → is_before g order t s ≡ b → IsFirst g order (λ u. p u || q u) (cond b (Some t) (Some s))
       of_two true e = record {
         lawful = h.lawful;

@@ -34,6 +34,7 @@ module _ (g : Graph) where
       (ap (λ (d : Edge). d.from == p) is ∙ both.0) (Contains-numbers (edge_count g) a.1.0 a.1.1))
       (ap (λ (d : Edge). is_some d.when) is ∙ both.1)
 
+  -- the processes with a conditional output among the edges are those that have conditions
   pub conditions_found : filter (has_conditional_output g.edges) (numbers_below (process_count g)) ≡ disjunctions g
   conditions_found = same_filter (has_conditional_output g.edges) (is_disjunction g) (numbers_below (process_count g))
       (λ p c. same_truth (has_conditional_output g.edges p) (is_disjunction g p) (to_output p) (from_output p))

@@ -19,7 +19,9 @@ or_false : (a b : Bool) → b ≡ false → (a || b) ≡ a
 or_false true b h = refl
 or_false false b h = h
 
+-- given a place in the list of edges
 module _ (edges : List Edge) (i : ℕ) (d : Edge) (within : i < length edges) where
+  -- with one more edge, a process has a conditional output if it had one or this is one
   more : (p : ℕ) →
       has_conditional_output (take (i + 1) edges) p
       ≡ (has_conditional_output (take i edges) p || is_conditional_output p (get_or edges i d))
@@ -46,6 +48,7 @@ module _ (edges : List Edge) (i : ℕ) (d : Edge) (within : i < length edges) wh
         (ap (λ a. a && is_some e.when) apart.0))
   ]
 
+-- before the first edge nothing is marked
 pub no_marks : (p : ℕ) → p < 128 → get_or (replicate 128 false) p false ≡ false
 no_marks p l = get_or-replicate 128 p false false l
 
@@ -61,12 +64,13 @@ filter_grows_by p n (suc m) =
     subst (λ k. length (filter p (numbers_below n)) ≤ length (filter p (numbers_below k)))
     (let e : m + n + 1 ≡ suc m + n = omega arith in e) (omega (arith, e, filter_grows_by p n m))
 
+-- below a greater bound no fewer numbers pass a test
 pub filter_grows : (p : ℕ → Bool) (n k : ℕ) → n ≤ k →
     length (filter p (numbers_below n)) ≤ length (filter p (numbers_below k))
 filter_grows p n k h = subst (λ j. length (filter p (numbers_below n)) ≤ length (filter p (numbers_below j)))
     (let e : (k - n) + n ≡ k = omega arith in e) (filter_grows_by p n (k - n))
 
--- if a number passes that comes after so many others, there are more
+-- if `most` numbers pass before one that passes, more than `most` pass
 pub many_pass : (p : ℕ → Bool) (n i most : ℕ) → i < n → p i ≡ true → length (filter p (numbers_below i)) ≡ most →
     most < length (filter p (numbers_below n))
 many_pass p n i most l t e =

@@ -9,34 +9,40 @@ use Rattle.cpg_base.specs.Scenario.{Scenario, IsScenario, fault_of, number_of, n
 
 -- ---- the variables
 
+-- values with the same number are the same
 pub one_value : (a b : Bool) → number_of_value a ≡ number_of_value b → a ≡ b
 one_value true true e = refl
 one_value true false e = absurd (omega arith)
 one_value false true e = absurd (omega arith)
 one_value false false e = refl
 
+-- the number of a condition's variable is that of its value
 pub number_of-value : (s : Scenario) (c : ℕ) →
     number_of s (value_variable c) ≡ number_of_value (get_or s.values c false)
 number_of-value s c = cond-false _ _ _ (le-ltb (value_variable c) 128 (omega arith))
     ∙ ap (λ k. number_of_value (get_or s.values k false)) (let e : value_variable c - 128 ≡ c = omega arith in e)
 
+-- the number of a process's variable is its fault count
 pub number_of-fault : (s : Scenario) (p : ℕ) → p < 128 → number_of s p ≡ fault_of s p
 number_of-fault s p h = cond-true _ _ _ (lt-ltb p 128 h)
 
+-- the number of a value is 0 if and only if the value is false
 pub number_of_value-zero : (b : Bool) → (number_of_value b == 0) ≡ not b
 number_of_value-zero true = refl
 number_of_value-zero false = refl
 
+-- the number of a value is at most 1
 pub number_of_value-le : (b : Bool) → number_of_value b ≤ 1
 number_of_value-le true = omega arith
 number_of_value-le false = omega arith
 
--- the variable of a count, or of a value
+-- each variable is that of a count or that of a value
 pub variable_cases : (g : Graph) (v : ℕ) → IsVariable g v →
     (v < process_count g) ⊎ ((c : ℕ) × (c < condition_count g) × (v ≡ value_variable c))
 variable_cases g v (inl h) = inl h
 variable_cases g v (inr h) = inr (v - 128, omega arith, omega arith)
 
+-- a number is a variable of the graph or is not
 pub variable_or_not : (g : Graph) (v : ℕ) → IsVariable g v ⊎ (IsVariable g v → ⊥)
 variable_or_not g v = ⊎_elim
     (λ (a : v < process_count g). inl (inl a))
@@ -51,6 +57,7 @@ variable_or_not g v = ⊎_elim
     (cases_lt v 128))
     (cases_lt v (process_count g))
 
+-- what is no variable of the graph has the number 0 in its scenarios
 pub unknown-zero : (g : Graph) (s : Scenario) → IsScenario g s → (v : ℕ) → (IsVariable g v → ⊥) → number_of s v ≡ 0
 unknown-zero g s i v n = ⊎_elim
     (λ (a : v < 128). let f = i.faults in

@@ -28,6 +28,7 @@ same_parts (u ∷ us) (v ∷ vs) xs ys l e =
     let r = same_parts us vs xs ys (omega arith) t in
     (ap₂ ◌∷◌ h r.0, r.1)
 
+-- if two flat maps are equal, and each element gives lists of one length, the lists are equal
 same_pieces : {X Y : Type 0} (f h : X → List Y) (xs : List X) → ((x : X) → length (f x) ≡ length (h x)) →
     flat_map f xs ≡ flat_map h xs → (x : X) → Contains xs x → f x ≡ h x
 same_pieces f h [] l e x c = absurd (Contains-nil x c)
@@ -39,20 +40,25 @@ same_pieces f h (y ∷ ys) l e x c =
     (Contains-cases y ys x c)
 
 module _ (g : Graph) (order : List ℕ) where
+  -- no scenario is before itself
   pub before_irreflexive : (s : Scenario) → is_before g order s s ≡ false
   before_irreflexive s = below_irreflexive (key g order s)
 
+  -- a scenario that is before one that is before a third is before the third
   pub before_transitive : (s t u : Scenario) → is_before g order s t ≡ true → is_before g order t u ≡ true →
       is_before g order s u ≡ true
   before_transitive s t u h k = below_transitive (key g order s) (key g order t) (key g order u) h k
 
+  -- of two scenarios at most one is before the other
   pub before_one_way : (s t : Scenario) → is_before g order s t ≡ true → is_before g order t s ≡ false
   before_one_way s t h = below_one_way (key g order s) (key g order t) h
 
+  -- what is not before a scenario that is not before a third is not before the third
   pub not_before_transitive : (s t u : Scenario) → is_before g order t s ≡ false → is_before g order u t ≡ false →
       is_before g order u s ≡ false
   not_before_transitive s t u h k = not_below_transitive (key g order s) (key g order t) (key g order u) h k
 
+  -- if neither of two scenarios is before the other, they have the same key
   pub same_keys : (s t : Scenario) → is_before g order s t ≡ false → is_before g order t s ≡ false →
       key g order s ≡ key g order t
   same_keys s t h k = below_total (key g order s) (key g order t) h k
@@ -64,6 +70,7 @@ piece : Graph → Scenario → ℕ → List ℕ
 piece g s p = fault_of s p ∷ value_in_key s.values (condition_of g p)
 
 module _ (g : Graph) (s t : Scenario) where
+  -- a key in which the value is no less is not below, if its rest is not below
   not_below_value : (o : Option ℕ) (xs ys : List ℕ) →
       ((c : ℕ) → o ≡ Some c → number_of_value (get_or s.values c false) ≤ number_of_value (get_or t.values c false)) →
       is_below xs ys ≡ false →
@@ -72,7 +79,7 @@ module _ (g : Graph) (s t : Scenario) where
   not_below_value (Some c) xs ys h k = not_below-cons (number_of_value (get_or t.values c false))
       (number_of_value (get_or s.values c false)) xs ys (h c refl) k
 
-  -- for every order
+  -- under every order, a scenario with no count and no value lower than another's is not before it
   pub not_before_by_parts : (order : List ℕ) → ((p : ℕ) → fault_of s p ≤ fault_of t p) →
       ((p c : ℕ) → condition_of g p ≡ Some c → number_of_value (get_or s.values c false)
       ≤ number_of_value (get_or t.values c false)) → is_before g order t s ≡ false
@@ -82,6 +89,7 @@ module _ (g : Graph) (s t : Scenario) where
       (f p)
       (not_below_value (condition_of g p) (key g ps t) (key g ps s) (v p) (not_before_by_parts ps f v))
 
+  -- a scenario with no variable's number lower than another's is not before that one
   pub not_before : (order : List ℕ) → process_count g ≤ 128 → IsScenario g s →
       ((v : ℕ) → IsVariable g v → number_of s v ≤ number_of t v) →
       is_before g order t s ≡ false
@@ -99,6 +107,7 @@ module _ (g : Graph) (s t : Scenario) where
 
 -- ---- scenarios with one key are one
 
+-- given two scenarios with the same key
 module _ (g : Graph) (order : List ℕ) (all : IsPermutation (numbers_below (process_count g)) order) (s t : Scenario)
     (i : IsScenario g s) (j : IsScenario g t)
     (same : key g order s ≡ key g order t) where
@@ -139,10 +148,11 @@ module _ (g : Graph) (order : List ℕ) (all : IsPermutation (numbers_below (pro
           (subst (λ o. fault_of s (process_of g c) ∷ value_in_key s.values o
           ≡ fault_of t (process_of g c) ∷ value_in_key t.values o) is e)
 
+  -- the two scenarios are the same
   pub same_scenario : s ≡ t
   same_scenario = ap₂ (λ vs fs. let r : Scenario = record { values = vs; faults = fs } in r) same_values same_faults
 
--- neither is before the other: they are one
+-- two scenarios of which neither is before the other are the same
 pub before_total : (g : Graph) (order : List ℕ) → IsPermutation (numbers_below (process_count g)) order →
     (s t : Scenario) → IsScenario g s → IsScenario g t →
     is_before g order s t ≡ false →
@@ -151,6 +161,7 @@ before_total g order all s t i j h k = same_scenario g order all s t i j (same_k
 
 -- ---- the least scenario of a fact
 
+-- a fact has at most one least scenario
 pub one_least : (g : Graph) (order : List ℕ) → IsPermutation (numbers_below (process_count g)) order →
     (fact : Scenario → Type 0) (s t : Scenario) → IsLeast g order fact s →
     IsLeast g order fact t →

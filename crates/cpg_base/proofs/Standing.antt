@@ -15,16 +15,21 @@ pub record AreWritten (order places : List ℕ) (k : ℕ) : Type 0 where
   pub long : length places ≡ length order
   pub there : (j : ℕ) → j < k → get_or places (get_or order j 0) 0 ≡ j
 
+-- given an order of processes
 module _ (order : List ℕ) (lawful : IsOrder order) where
+  -- each process has a place in the order
   pub place_within : (p : ℕ) → p < length order → place order p < length order
   place_within p h = place-lt order p (Contains-order (length order) order lawful.all p h)
 
+  -- at the place of a process stands the process
   pub at_place : (p : ℕ) → p < length order → get_or order (place order p) 0 ≡ p
   at_place p h = get_or-place order p 0 (Contains-order (length order) order lawful.all p h)
 
+  -- at each place of the order stands a process
   pub process_within : (k : ℕ) → k < length order → get_or order k 0 < length order
   process_within k h = from_order (length order) order lawful.all (get_or order k 0) (Contains-get_or order k 0 h)
 
+  -- the place of the process at a place is that place
   pub place_at : (k : ℕ) → k < length order → place order (get_or order k 0) ≡ k
   place_at k h =
       let p = process_within k h in
@@ -33,6 +38,7 @@ module _ (order : List ℕ) (lawful : IsOrder order) where
 
   -- ---- writing down the places of one process after another
 
+  -- the place of the next process is written down
   pub written_more : (places : List ℕ) (k : ℕ) → k < length order → AreWritten order places k →
       AreWritten order (set places (get_or order k 0) k) (k + 1)
   written_more places k h w = record {
@@ -45,6 +51,7 @@ module _ (order : List ℕ) (lawful : IsOrder order) where
     ];
   }
 
+  -- once all are written down, the places are those of the order
   pub all_written : (places : List ℕ) → AreWritten order places (length order) → ArePlaces order places
   all_written places w = record {
     lawful = lawful;

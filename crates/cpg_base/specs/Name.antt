@@ -6,6 +6,7 @@ abbrev pub is_name_byte : ℕ → Bool
 is_name_byte b = (nat_le 65 b && nat_le b 90) || (nat_le 97 b && nat_le b 122) || (nat_le 48 b && nat_le b 57)
     || (b == 95) || (b == 45) || (b == 46)
 
+-- a text of 1 to 32 such bytes
 pub record IsName (bytes : List ℕ) : Type 0 where
   pub some : 1 ≤ length bytes
   pub short : length bytes ≤ 32

@@ -1,4 +1,4 @@
-//! How processes come to be active.
+//! How processes become active.
 ghost use Rattle.std.specs.Prelude.{◌≡◌};
 ghost use Rattle.cpg_base.specs.Activity.{is_active};
 

@@ -5,8 +5,8 @@ ghost use Rattle.cpg_base.specs.Scenario.{IsScenario, is_before};
 
 use crate::{Order, Problem, Scenario};
 
-/// Whether the first scenario has fewer faults of a process, or as many and its condition false while the other has it
-/// true; `None` if they are alike there.
+/// Whether the first scenario has fewer faults of a process than the second, or as many and its condition is false there
+/// but true in the second. `None` if the two are alike at this process.
 fn at_process(problem: &Problem, process: u32, first: &Scenario, second: &Scenario) -> Option<bool>
     requires process { process < process_count problem.now }
     requires first { IsScenario problem.now first.now }
@@ -17,6 +17,7 @@ fn at_process(problem: &Problem, process: u32, first: &Scenario, second: &Scenar
 {
     let faults = first.fault(process);
     let others = second.fault(process);
+    // fewer faults come first
     if faults != others {
         return Some(faults < others);
     }
@@ -24,6 +25,7 @@ fn at_process(problem: &Problem, process: u32, first: &Scenario, second: &Scenar
         return None;
     };
     let value = first.value(condition);
+    // of two values, false comes first
     if value != second.value(condition) {
         return Some(!value);
     }

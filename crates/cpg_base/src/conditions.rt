@@ -7,7 +7,7 @@ use crate::Edge;
 use crate::limits::{MOST_CONDITIONS, MOST_PROCESSES};
 use std::marker::Model;
 
-/// The processes that have a condition, by number, seen as their list.
+/// The processes that have a condition, by number, seen as a list.
 #[derive(Drop)]
 pub struct Conditions {
     processes: [u32; MOST_CONDITIONS],
@@ -24,7 +24,7 @@ impl Model for Conditions {
     ghost invariant = { λ c. c.count ≤ 32 };
 }
 
-/// Which processes have a conditional output.
+/// For each process number, whether the process has a conditional output.
 fn disjunctions(edges: &[Edge]) -> [bool; MOST_PROCESSES]
     requires { All (λ e. e.from < 128) edges.now }
     ensures { (p : ℕ) → p < 128 → get_or result p false ≡ has_conditional_output edges.now p }
@@ -38,6 +38,7 @@ fn disjunctions(edges: &[Edge]) -> [bool; MOST_PROCESSES]
     found
 }
 
+/// The place of a process in a list, if it is there.
 fn process_index(processes: &[u32], process: u32) -> Option<usize>
     ensures place { result ≡ position (λ other. other == process) processes.now }
     ensures within { IfSome result (λ place. place < length processes.now) }
@@ -56,7 +57,7 @@ impl Conditions {
         }
     }
 
-    /// One more process that has a condition.
+    /// Adds a process that has a condition.
     fn push(&mut self, process: u32)
         requires { length self.old < 32 }
         ensures { self.new ≡ self.old ++ process ∷ [] }
@@ -65,7 +66,7 @@ impl Conditions {
         self.count += 1;
     }
 
-    /// The conditions of so many processes, by number; `None` exactly if there are more than 32.
+    /// The conditions of this many processes, by number; `None` exactly if there are more than 32.
     pub fn of(processes: usize, edges: &[Edge]) -> Option<Conditions>
         requires few { processes ≤ 128 }
         requires sources { All (λ e. e.from < 128) edges.now }
@@ -112,7 +113,7 @@ impl Conditions {
         }
     }
 
-    /// Equal conditions.
+    /// A copy of the conditions.
     pub fn copy(&self) -> Conditions
         ensures { result ≡ self.now }
     {

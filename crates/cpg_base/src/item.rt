@@ -1,6 +1,6 @@
 //! Items: what is scheduled.
 
-/// What is scheduled, each with the number of what it is of.
+/// An item that is scheduled, with the number of its process, edge or condition.
 #[derive(Clone, Copy, Debug, PartialEq, Eq)]
 pub enum Item {
     /// The start of a process.

@@ -6,7 +6,7 @@ use crate::{OutOfMemory, Problem, Scenario};
 use std::alloc::Global;
 use std::marker::Model;
 
-/// The length of the execution of each process, in time units, seen as its list.
+/// The length of the execution of each process, in time units, seen as a list.
 #[derive(Drop)]
 pub struct Lengths {
     lengths: Vec<u64>,
@@ -21,7 +21,7 @@ impl Model for Lengths {
 }
 
 impl Lengths {
-    /// The longest executions of a scenario: of each process its duration with the faults that it has there.
+    /// The longest executions of a scenario: for each process, its duration with its fault count in the scenario.
     pub fn full(
         alloc: Global,
         problem: &Problem,
@@ -55,7 +55,7 @@ impl Lengths {
         self.lengths[process as usize] = time;
     }
 
-    /// Equal lengths.
+    /// A copy of the lengths.
     pub fn copy(&self) -> Result<Lengths, OutOfMemory>
         ensures { IfOk result (λ lengths. lengths ≡ self.now) }
     {

@@ -7,35 +7,38 @@ ghost use Rattle.cpg_base.specs.Limits.{IsProcessWithin, IsSlotWithin, IsEdgeWit
 
 use crate::{Edge, Name, Process, Slot};
 
-/// How many faults a cycle has at most.
+/// The most faults that a cycle may have.
 pub const MOST_FAULTS: u8 = 8;
-/// How many nodes, and how many slots, a graph has at most.
+/// The most nodes, and the most slots, that a graph may have.
 pub const MOST_NODES: usize = 16;
-/// How many processes a graph has at most.
+/// The most processes that a graph may have.
 pub const MOST_PROCESSES: usize = 128;
-/// How many edges a graph has at most.
+/// The most edges that a graph may have.
 pub const MOST_EDGES: usize = 256;
-/// How many conditions a graph has at most.
+/// The most conditions that a graph may have.
 pub const MOST_CONDITIONS: usize = 32;
-/// In how many parts an execution is divided at most.
+/// The most parts that an execution may be divided into.
 pub const MOST_PARTS: u32 = 255;
-/// How many tracks a graph has at most: partial assignments of values to the conditions that come to be decided.
+/// The most tracks that a graph may have. A track gives values to the conditions that come to be decided, and to no
+/// others.
 pub const MOST_TRACKS: u64 = 16_384;
-/// How many columns a row has at most.
+/// The most columns that a row may have.
 pub const MOST_COLUMNS: u64 = 16_384;
-/// How many columns the rows of a node have at most, all together.
+/// The most columns that the rows of all nodes together may have.
 pub const MOST_LOAD: u64 = 524_288;
 /// The greatest time in a graph file, in its time units: a deadline, a release, a cost or the length of a slot.
 pub const LONGEST: u64 = 1_000_000_000;
 /// The greatest size of a message or a slot, in bytes.
 pub const LARGEST: u32 = 65_535;
 
+/// Whether the costs of a fault and of a checkpoint are in range.
 fn are_costs_within(process: &Process) -> bool
     ensures { IsTrue result ↔ ((process.now.alpha ≤ LONGEST) × (process.now.chi ≤ LONGEST) × (process.now.mu ≤ LONGEST)) }
 {
     process.alpha <= LONGEST && process.chi <= LONGEST && process.mu <= LONGEST
 }
 
+/// Whether the release and the deadline of a process, if it has one, are in range.
 fn is_window_within(process: &Process) -> bool
     ensures { IsTrue result ↔ ((process.now.release ≤ LONGEST) × IfSome process.now.deadline (λ d. d ≤ LONGEST)) }
 {
@@ -46,7 +49,7 @@ fn is_window_within(process: &Process) -> bool
     process.release <= LONGEST && due
 }
 
-/// Whether a process is on one of so many nodes, and each of its numbers is in range.
+/// Whether a process is on one of this many nodes, and each of its numbers is in range.
 fn is_process_within(process: &Process, nodes: usize) -> bool
     ensures { IsTrue result ↔ IsProcessWithin nodes process.now }
 {
@@ -59,7 +62,7 @@ fn is_process_within(process: &Process, nodes: usize) -> bool
     are_costs_within(process) && is_window_within(process)
 }
 
-/// Whether a slot is of one of so many nodes, and its numbers are in range.
+/// Whether a slot belongs to one of this many nodes, and its numbers are in range.
 fn is_slot_within(slot: &Slot, nodes: usize) -> bool
     ensures { IsTrue result ↔ IsSlotWithin nodes slot.now }
 {
@@ -69,7 +72,7 @@ fn is_slot_within(slot: &Slot, nodes: usize) -> bool
     1 <= slot.bytes && slot.bytes <= LARGEST
 }
 
-/// Whether an edge is between two of so many processes, and its size is in range.
+/// Whether an edge is between two of this many processes, and its size is in range.
 fn is_edge_within(edge: &Edge, processes: usize) -> bool
     ensures { IsTrue result ↔ IsEdgeWithin processes edge.now }
 {
@@ -102,12 +105,14 @@ pub fn are_edges_within(edges: &[Edge], processes: usize) -> bool
     edges.iter().all(|edge| is_edge_within(edge, processes))
 }
 
+/// Whether a name is one of these.
 fn has_name(names: &[Name], name: &Name) -> bool
     ensures { result ≡ list_any (bytes_eq name.now) names.now }
 {
     names.iter().any(|other| name.as_str() == other.as_str())
 }
 
+/// Whether no two of these names are equal.
 fn names_differ(names: &[Name]) -> bool
     ensures { result ≡ are_apart bytes_eq names.now }
 {
@@ -120,6 +125,7 @@ fn names_differ(names: &[Name]) -> bool
     names_differ(rest)
 }
 
+/// Whether one of these processes has the name.
 fn has_process(processes: &[Process], name: &Name) -> bool
     ensures { result ≡ list_any (λ q. bytes_eq name.now q.name) processes.now }
 {
@@ -128,6 +134,7 @@ fn has_process(processes: &[Process], name: &Name) -> bool
         .any(|other| name.as_str() == other.name.as_str())
 }
 
+/// Whether no two of these processes have the same name.
 fn processes_differ(processes: &[Process]) -> bool
     ensures { result ≡ are_apart (λ p q. bytes_eq p.name q.name) processes.now }
 {
@@ -140,12 +147,14 @@ fn processes_differ(processes: &[Process]) -> bool
     processes_differ(rest)
 }
 
+/// Whether one of these slots belongs to the node.
 fn has_slot(slots: &[Slot], node: u32) -> bool
     ensures { result ≡ list_any (λ t. node == t.node) slots.now }
 {
     slots.iter().any(|other| node == other.node)
 }
 
+/// Whether no two of these slots belong to the same node.
 fn slots_differ(slots: &[Slot]) -> bool
     ensures { result ≡ are_apart (λ s t. s.node == t.node) slots.now }
 {

@@ -24,12 +24,14 @@ impl Model for Name {
     ghost invariant = { λ n. IsName (string_bytes n.text) };
 }
 
+/// Whether a name may have this byte.
 fn is_name_byte(byte: u8) -> bool
     ensures { result ≡ is_name_byte byte }
 {
     matches!(byte, b'A'..=b'Z' | b'a'..=b'z' | b'0'..=b'9' | b'_' | b'-' | b'.')
 }
 
+/// Whether a text is a name.
 fn is_name(text: &[u8]) -> bool
     ensures { IsTrue result ↔ IsName text.now }
 {
@@ -58,7 +60,7 @@ impl Name {
         self.text.as_str()
     }
 
-    /// An equal name.
+    /// A copy of the name.
     pub fn copy(&self) -> Result<Name, OutOfMemory>
         ensures { IfOk result (λ name. name ≡ self.now) }
     {

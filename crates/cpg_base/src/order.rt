@@ -23,7 +23,7 @@ impl Model for Order {
     ghost invariant = { λ o. ArePlaces o.processes.items o.places.items };
 }
 
-/// At each process number, the place of the process.
+/// For each process number, the place of the process.
 fn places_of(processes: &Vec<u32>) -> Result<Vec<u32>, OutOfMemory>
     requires { IsOrder processes.now.items }
     ensures { IfOk result (λ places. ArePlaces processes.now.items places.items) }
@@ -36,7 +36,7 @@ fn places_of(processes: &Vec<u32>) -> Result<Vec<u32>, OutOfMemory>
 }
 
 impl Order {
-    /// The order of this list, each of the numbers below its length once.
+    /// The order of this list, which has each of the numbers below its length once.
     pub fn new(processes: Vec<u32>) -> Result<Order, OutOfMemory>
         requires { IsOrder processes.items }
         ensures { IfOk result (λ order. order ≡ processes.items) }
@@ -83,7 +83,7 @@ impl Order {
         self.processes[at as usize]
     }
 
-    /// An equal order.
+    /// A copy of the order.
     pub fn copy(&self) -> Result<Order, OutOfMemory>
         ensures { IfOk result (λ order. order ≡ self.now) }
     {

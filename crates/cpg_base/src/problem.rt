@@ -58,7 +58,7 @@ impl Model for Problem {
     } in IsWithinLimits g × (p.conditions ≡ disjunctions g) };
 }
 
-/// Whether there are few enough of each, and the single numbers are in range.
+/// Whether there are few enough of each kind of part, and the fault number and the deadline are in range.
 fn are_counts_within(
     faults: u8,
     deadline: u64,
@@ -157,7 +157,7 @@ impl Problem {
         })
     }
 
-    /// The graph of these parts, which were judged before. It gives no order.
+    /// The graph of these parts, which are known to be within the limits. It gives no order.
     pub fn of(
         faults: u8,
         deadline: u64,
@@ -297,7 +297,7 @@ impl Problem {
         self.conditions.processes()[condition as usize]
     }
 
-    /// The longest time of an execution with so many faults: its work, then for each part a detection and a checkpoint,
+    /// The longest time of an execution with this many faults: its work, then for each part a detection and a checkpoint,
     /// and for each fault a recovery and one part with its detection once more.
     pub fn duration(&self, process: u32, faults: u8) -> u64
         requires process { process < process_count self.now }
@@ -337,7 +337,7 @@ impl Problem {
         }
     }
 
-    /// An equal problem.
+    /// A copy of the graph.
     pub fn copy(&self) -> Result<Problem, OutOfMemory>
         ensures { IfOk result (λ problem. problem ≡ self.now) }
     {

@@ -24,7 +24,7 @@ pub struct Process {
     pub chi: u64,
     /// The time to recover from a fault.
     pub mu: u64,
-    /// Whether it is a conjunction process, which one live input is enough to start.
+    /// Whether it is a conjunction process, which starts with one live input.
     pub join: bool,
     /// Whether it starts at one time in all scenarios in which it is active.
     pub frozen: bool,
@@ -61,7 +61,7 @@ pub struct Slot {
 }
 
 impl Process {
-    /// The longest time of an execution with so many faults.
+    /// The longest time of an execution with this many faults.
     pub fn duration(&self, faults: u8) -> u64
         requires within { (nodes : ℕ) × IsProcessWithin nodes self.now }
         requires faults { faults ≤ 8 }
@@ -73,7 +73,7 @@ impl Process {
         self.wcet + checked + u64::from(faults) * again
     }
 
-    /// An equal process.
+    /// A copy of the process.
     pub fn copy(&self) -> Result<Process, OutOfMemory>
         ensures { IfOk result (λ process. process ≡ self.now) }
     {

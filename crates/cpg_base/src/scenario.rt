@@ -25,6 +25,7 @@ impl Model for Scenario {
     ghost invariant = { λ s. (length s.values.items ≤ 32) × (length s.faults.items ≤ 128) };
 }
 
+/// The sum of these fault counts.
 fn total_of(faults: &[u8]) -> u32
     requires { length faults.now ≤ 128 }
     ensures { result ≡ sum faults.now }
@@ -33,7 +34,7 @@ fn total_of(faults: &[u8]) -> u32
 }
 
 impl Scenario {
-    /// No faults, and every value false.
+    /// The scenario without faults, in which every value is false.
     pub fn zero(alloc: Global, problem: &Problem) -> Result<Scenario, OutOfMemory>
         ensures { IfOk result (λ s. s ≡ zero_scenario problem.now) }
     {
@@ -50,7 +51,7 @@ impl Scenario {
         self.values[condition as usize]
     }
 
-    /// How often a process fails.
+    /// The fault count of a process.
     pub fn fault(&self, process: u32) -> u8
         requires { process < length self.now.faults }
         ensures { result ≡ fault_of self.now process }
@@ -93,7 +94,7 @@ impl Scenario {
         total_of(self.faults.as_slice())
     }
 
-    /// An equal scenario.
+    /// A copy of the scenario.
     pub fn copy(&self) -> Result<Scenario, OutOfMemory>
         ensures { IfOk result (λ s. s ≡ self.now) }
     {

@@ -1,11 +1,11 @@
-//! Variables: what a scenario gives a number to.
+//! Variables: a scenario gives a number to each.
 ghost use Rattle.std.specs.Prelude.{◌≡◌};
 ghost use Rattle.cpg_base.specs.Variable.{variable_at, number_of_variable, top, top_of};
 
 /// The number of the first variable that is a condition's value; those below are the fault counts of processes.
 pub const FIRST_VALUE: u8 = 128;
 
-/// What a variable is, with the number of what it is of.
+/// What a variable is, with the number of its process or condition.
 #[derive(Clone, Copy, Debug, PartialEq, Eq)]
 pub enum Variable {
     /// The fault count of a process.

@@ -17,9 +17,12 @@ use Rattle.cpg_run.proofs.Rising.{bound, AreLow, unfrozen_low}
 use Rattle.cpg_run.proofs.RunExists.{a_run}
 use Rattle.cpg_run.proofs.RunUnique.{agree_before, unfrozen_same}
 
+-- given: the frozen times of an order
+-- `within`: the graph is within the limits; `order`, `topological`: its order; `frozen`, `are`: that order's frozen
+-- times
 module _ (g : Graph) (within : IsWithinLimits g) (order : List ℕ) (topological : IsTopological g order)
     (frozen : List (Option ℕ)) (are : AreFrozenTimes g order frozen) where
-  -- the time of an item before a moment
+  -- the frozen time of an item, if that is before a moment
   abbrev cut_at : ℕ → ℕ → Option ℕ
   cut_at m x = cond (ltb (moment g order x) m) (get_or frozen x None) None
 
@@ -40,7 +43,7 @@ module _ (g : Graph) (within : IsWithinLimits g) (order : List ℕ) (topological
   frozen_if x time e =
       elim (cases_Bool (is_frozen g x)) [ inl f ↦ f | inr f ↦ absurd (none-some time (sym (are.others x f) ∙ e)) ]
 
-  -- a frozen time is low if those before it are
+  -- a frozen time is low if the frozen times before it are
   low_by : (m x time : ℕ) → AreLow 0 g order (cut m) → x < item_count g → moment g order x ≤ m →
       get_or frozen x None ≡ Some time →
       time ≤ bound 0 (moment g order x) + 32000000000
@@ -66,6 +69,7 @@ module _ (g : Graph) (within : IsWithinLimits g) (order : List ℕ) (topological
     ];
   }
 
+  -- they are early
   pub frozen_early : AreEarly frozen
   frozen_early = early_from_low g order frozen within topological are.count
       (record { low = λ x time l e. low_by (moment g order x) x time (low_cut (moment g order x)) l (omega arith) e })

@@ -23,8 +23,9 @@ use Rattle.cpg_run.proofs.RunExists.{a_run}
 use Rattle.cpg_run.proofs.RunUnique.{run_unique}
 use Rattle.cpg_run.proofs.Runs.{has_time}
 
+-- given: an admitted graph, and the frozen times of an order
 module _ (g : Graph) (urgency order : List ℕ) (frozen : List (Option ℕ)) (timed : IsTimed g urgency order frozen) where
-  -- two scenarios are one or not
+  -- two scenarios are the same or not
   one_or_two : (s t : Scenario) → IsScenario g s → IsScenario g t → (s ≡ t) ⊎ (s ≢ t)
   one_or_two s t a b = elim (cases_Bool (is_before g urgency s t)) [
     | inl before ↦ inr (λ e. both_ways (is_before g urgency s t)
@@ -36,6 +37,7 @@ module _ (g : Graph) (urgency order : List ℕ) (frozen : List (Option ℕ)) (ti
     ]
   ]
 
+  -- given: the rows of the items before this one
   module _ (rows : List (List Column)) (x : ℕ) (l : x < item_count g) (earlier : AreRowsFor g order frozen x rows) where
     -- an entry is that of the least scenario of its cube
     abbrev pub IsOwn : Column → Type 0
@@ -77,13 +79,16 @@ module _ (g : Graph) (urgency order : List ℕ) (frozen : List (Option ℕ)) (ti
       ]
     ]
 
-    -- entries for these scenarios
+    -- entries for a list of scenarios: for each one in which the item is active, some entry has the lows of its own
+    -- cube
     pub record AreOver (ss : List Scenario) (es : List Column) : Type 0 where
       pub own : (e : Column) → Contains es e → IsOwn e
       pub apart : AllPairs IsApart es
       pub all : (s : Scenario) → Contains ss s → item_active g s.values (item_at g x) ≡ true →
           Contains (map (λ (d : Column). lows g d.cube) es) (lows g (own_cube s))
 
+    -- by induction on the scenarios: an inactive one adds nothing, an active one adds its own entry, unless an entry
+    -- with the same least scenario is there already
     entries_over : (ss : List Scenario) → ((s : Scenario) → Contains ss s → IsScenario g s) →
         (es : List Column) × AreOver ss es
     entries_over [] law = (
@@ -97,6 +102,7 @@ module _ (g : Graph) (urgency order : List ℕ) (frozen : List (Option ℕ)) (ti
     entries_over (s ∷ ss) law =
         let rest = entries_over ss (λ t c. law t (Contains-rest s ss t c)) in
         elim (cases_Bool (item_active g s.values (item_at g x))) [
+          -- the item isn't active in this scenario, so the entries of the others do
           | inr off ↦ (
             rest.0,
             record {
@@ -109,8 +115,10 @@ module _ (g : Graph) (urgency order : List ℕ) (frozen : List (Option ℕ)) (ti
               ];
             },
           )
+          -- the item is active: its own entry there is compared with those of the other scenarios
           | inl on ↦ let e = own_entry s (law s (Contains-first s ss)) on in
               elim (there_or_not rest.0 rest.1.own (lows g e.0.cube) e.1.lawful) [
+                -- the entry is there already
                 | inl there ↦ (
                   rest.0,
                   record {
@@ -125,6 +133,7 @@ module _ (g : Graph) (urgency order : List ℕ) (frozen : List (Option ℕ)) (ti
                     ];
                   },
                 )
+                -- the entry is new, so it is put in front
                 | inr none ↦ (
                   e.0 ∷ rest.0,
                   record {
@@ -145,6 +154,7 @@ module _ (g : Graph) (urgency order : List ℕ) (frozen : List (Option ℕ)) (ti
               ]
         ]
 
+    -- the item has entries
     pub entries_exist : (entries : List Column) × AreEntriesOf g order frozen rows x entries
     entries_exist =
         let r = entries_over (scenarios g) (scenario_lawful g) in (

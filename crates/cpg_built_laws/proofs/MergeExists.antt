@@ -24,6 +24,7 @@ use Rattle.cpg_merging.proofs.MergingSteps.{shorn_columns}
 
 -- ---- a sort by a test whether one element is after another
 
+-- given: a test that is not true both ways and, where it is false, goes through
 module _ {X : Type 0} (is_after : X → X → Bool)
     (one_way : (x y : X) → is_after x y ≡ true → is_after y x ≡ false)
     (chain : (x y z : X) → is_after x y ≡ false → is_after y z ≡ false → is_after x z ≡ false) where
@@ -37,13 +38,15 @@ module _ {X : Type 0} (is_after : X → X → Bool)
   not_true : (b : Bool) → b ≡ false → not b ≡ true
   not_true b e = ap not e
 
-  -- the elements, none of them after a later one
+  -- the elements in an order in which none is after a later one
   abbrev pub in_order : List X → List X
   in_order xs = sorted keeps xs
 
+  -- sorting keeps the elements
   pub permutation_in_order : (xs : List X) → IsPermutation xs (in_order xs)
   permutation_in_order xs = permutation_sorted keeps xs
 
+  -- in the sorted list no element is after a later one
   pub rises_in_order : (xs : List X) → AllPairs ◌≢◌ xs → AllPairs (λ x y. is_after x y ≡ false) (in_order xs)
   rises_in_order xs apart i j d l k = not_false (is_after (get_or (in_order xs) i d) (get_or (in_order xs) j d))
       (rises_sorted keeps (λ (x : X). Unit {0})
@@ -106,6 +109,7 @@ module _ (g : Graph) (few : process_count g ≤ 128) where
             (permutation_in_order (column_after v) (column_one_way v) (column_chain v) xs) is,
       )
 
+  -- going over some variables one after another gives columns that have passed all of them
   pass_over : (first n : ℕ) → ((v : ℕ) → first ≤ v → v < first + n → IsVariable g v) → (xs : List Column) →
       IsShorn g xs →
       (ys : List Column) × IsPassed g (IsBetween first (first + n)) xs ys
@@ -171,6 +175,7 @@ module _ (g : Graph) (few : process_count g ≤ 128) where
     lows_chain c d e h k = not_below_transitive (lows_along g urgency (low_in c.cube))
         (lows_along g urgency (low_in d.cube)) (lows_along g urgency (low_in e.cube)) h k
 
+    -- columns that can be merged have a merge
     pub merge_exists : (entries : List Column) → AreMergeable g entries →
         (columns : List Column) × IsMergeOf g urgency entries columns
     merge_exists entries mergeable =

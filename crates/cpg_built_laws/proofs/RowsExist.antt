@@ -35,6 +35,7 @@ chosen P d (suc n) each =
       ],
     )
 
+-- given: an admitted graph, and the frozen times of an order
 module _ (g : Graph) (urgency order : List ℕ) (frozen : List (Option ℕ)) (timed : IsTimed g urgency order frozen) where
   -- the rows of the items from processes before a place
   pub record AreRowsTo (i : ℕ) (rows : List (List Column)) : Type 0 where
@@ -69,6 +70,7 @@ module _ (g : Graph) (urgency order : List ℕ) (frozen : List (Option ℕ)) (ti
       )
     ]
 
+    -- rows up to the next place: those of the place's items are made of the rows before, all others stay as they are
     next_rows : (next : List (List Column)) × AreRowsTo (i + 1) next
     next_rows =
         let r = chosen IsNext [] (item_count g) next_row in
@@ -103,6 +105,7 @@ module _ (g : Graph) (urgency order : List ℕ) (frozen : List (Option ℕ)) (ti
       let s = next_rows i r.0 r.1 in
       (s.0, record { count = s.1.count; each = λ x l h. s.1.each x l (omega (arith, h)) })
 
+  -- there are rows of all items
   pub rows_exist : (rows : List (List Column)) × AreRows g urgency order frozen rows
   rows_exist =
       let r = rows_to (process_count g) in (

@@ -37,6 +37,7 @@ items_same row (x ∷ xs) each =
 
 -- ---- tables of rows
 
+-- given: rows that can be written, of a graph within the limits
 module _ (g : Graph) (within : IsWithinLimits g) (formed : WellFormed g) (rows : List Row)
     (w : AreWritable g rows) where
   -- the table of a node
@@ -50,6 +51,7 @@ module _ (g : Graph) (within : IsWithinLimits g) (formed : WellFormed g) (rows :
     hears = map (heard_row g rows) (hears_of (head_of g) node);
   }
 
+  -- the table made for a node has the node's head and the rows of its items
   table_with : (node : ℕ) → node < length g.nodes → IsTableWith g rows node (table_of node)
   table_with node l =
       let are : AreRowsOf (head_of g) node (rows_of_items g rows (lists_of (head_of g) node)) =
@@ -82,6 +84,7 @@ module _ (g : Graph) (within : IsWithinLimits g) (formed : WellFormed g) (rows :
   abbrev pub written : Tables
   written = record { head = head_of g; nodes = nodes }
 
+  -- the tables that are written of them have these rows
   pub is_written : AreTablesWith g rows written
   is_written = tables_with g within formed rows w nodes are_nodes written refl refl
 
@@ -91,7 +94,7 @@ module _ (g : Graph) (within : IsWithinLimits g) (formed : WellFormed g) (rows :
 abbrev numbered_row : List (List Column) → ℕ → Row
 numbered_row columns x = record { item = x; columns = row_at columns x }
 
--- rows by number with these columns
+-- the rows with these columns, by number
 abbrev numbered : List (List Column) → List Row
 numbered columns = map (numbered_row columns) (numbers_below (length columns))
 
@@ -110,6 +113,7 @@ numbered_columns columns =
     ∙ ap (λ (r : Row). r.columns)
     (get_or-map-below (numbered_row columns) (length columns) k blank (omega (arith, l, count, long))))
 
+-- under each topological order in which no item is too wide there are tables
 pub tables_exist : TablesExist
 tables_exist g urgency order guards frozen admitted topological narrow times =
     let timed : IsTimed g urgency order frozen =

@@ -22,12 +22,14 @@ use Rattle.cpg_bus.specs.Plan.{broadcasts_of, queue_of}
 
 -- ---- lists in which each element is so to each later one
 
+-- a map of a list rises if the list rises by what it gives
 Rises-map : {X Y : Type 0} (R : Y → Y → Type 0) (f : X → Y) (xs : List X) → Rises (λ a b. R (f a) (f b)) xs →
     Rises R (map f xs)
 Rises-map R f [] h = tt
 Rises-map R f (x ∷ xs) h =
     (λ y k. let r = Contains-map_parts f xs y k in subst (R (f x)) r.2 (h.0 r.0 r.1), Rises-map R f xs h.1)
 
+-- in a list that rises, each place is related to each later one
 at_places : (R : ℕ → ℕ → Type 0) (xs : List ℕ) → Rises R xs → (i j d : ℕ) → i < j → j < length xs →
     R (get_or xs i d) (get_or xs j d)
 at_places R [] h i j d l m = absurd (omega arith)
@@ -38,6 +40,7 @@ at_places R (x ∷ xs) h (suc i) (suc j) d l m = at_places R xs h.1 i j d (omega
 
 -- the first k elements of a list that rises by a rank are those below the k-th
 module _ (rank : ℕ → ℕ) (xs : List ℕ) (rises : Rises (λ a b. rank a < rank b) xs) (k : ℕ) (inside : k < length xs) where
+  -- each of the first k elements has a lower rank than the k-th
   pub below_first : (y : ℕ) → Contains (take k xs) y → rank y < rank (get_or xs k 0)
   below_first y c =
       let n = length-take k xs in
@@ -45,6 +48,7 @@ module _ (rank : ℕ → ℕ) (xs : List ℕ) (rises : Rises (λ a b. rank a < r
       let at : get_or xs c.0 0 ≡ y = get_or_default xs c.0 0 y (omega arith) ∙ sym (get_or-take k xs c.0 y l) ∙ c.2 in
       subst (λ z. rank z < rank (get_or xs k 0)) at (at_places (λ a b. rank a < rank b) xs rises c.0 k 0 l inside)
 
+  -- each element with a lower rank than the k-th is one of the first k
   pub in_first : (y : ℕ) → Contains xs y → rank y < rank (get_or xs k 0) → Contains (take k xs) y
   in_first y c less =
       let at : get_or xs c.0 0 ≡ y = get_or_default xs c.0 0 y c.1 ∙ c.2 in
@@ -55,6 +59,7 @@ module _ (rank : ℕ → ℕ) (xs : List ℕ) (rises : Rises (λ a b. rank a < r
       ]
 
 module _ (g : Graph) where
+  -- the rank of the item that has this number
   abbrev pub rank_at : ℕ → ℕ
   rank_at x = rank_of_item (item_at g x)
 
@@ -67,6 +72,7 @@ module _ (g : Graph) where
 
   -- ---- what is in it
 
+  -- the broadcast of a process is that of its condition, and there is more than one node
   a_broadcast : (p x : ℕ) (o : Option ℕ) → condition_of g p ≡ o → Contains (broadcasts_of g o) x →
       (c : ℕ) × (c < condition_count g) × (x ≡ broadcast_item g c) × (process_of g c ≡ p) ×
       (ltb 1 (length g.nodes) ≡ true)
@@ -80,6 +86,7 @@ module _ (g : Graph) where
     | inr one ↦ absurd (Contains-nil x (subst (λ xs. Contains xs x) (cond-false _ _ _ one) k))
   ]
 
+  -- the messages of a process are those of its outputs that go over the bus
   a_message : (p x : ℕ) → Contains (map (message_item g) (filter (is_message g) (outputs g p))) x →
       (e : ℕ) × (e < edge_count g) × (x ≡ message_item g e) × (source g e ≡ p) × (is_message g e ≡ true)
   a_message p x k =
@@ -88,6 +95,7 @@ module _ (g : Graph) where
       let o = outputs_parts g p r.0 f.0 in
       (r.0, o.0, sym r.2, o.1, f.1)
 
+  -- all that a process sends is made by it and goes over the bus
   pub in_queue : (p x : ℕ) → Contains (queue_of g p) x → IsSentOf p x
   in_queue p x k = elim (Contains-append_cases (broadcasts_of g (condition_of g p))
       (map (message_item g) (filter (is_message g) (outputs g p))) x k) [
@@ -109,6 +117,7 @@ module _ (g : Graph) where
             }
       ]
 
+  -- each item that goes over the bus is among what its producer sends
   to_queue : (x : ℕ) → x < item_count g → is_sent g x ≡ true → Contains (queue_of g (producer g x)) x
   to_queue x l sent = elim (item_cases g x l) [
     | inl c ↦ absurd (true≢false (sym sent ∙ ap (is_sent_item g) c.1))
@@ -127,11 +136,13 @@ module _ (g : Graph) where
         (subst (λ y. Contains (broadcast_item g c.0 ∷ []) y) (sym c.2) (Contains-first (broadcast_item g c.0) [])))))
   ]
 
+  -- each item that a process makes and that goes over the bus is among what it sends
   pub queue-Contains : (p x : ℕ) → x < item_count g → is_sent g x ≡ true → producer g x ≡ p → Contains (queue_of g p) x
   queue-Contains p x l sent by = subst (λ q. Contains (queue_of g q) x) by (to_queue x l sent)
 
   -- ---- in which order
 
+  -- the messages and the broadcast of a process rise by rank
   messages_rise : (p : ℕ) →
       Rises (λ a b. rank_at a < rank_at b) (map (message_item g) (filter (is_message g) (outputs g p)))
   messages_rise p = Rises-map (λ a b. rank_at a < rank_at b) (message_item g) (filter (is_message g) (outputs g p))
@@ -159,6 +170,7 @@ module _ (g : Graph) where
       go true = (λ y k. absurd (Contains-nil y k), tt)
       go false = tt
 
+  -- what a process sends rises by rank
   pub queue_rises : (p : ℕ) → Rises (λ a b. rank_at a < rank_at b) (queue_of g p)
   queue_rises p = Rises-append (λ a b. rank_at a < rank_at b) (broadcasts_of g (condition_of g p))
       (map (message_item g) (filter (is_message g) (outputs g p)))

@@ -10,6 +10,7 @@ use Rattle.cpg_base.proofs.Bounds.{round-le}
 use Rattle.cpg_base.proofs.Slots.{slot_place-lt}
 use Rattle.cpg_bus.specs.Share.{HasSlot, ShareState, IsShare, share_of}
 
+-- in a graph within the limits, the slot of a node that has one takes time and lies in the round
 pub is_share : (g : Graph) (node : ℕ) → IsWithinLimits g → HasSlot g node → IsShare (share_of g node)
 is_share g node within has =
     let l = slot_place-lt g node has in
@@ -24,19 +25,25 @@ is_share g node within has =
     }
 
 -- where a node's slot lies in the round, as code finds it
+-- `found`, `is`: the place of the node's slot among the slots, if it has one; `slots`, `same`: the slots, as code
+-- reads them
+-- `place`, `at`: that place, or 0
 module _ (g : Graph) (node place : ℕ) (found : Option ℕ) (slots : List Slot) (same : slots ≡ g.slots)
     (is : found ≡ position (λ (s : Slot). s.node == node) slots)
     (at : place ≡ unwrap_or found 0) where
   place_is : place ≡ slot_place g node
   place_is = at ∙ ap (λ o. unwrap_or o 0) (is ∙ ap (position (λ (s : Slot). s.node == node)) same)
 
+  -- the slots before that place last as long as the node's offset
   pub offset_is : sum_by (λ (s : Slot). s.length) (take place slots) ≡ offset g node
   offset_is = ap₂ (λ k xs. sum_by (λ (s : Slot). s.length) (take k xs)) place_is same
 
+  -- the slot at that place is as long as the node's
   pub length_is : (get_or slots place (record { node = 0; length = 0; bytes = 0 })).length ≡ slot_length g node
   length_is =
       ap₂ (λ k xs. (get_or xs k (let s : Slot = record { node = 0; length = 0; bytes = 0 } in s)).length) place_is same
 
+-- equal numbers are a share if the others are
 pub is_share_of : (s t : ShareState) → s.offset ≡ t.offset → s.length ≡ t.length → s.round ≡ t.round → IsShare t →
     IsShare s
 is_share_of s t a b c is =

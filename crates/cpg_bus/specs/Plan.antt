@@ -1,5 +1,5 @@
--- What is found once for a graph: the edges of each process, what a process sends, in the order of its node's queue,
--- and the nodes' shares of the bus.
+-- The plan of a graph, which is found once: the edges of each process, what a process sends, in the order of its
+-- node's queue, and the nodes' shares of the bus.
 use Rattle.std.specs.Prelude.{ℕ, ◌==◌, if◌then◌else◌, nat_lt, List, [], ◌∷◌, ◌++◌, Option, Some, None, map, filter}
 use Rattle.std.specs.Prelude.{length}
 use Rattle.std.specs.List.{list_any}

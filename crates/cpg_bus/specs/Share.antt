@@ -25,15 +25,18 @@ pub record IsShare (s : ShareState) : Type 0 where
 abbrev pub share_of : Graph → ℕ → ShareState
 share_of g node = record { offset = offset g node; length = slot_length g node; round = round g }
 
--- the j-th start of a slot, then its end, the number of its first start at a time or later, and that start
+-- the j-th start of a slot
 abbrev pub start_of : ShareState → ℕ → ℕ
 start_of s j = j * s.round + s.offset
 
+-- the end of the slot's j-th occurrence
 abbrev pub end_of : ShareState → ℕ → ℕ
 end_of s j = start_of s j + s.length
 
+-- the number of the slot's first start at this time or later
 abbrev pub first_of : ShareState → ℕ → ℕ
 first_of s time = div_ceil (time - s.offset) s.round
 
+-- the slot's first start at this time or later
 abbrev pub next_of : ShareState → ℕ → ℕ
 next_of s time = start_of s (first_of s time)

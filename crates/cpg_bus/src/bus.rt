@@ -1,4 +1,4 @@
-//! The same for one question: each call finds the node's slot first.
+//! The questions of a `Share` for a single call. Each call finds the node's slot first.
 ghost use Rattle.std.specs.Prelude.{◌≡◌, ◌<◌, ◌==◌, ◌^◌};
 ghost use Rattle.cpg_base.specs.Bus.{occurrence, arrival, first_from, next_slot};
 ghost use Rattle.cpg_bus.specs.Share.{HasSlot};
@@ -23,7 +23,7 @@ pub fn first_from(problem: &Problem, node: u32, time: u64) -> u64
     Share::of(problem, node).first_from(time)
 }
 
-/// When a frame is there that a node sends in round `j`: at the end of its slot.
+/// When a frame that a node sends in round `j` arrives: at the end of its slot.
 pub fn arrival(problem: &Problem, node: u32, j: u64) -> u64
     requires slot { HasSlot problem.now node }
     requires early { arrival problem.now node j < 2 ^ 60 }

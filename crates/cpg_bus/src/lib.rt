@@ -1,5 +1,5 @@
-//! When the slots of the bus start and end, and what a process sends, in its order. Times are in the time units of the graph
-//! file; only a plan takes memory.
+//! When the slots of the bus start and end, and what a process sends, in its order. Times are in the time units of the
+//! graph file. Only a plan allocates memory.
 #![tactic(auto)]
 
 mod bus;

@@ -1,4 +1,4 @@
-//! What is found once for a graph: the edges of each process, what it sends, and the shares of the nodes.
+//! The plan of a graph, which is found once: the edges of each process, what it sends, and the shares of the nodes.
 ghost use Rattle.std.specs.Prelude.{◌≡◌, ◌<◌, ◌==◌, IfOk, ℕ, length, map};
 ghost use Rattle.std.specs.List.{list_any};
 ghost use Rattle.cpg_base.specs.Bus.{round};
@@ -29,6 +29,7 @@ impl Model for ItemList {
 }
 
 impl ItemList {
+    /// The items as a slice.
     fn as_slice(&self) -> &[u32]
         ensures { result.now ≡ self.now }
     {
@@ -60,9 +61,11 @@ fn broadcasts(alloc: Global, problem: &Problem, process: u32) -> Result<Vec<u32>
     ensures { IfOk result (λ items. items.items ≡ broadcasts_of problem.now (condition_of problem.now process)) }
 {
     let mut items = Vec::new(alloc);
+    // no condition, so no broadcast
     let Some(condition) = problem.condition_of(process) else {
         return Ok(items);
     };
+    // no other node hears it
     if problem.nodes().len() <= 1 {
         return Ok(items);
     }
@@ -148,7 +151,7 @@ impl Plan {
         })
     }
 
-    /// The edges that lead to a process. The contract alone names `problem`.
+    /// The edges that lead to a process. Only the contract uses `problem`.
     pub fn inputs(&self, problem: &Problem, process: u32) -> &[u32]
         requires plan { self.now ≡ plan_of problem.now }
         requires process { process < process_count problem.now }
@@ -158,7 +161,7 @@ impl Plan {
         inputs
     }
 
-    /// The items that a process sends. The contract alone names `problem`.
+    /// The items that a process sends. Only the contract uses `problem`.
     pub fn queue(&self, problem: &Problem, process: u32) -> &[u32]
         requires plan { self.now ≡ plan_of problem.now }
         requires process { process < process_count problem.now }
@@ -177,6 +180,7 @@ impl Plan {
     {
         match self.shares[node as usize] {
             Some(share) => share,
+            // a node with a slot has its share in the plan; this one would be equal to it
             None => Share::of(problem, node),
         }
     }
@@ -186,7 +190,7 @@ impl Plan {
         requires { self.now ≡ plan_of problem.now }
         ensures { result ≡ round problem.now }
     {
-        // that the graph is within its limits is told with its slots
+        // the contract of `slots` says that the graph is within its limits
         let _slots = problem.slots();
         self.round
     }

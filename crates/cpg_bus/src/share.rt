@@ -5,8 +5,8 @@ ghost use Rattle.cpg_bus.specs.Share.{HasSlot, IsShare, share_of, start_of, end_
 use cpg_base::{Problem, Slot};
 use std::marker::Model;
 
-/// Where a node's slot lies in the round of the bus, found once for many questions. Seen as the slot's start in the round,
-/// its length and the round's length.
+/// Where a node's slot lies in the round of the bus, found once for many questions. It is seen as the slot's start in the
+/// round, its length and the round's length.
 #[derive(Clone, Copy, Debug, PartialEq, Eq)]
 pub struct Share {
     offset: u64,
@@ -80,7 +80,7 @@ impl Share {
         j * self.round + self.offset
     }
 
-    /// When the slot of round `j` ends, and a frame in it is there.
+    /// When the slot of round `j` ends, which is when a frame in it arrives.
     pub fn arrival(&self, j: u64) -> u64
         requires { end_of self.now j < 2 ^ 60 }
         ensures { result ≡ end_of self.now j }
@@ -106,6 +106,7 @@ impl Share {
     /// Whether the slot starts at the time.
     pub(crate) fn is_start(&self, time: u64) -> bool
         ensures { result ≡ (next_of self.now time == time) }
+    // before the first slot
     {
         if time < self.offset {
             return false;

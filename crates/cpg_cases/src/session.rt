@@ -101,6 +101,7 @@ impl Session {
     fn note(&mut self, rt: &HostRuntime, got: &Outcome) -> Result<(), Stopped> {
         print_outcome(rt, got, self.next.lines)?;
         self.wrote = Vec::from_slice(rt.alloc(), got.out.taken())?;
+        // room, failing call and lines are for one run alone
         self.next = USUAL;
         Ok(())
     }
@@ -116,6 +117,7 @@ impl Session {
             "rooms" => rooms(rt, &mut self.files, words),
             "refusals" => refusals(rt, &mut self.files, words),
             "calls" => calls(rt, &mut self.files, words),
+            // no item has this name, so the list is wrong
             _ => Err(Stopped),
         }
     }
@@ -128,6 +130,7 @@ impl Session {
         words: &[String],
     ) -> Result<(), Stopped> {
         print_words(rt, words)?;
+        // one run, which is printed; all others are sweeps, of which only the counts are
         if item == "run" {
             return self.run(rt, words);
         }
@@ -169,6 +172,7 @@ impl Session {
             "fail" => self.fail(rest),
             "first" => self.first(rest),
             "parts" => self.parts(rt, rest),
+            // all other items run words
             _ => self.take_run(rt, item, rest),
         }
     }
@@ -177,11 +181,13 @@ impl Session {
     pub fn take(&mut self, rt: &HostRuntime, line: &str) -> Result<(), Stopped> {
         let (item, rest) = line.split_once(' ').unwrap_or((line, ""));
         match item {
+            // a title: it is printed behind an empty line
             "case" => Ok(println!(rt; "\n{rest}")?),
             "feeds" => self.feeds(rt.alloc(), rest),
             "edit" => self.edit(rt, rest),
             "set" => self.set(rt, rest),
             "keep" => self.keep(rest),
+            // all other items set something of the next run, or run words
             _ => self.take_setting(rt, item, rest),
         }
     }

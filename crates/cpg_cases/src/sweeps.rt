@@ -33,6 +33,7 @@ fn rooms_below(
     written: &[u8],
 ) -> Result<Sweep, Stopped> {
     let mut sweep = Sweep::none();
+    // each room from none up to one byte too few
     for out in 0..written.len() {
         let got = run_words(rt, files, words, RunSetting { out, ..USUAL })?;
         sweep.count(got.is(3, &written[..out], b"cpgc: write fault\n"));
@@ -58,6 +59,7 @@ fn refusals_below(
     line: &[u8],
 ) -> Result<Sweep, Stopped> {
     let mut sweep = Sweep::none();
+    // each room from none up to one byte too few
     for err in 0..line.len() {
         let got = run_words(rt, files, words, RunSetting { err, ..USUAL })?;
         sweep.count(got.is(3, &[], &line[..err]));
@@ -82,9 +84,11 @@ pub fn calls(
     words: &[String],
 ) -> Result<Sweep, Stopped> {
     let mut sweep = Sweep::none();
+    // a thousand calls are the most that are tried
     for call in 0..1000 {
         let failing = Some(call);
         let got = run_words(rt, files, words, RunSetting { failing, ..USUAL })?;
+        // the call that fails comes after the last one, so every call has been tried
         if got.status == 0 {
             break;
         }
@@ -122,6 +126,7 @@ pub fn parts(
     for length in bytes.len().saturating_sub(count)..bytes.len() {
         sweep.count(refuse_part(rt, files, words, name, &bytes[..length])?);
     }
+    // the whole pack is put back for the next item
     files.put(name, bytes)?;
     Ok(sweep)
 }

@@ -226,6 +226,7 @@ one_verdict g order t (No e) Yes along count a b = absurd (faulty_tables g t.nod
 one_verdict g order t (No e) (Other q) along count a b = absurd (other_head g t.head q b a.0)
 one_verdict g order t (No e) (No f) along count a b = ap No (one_fault g t.nodes order e f along a.1 b.1)
 
+-- tables have one verdict: one first difference of the head, or one first violation, or neither
 pub have_one_verdict : HaveOneVerdict
 have_one_verdict = record {
   parts = one_part;

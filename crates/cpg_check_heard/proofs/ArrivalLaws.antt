@@ -45,12 +45,14 @@ module _ (g : Graph) (time : ℕ) (b : LiteralBound) (s : Scenario) where
       (and_from (nat_le (c.time + delay) time) (list_any (tells b) (c.cube ++ value_fact s o)) come
       (list_any-append (tells b) c.cube (value_fact s o) ∙ ap (λ t. t || list_any (tells b) (value_fact s o)) told))
 
+  -- with one column more, the columns tell what they told before or what that one tells
   pub tell_push : (xs : List Arrival) (a : Arrival) (at : Bool) → is_telling g a.telling time b s a.column.now ≡ at →
       do_tell g time b (xs ++ a ∷ []) s ≡ (do_tell g time b xs s || at)
   tell_push xs a at e = list_any-append (λ (x : Arrival). is_telling g x.telling time b s x.column.now) xs (a ∷ [])
       ∙ ap (λ t. do_tell g time b xs s || t) (or-false (is_telling g a.telling time b s a.column.now) ∙ e)
 
 module _ (g : Graph) where
+  -- with one column more of known variables, all columns are of known variables
   pub each_push : (xs : List Arrival) (a : Arrival) → All (IsArrival g) xs → IsArrival g a →
       All (IsArrival g) (xs ++ a ∷ [])
   each_push xs a h is = All-append (IsArrival g) xs (a ∷ []) h one
@@ -59,6 +61,7 @@ module _ (g : Graph) where
       one zero d l = is
       one (suc j) d l = absurd (omega arith)
 
+  -- a column found at a place of a row of known variables has known variables
   pub known_column : (columns : List Column) (i : ℕ) (c : Column) → i < length columns →
       ((d : Column) → c ≡ get_or columns i d) → All (λ (d : Column). IsKnown g d.cube) columns →
       IsKnown g c.cube

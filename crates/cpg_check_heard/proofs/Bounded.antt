@@ -48,6 +48,7 @@ module _ {X : Type 0} (p : X → Bool) (f : X → ℕ) (n : ℕ) where
 none_below : (n : ℕ) → nat_le n 0 ≡ (n == 0)
 none_below n = grind (arith, nat_tests)
 
+-- a literal is heard exactly if its low and its high are each free or told
 pub heard_is : (k : ℕ) (known : List Literal) (l : Literal) →
     is_heard k known l ≡ ((is_free k (low_of l) || list_any (tells (low_of l)) known)
     && (is_free k (high_of l) || list_any (tells (high_of l)) known))

@@ -7,6 +7,7 @@ use Rattle.cpg_base.specs.Duration.{duration}
 use Rattle.cpg_violation.proofs.Durations.{duration_grows}
 
 module _ (g : Graph) (p start time : ℕ) (come : start ≤ time) where
+  -- if a count is the first with which the execution ends after the time, it ends by then with just the lower ones
   pub counts_here : (count : ℕ) → ((n : ℕ) → n < count → duration g p n ≤ time - start) →
       time - start < duration g p count
       → (n : ℕ) → n ≤ g.faults → nat_le (start + duration g p n) time ≡ nat_lt n count
@@ -16,6 +17,7 @@ module _ (g : Graph) (p start time : ℕ) (come : start ≤ time) where
         lt-leb (start + duration g p n) time (omega (arith, r)) ∙ sym (le-ltb n count l)
   ]
 
+  -- if it ends by the time with all counts that there may be, all are lower than one more than the faults
   pub counts_all : ((n : ℕ) → n < g.faults + 1 → duration g p n ≤ time - start) → (n : ℕ) → n ≤ g.faults →
       nat_le (start + duration g p n) time ≡ nat_lt n (g.faults + 1)
   counts_all before n l = le-leb (start + duration g p n) time (omega (arith, before n (omega arith)))

@@ -34,6 +34,8 @@ use Rattle.cpg_check_heard.proofs.Facts.{facts_told}
 use Rattle.cpg_check_heard.proofs.Sides.{count_within, end_side, side, variable_within}
 use Rattle.cpg_check_heard.proofs.Untolds.{own_told}
 
+-- tables that keep V1 to V3, a scenario, a node and a time
+-- V1: what matches is active. V2: no two columns of a row match. V3: what is active has a column that matches.
 module _ (g : Graph) (tables : List NodeTable) (few : process_count g ≤ 128) (rules : AllHold g tables row_rules)
     (s : Scenario) (law : IsScenario g s) (node time : ℕ) where
   -- the end tells a bound that the number is within
@@ -62,6 +64,7 @@ module _ (g : Graph) (tables : List NodeTable) (few : process_count g ≤ 128) (
       refl (facts_told g tables time b s few (variable_within g (variable_of b) few known) node)
       (own_bound b known ended on within)
 
+  -- a literal that holds is heard if the process of its variable is active and has ended
   pub ended_heard : (l : Literal) → IsVariable g l.variable → HasEnded g tables node l.variable time →
       active g s.values (process_of_variable g l.variable) ≡ true
       → holds s l ≡ true → is_literal_unheard g tables node time s l ≡ false

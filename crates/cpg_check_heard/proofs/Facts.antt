@@ -81,6 +81,7 @@ frame_carried s (Broadcast c) = refl
 module _ (g : Graph) (tables : List NodeTable) (time : ℕ) (b : LiteralBound) (s : Scenario) where
   -- ---- a process
 
+  -- column by column: the end is there by the time, and its count or its value tells the bound
   end_row : (p : ℕ) →
       list_any (tells b) (facts_of_end g tables s time p) ≡ row_tells g (End p) time b (columns_of tables p) s
   end_row p = any_flat_map (tells b) (λ (c : Column). cond (nat_le (c.time + duration g p (number_of s p)) time)
@@ -106,6 +107,7 @@ module _ (g : Graph) (tables : List NodeTable) (time : ℕ) (b : LiteralBound) (
   other_value None h = refl
   other_value (Some c) h = ne_eqb (value_variable c) (variable_of b) (h c refl)
 
+  -- the end speaks of its own count and value alone, and the bound is of another process
   other_end : process_count g ≤ 128 → (q : ℕ) → q < process_count g → q ≢ process_of_variable g (variable_of b) →
       list_any (tells b) (exactly q (number_of s q) ∷ value_fact s (condition_of g q)) ≡ false
   other_end few q l n =
@@ -137,6 +139,7 @@ module _ (g : Graph) (tables : List NodeTable) (time : ℕ) (b : LiteralBound) (
       go (Message e) h = refl
       go (Broadcast c) h = refl
 
+  -- column by column: the frame is there by the time, and a literal or its value tells the bound
   frame_row : (x node : ℕ) → is_heard_by g node (item_at g x) ≡ true →
       list_any (tells b) (facts_of_frame g tables s time x) ≡ item_tells g tables time b s x
   frame_row x node h = any_flat_map (tells b) (λ (c : Column). cond (nat_le (c.time + slot_length g (home g x)) time)
@@ -155,6 +158,7 @@ module _ (g : Graph) (tables : List NodeTable) (time : ℕ) (b : LiteralBound) (
 
   -- ---- altogether
 
+  -- a node is told a bound exactly if its own ends tell it or the rows that it hears do
   pub facts_told : process_count g ≤ 128 → process_of_variable g (variable_of b) < process_count g → (node : ℕ)
       → list_any (tells b) (facts g tables node s time)
       ≡ (own_tells g tables node time b s || are_told_by g tables time b (heard_by g node) s)
@@ -175,9 +179,10 @@ module _ (g : Graph) (tables : List NodeTable) (time : ℕ) (b : LiteralBound) (
       (λ x c. frame_row x node
       (Contains-filter_parts (λ x. is_heard_by g node (item_at g x)) (numbers_below (item_count g)) x c).1))
 
-  -- what is heard can tell
+  -- the row of an item that a node hears can tell each bound
   pub heard_can : (x node : ℕ) → is_heard_by g node (item_at g x) ≡ true → CanTell g b (telling_of g x)
   heard_can x node h = subst (CanTell g b) (sym (framed x node h)) tt
 
+  -- the row of a process can tell about the variables of the process
   pub own_can : (p : ℕ) → p < process_count g → process_of_variable g (variable_of b) ≡ p → CanTell g b (telling_of g p)
   own_can p l e = subst (λ i. CanTell g b (item_telling g p i)) (sym (item_at-start g p l)) (l, e)

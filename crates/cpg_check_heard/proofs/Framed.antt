@@ -18,12 +18,12 @@ use Rattle.cpg_check_heard.specs.Untold.{are_told_by, item_tells, own_tells}
 use Rattle.cpg_check_heard.proofs.Facts.{facts_told}
 use Rattle.cpg_check_heard.proofs.Untolds.{told_heard}
 
--- what a node hears is an item
+-- an item that a node hears is one of the graph
 pub heard_below : (g : Graph) (node x : ℕ) → Contains (heard_by g node) x → x < item_count g
 heard_below g node x among = numbers-Contains (item_count g) x
     (Contains-filter_parts (λ y. is_heard_by g node (item_at g y)) (numbers_below (item_count g)) x among).0
 
--- what one row that a node hears tells is told
+-- a bound that one row which a node hears tells is told
 pub frame_told : (g : Graph) (tables : List NodeTable) (time : ℕ) (b : LiteralBound) (s : Scenario) →
     process_count g ≤ 128 →
     process_of_variable g (variable_of b) < process_count g
@@ -38,9 +38,10 @@ frame_told g tables time b s few within node x among told =
     (list_any (tells b) (facts g tables node s time))
     (facts_told g tables time b s few within node) all))
 
+-- the elements kept of the first ones, among which one passes exactly if one of the first ones does
 module _ {X : Type 0} (test : X → Bool) (xs : List X) (i : ℕ) (d : X) (l : i < length xs) (ys : List X)
     (is : list_any test ys ≡ list_any test (take i xs)) where
-  -- one element more that is kept
+  -- with the next element kept, one of the kept ones passes exactly if one of one element more does
   pub kept_more : (more : List X) → more ≡ ys ++ get_or xs i d ∷ [] →
       list_any test more ≡ list_any test (take (i + 1) xs)
   kept_more more e = ap (list_any test) e ∙ list_any-append test ys (get_or xs i d ∷ [])

@@ -33,11 +33,13 @@ use Rattle.cpg_check_heard.proofs.Sides.{side, range_holds, end_side, value_side
 
 -- ---- parts
 
+-- a part for one test is a part for another that is the same in the graph's scenarios
 pub part_same : (g : Graph) (p q : Scenario → Bool) (o : Option (List Literal)) →
     ((s : Scenario) → IsScenario g s → p s ≡ q s) → IsPart g p o → IsPart g q o
 part_same g p q None h f = λ s i. sym (h s i) ∙ f s i
 part_same g p q (Some cube) h f = λ s i. f s i ∙ h s i
 
+-- the cube with a literal is the part in which the cube matches and the literal holds
 pub part_with : (g : Graph) (l : Literal) (base : List Literal) (o : Option (List Literal))
     → IfSome o (λ cube. (s : Scenario) → matches cube s ≡ (holds s l && matches base s)) →
     IfNone o ((s : Scenario) → (holds s l && matches base s) ≡ false) →
@@ -45,12 +47,14 @@ pub part_with : (g : Graph) (l : Literal) (base : List Literal) (o : Option (Lis
 part_with g l base None some none = λ s i. none s
 part_with g l base (Some cube) some none = λ s i. some s
 
+-- a cube of known variables with a literal on a known one has known variables
 pub known_with : (g : Graph) (l : Literal) (base : List Literal) (o : Option (List Literal)) → o ≡ with_literal l base →
     IsVariable g l.variable → IsKnown g base →
     IfSome o (IsKnown g)
 known_with g l base None e v k = tt
 known_with g l base (Some cube) e v k = subst (IsKnown g) (with-is l base cube (sym e)) (known-narrowed g l base v k)
 
+-- the range of a bound is on the bound's variable
 pub range_variable : (k : ℕ) (b : LiteralBound) → (range_of k b).variable ≡ variable_of b
 range_variable k (Low v least) = refl
 range_variable k (High v most) = refl
@@ -68,6 +72,9 @@ off_both true true r e = absurd (true≢false e)
 off_both true false r e = refl
 off_both false h r e = refl
 
+-- a column of a process that ends by the time with just the counts below a number
+-- `can`, `known`: the end of p may tell the bound b, which is of a variable of the graph. `come`: with a count of
+-- faults the execution has ended by the time exactly if the count is below `counts`.
 module _ (g : Graph) (few : process_count g ≤ 128) (p : ℕ) (c : Column) (time : ℕ) (b : LiteralBound)
     (can : CanTell g b (End p)) (known : IsVariable g (variable_of b))
     (counts : ℕ) (come : (n : ℕ) → n ≤ g.faults → nat_le (c.time + duration g p n) time ≡ nat_lt n counts) where
@@ -79,6 +86,7 @@ module _ (g : Graph) (few : process_count g ≤ 128) (p : ℕ) (c : Column) (tim
       ∙ ap (λ t. nat_lt (number_of s p) counts && t)
       (end_side g few s i b p known can.0 can.1 ∙ sym (range_holds g few s i b known))
 
+  -- if the execution has ended by the time with no count, the column's end tells nothing
   pub end_none : counts ≡ 0 → (s : Scenario) → IsScenario g s → is_telling g (End p) time b s c ≡ false
   end_none e s i = and_right (matches c.cube s) (column_tells g (End p) time b s c)
       (end_is s i ∙ ap (λ n. nat_lt (number_of s p) n && holds s (range_of g.faults b)) e
@@ -89,6 +97,7 @@ module _ (g : Graph) (few : process_count g ≤ 128) (p : ℕ) (c : Column) (tim
         holds s (record { variable = p; low = 0; high = counts - 1 }) ≡ nat_lt (number_of s p) counts
     come_is s = come_holds (number_of s p) counts some
 
+    -- if the column never matches with such a count, its end tells nothing
     pub end_apart : ((s : Scenario) →
         (holds s (record { variable = p; low = 0; high = counts - 1 }) && matches c.cube s) ≡ false) → (s : Scenario) →
         IsScenario g s →
@@ -97,6 +106,7 @@ module _ (g : Graph) (few : process_count g ≤ 128) (p : ℕ) (c : Column) (tim
         ∙ off_both (matches c.cube s) (nat_lt (number_of s p) counts) (holds s (range_of g.faults b))
         (ap (λ t. t && matches c.cube s) (sym (come_is s)) ∙ off s)
 
+    -- else the part with such a count and within the bound is the one in which the column's end tells the bound
     pub end_told : (part : List Literal) (o : Option (List Literal)) →
         ((s : Scenario) →
         matches part s ≡ (holds s (record { variable = p; low = 0; high = counts - 1 }) && matches c.cube s))
@@ -110,6 +120,8 @@ module _ (g : Graph) (few : process_count g ≤ 128) (p : ℕ) (c : Column) (tim
 
 -- ---- of frames
 
+-- a column whose frame takes a delay, and a bound that it may tell
+-- `o`: the condition whose value the frame carries, if it is a broadcast. `known`: b is of a variable of the graph.
 module _ (g : Graph) (few : process_count g ≤ 128) (delay : ℕ) (o : Option ℕ) (c : Column) (time : ℕ) (b : LiteralBound)
     (known : IsVariable g (variable_of b)) where
   frame_is : (s : Scenario) → nat_le (c.time + delay) time ≡ true → column_tells g (Frame delay o) time b s c ≡
@@ -117,18 +129,21 @@ module _ (g : Graph) (few : process_count g ≤ 128) (delay : ℕ) (o : Option �
   frame_is s e = ap (λ t. t && list_any (tells b) (c.cube ++ value_fact s o)) e
       ∙ list_any-append (tells b) c.cube (value_fact s o) ∙ ap (λ t. list_any (tells b) c.cube || t) (value_side s b o)
 
+  -- a frame that comes after the time tells nothing
   pub frame_late : nat_le (c.time + delay) time ≡ false → (s : Scenario) → IsScenario g s →
       is_telling g (Frame delay o) time b s c ≡ false
   frame_late e s i = and_right (matches c.cube s) (column_tells g (Frame delay o) time b s c)
       (ap (λ t. t && list_any (tells b) (c.cube ++ value_fact s o)) e)
 
   module _ (come : nat_le (c.time + delay) time ≡ true) where
+    -- if a literal of the column tells the bound, the whole cube is the part in which the frame does
     pub frame_whole : list_any (tells b) c.cube ≡ true → (cube : List Literal) → cube ≡ c.cube →
         IsPart g (λ s. is_telling g (Frame delay o) time b s c) (Some cube)
     frame_whole told cube e = λ s i. ap (λ (d : List Literal). matches d s) e ∙ with_true (matches c.cube s) true refl
         ∙ ap (λ t. matches c.cube s && t) (sym (frame_is s come
         ∙ ap (λ t. t || (is_value o (variable_of b) && side b (number_of s (variable_of b)))) told))
 
+    -- if no literal tells the bound and the frame doesn't carry the variable's value, it tells nothing
     pub frame_none : list_any (tells b) c.cube ≡ false → is_value o (variable_of b) ≡ false → (s : Scenario) →
         IsScenario g s →
         is_telling g (Frame delay o) time b s c ≡ false
@@ -136,6 +151,7 @@ module _ (g : Graph) (few : process_count g ≤ 128) (delay : ℕ) (o : Option �
         (frame_is s come ∙ ap (λ t. t || (is_value o (variable_of b) && side b (number_of s (variable_of b)))) off
         ∙ ap (λ t. t && side b (number_of s (variable_of b))) none)
 
+    -- if it carries the value, the part in which the value is within the bound is the one in which it tells it
     pub frame_value : list_any (tells b) c.cube ≡ false → is_value o (variable_of b) ≡ true →
         (r : Option (List Literal)) →
         IsPart g (λ s. holds s (range_of g.faults b) && matches c.cube s) r
@@ -151,6 +167,7 @@ module _ (g : Graph) (few : process_count g ≤ 128) (delay : ℕ) (o : Option �
 -- ---- what is told by a list of parts
 
 module _ (g : Graph) (test : Scenario → Bool) where
+  -- with a part added, the cubes match where they matched before or the part's test holds
   pub told_add : (told : List (List Literal)) (o : Option (List Literal)) → IsPart g test o → (s : Scenario) →
       IsScenario g s
       → list_any (λ b. matches b s) (told ++ option_to_list o) ≡ (list_any (λ b. matches b s) told || test s)
@@ -159,6 +176,7 @@ module _ (g : Graph) (test : Scenario → Bool) where
   told_add told (Some cube) f s i = list_any-append (λ b. matches b s) told (cube ∷ [])
       ∙ ap (λ t. list_any (λ b. matches b s) told || t) (or-false (matches cube s) ∙ f s i)
 
+-- with a part of known variables added, the cubes have known variables
 pub known_add : (g : Graph) (told : List (List Literal)) (o : Option (List Literal)) → All (IsKnown g) told →
     IfSome o (IsKnown g) →
     All (IsKnown g) (told ++ option_to_list o)

@@ -25,6 +25,7 @@ abbrev pub side : LiteralBound → ℕ → Bool
 side (Low v least) n = nat_le least n
 side (High v most) n = nat_le n most
 
+-- an exact number tells a bound exactly if it is of the bound's variable and within the bound
 pub tells_exactly : (b : LiteralBound) (w n : ℕ) → tells b (exactly w n) ≡ ((w == variable_of b) && side b n)
 tells_exactly (Low v least) w n = refl
 tells_exactly (High v most) w n = refl
@@ -33,7 +34,7 @@ is_value_off : (o : Option ℕ) (v : ℕ) → v < 128 → is_value o v ≡ false
 is_value_off None v h = refl
 is_value_off (Some c) v h = ne_eqb (value_variable c) v (λ e. omega (arith, e, h))
 
--- the counts below a number
+-- a count is in the range below a number exactly if it is less
 pub come_holds : (n c : ℕ) → 0 < c → (nat_le 0 n && nat_le n (c - 1)) ≡ nat_lt n c
 come_holds n c h = elim (cases_lt n c) [
   | inl l ↦ ap (λ b. b && nat_le n (c - 1)) (le-leb 0 n (omega arith)) ∙ le-leb n (c - 1) (omega arith)
@@ -70,6 +71,7 @@ variable_within g v few known =
     ]
 
 module _ (g : Graph) (few : process_count g ≤ 128) (s : Scenario) (i : IsScenario g s) where
+  -- the range of a bound holds exactly if the variable's number is within the bound
   pub range_holds : (b : LiteralBound) → IsVariable g (variable_of b) →
       holds s (range_of g.faults b) ≡ side b (number_of s (variable_of b))
   range_holds (Low v least) known =
@@ -77,6 +79,7 @@ module _ (g : Graph) (few : process_count g ≤ 128) (s : Scenario) (i : IsScena
       (le-leb (number_of s v) (top g.faults v) (number_within g few s i v known)))
   range_holds (High v most) known = ap (λ b. b && nat_le (number_of s v) most) (le-leb 0 (number_of s v) (omega arith))
 
+  -- the fault count of a process is at most the faults of the graph
   pub count_within : (p : ℕ) → p < process_count g → number_of s p ≤ g.faults
   count_within p l = let a = number_within g few s i p (inl l) in
       let t = top_of_count g.faults p (omega arith) in

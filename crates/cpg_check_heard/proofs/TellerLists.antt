@@ -19,9 +19,11 @@ get_last [] y = refl
 get_last (x ∷ xs) y = get_last xs y
 
 module _ (g : Graph) (tables : List NodeTable) where
+  -- without items there are no rows
   pub tellers_none : AreTellers g tables 0 []
   tellers_none = record { count = refl; each = λ x t e. absurd (omega (arith, slice_get_within [] x t e)) }
 
+  -- a place below the count has an earlier teller, and the last place the new one
   tellers_push : (items : ℕ) (ts : List Teller) (t : Teller) → AreTellers g tables items ts →
       IsTeller g tables items t →
       AreTellers g tables (items + 1) (ts ++ t ∷ [])
@@ -39,12 +41,14 @@ module _ (g : Graph) (tables : List NodeTable) where
     ];
   }
 
+  -- the row of the next item, put last, makes the rows of one item more
   pub tellers_more : (items : ℕ) (ts more : List Teller) (t : Teller) → more ≡ ts ++ t ∷ [] →
       AreTellers g tables items ts → IsTeller g tables items t →
       AreTellers g tables (items + 1) more
   tellers_more items ts more t e are is =
       subst (AreTellers g tables (items + 1)) (sym e) (tellers_push items ts t are is)
 
+  -- the row found at an item's place is the item's
   pub teller_at : (items : ℕ) (ts : List Teller) (x : ℕ) (t : Teller) → AreTellers g tables items ts → x < items →
       t ≡ get_or ts x t →
       IsTeller g tables x t

@@ -14,7 +14,7 @@ use Rattle.cpg_cube.specs.declared.literal.Literal.{Literal}
 use Rattle.cpg_violation.proofs.Tests.{off_where, same_where}
 
 module _ (g : Graph) (order : List ℕ) (cube : List Literal) (told : List (List Literal)) where
-  -- what covers answers is what is left first
+  -- the answer of the search is the first scenario that is left of the cube
   pub first_left : (o : Option Scenario) →
       IfNone o ((s : Scenario) → IsScenario g s → matches cube s ≡ true → list_any (λ b. matches b s) told ≡ true)
       → IfSome o (IsLeast g order (λ s. IsTrue (matches cube s && not (list_any (λ b. matches b s) told)))) →
@@ -24,7 +24,7 @@ module _ (g : Graph) (order : List ℕ) (cube : List Literal) (told : List (List
   first_left (Some s) none some = some
 
   module _ (facts : Scenario → Bool) where
-    -- what is told is what is not left
+    -- the first scenario that is left is the first in which the bound isn't told
     pub untold_first : (free : Bool) (o : Option Scenario) → free ≡ false →
         ((s : Scenario) → IsScenario g s → matches cube s ≡ true → list_any (λ b. matches b s) told ≡ facts s)
         → IsFirst g order (is_left told cube) o → IsFirst g order (λ s. matches cube s && not (free || facts s)) o
@@ -34,12 +34,13 @@ module _ (g : Graph) (order : List ℕ) (cube : List Literal) (told : List (List
 
 -- what a node's own ends tell, and then all that it hears, from nothing
 module _ (start : List (List Literal)) (s : Scenario) where
+  -- the parts of the own ends, and then those of the rows that are heard, tell all that the node is told
   pub told_all : (first last own heard all : Bool) → start ≡ [] → first ≡ (list_any (λ b. matches b s) start || own) →
       last ≡ (first || heard) → all ≡ (own || heard) → last ≡ all
   told_all first last own heard all none e f is =
       f ∙ ap (λ x. x || heard) (e ∙ ap (λ xs. list_any (λ b. matches b s) xs || own) none) ∙ sym is
 
--- what is heard is told
+-- a bound that the heard rows tell is told
 pub told_heard : (own heard all : Bool) → all ≡ (own || heard) → heard ≡ true → all ≡ true
 told_heard own heard all is t = is ∙ or_right own heard t
 
@@ -56,7 +57,7 @@ pub own_told : (free first own heard all : Bool) → first ≡ own → all ≡ (
     (free || all) ≡ true
 own_told free first own heard all f is t = or_right free all (is ∙ ap (λ x. x || heard) (sym f ∙ t))
 
--- what isn't so if nothing is left follows from what is less
+-- what follows if nothing is left may be weakened
 pub fewer_left : {A B : Type 0} (left : Bool) → (A → B) → OnFalse left A → OnFalse left B
 fewer_left false f a = f a
 fewer_left true f a = tt

@@ -16,12 +16,12 @@ use Rattle.cpg_check_heard.specs.Untold.{are_told_by}
 abbrev pub do_tell : Graph → ℕ → LiteralBound → List Arrival → Scenario → Bool
 do_tell g time b arrivals s = list_any (λ a. is_telling g a.telling time b s a.column.now) arrivals
 
--- a column of known variables that can tell of each
+-- a column of known variables that can tell each bound
 pub record IsArrival (g : Graph) (a : Arrival) : Type 0 where
   pub known : IsKnown g a.column.now.cube
   pub can : (b : LiteralBound) → CanTell g b a.telling
 
--- columns of known variables tell what the rows of these items do, in scenarios that a cube matches
+-- columns of known variables tell what the rows of these items tell, in scenarios that a cube matches
 pub record AreArrivals (g : Graph) (tables : List NodeTable) (time : ℕ) (cube : List Literal) (items : List ℕ)
     (arrivals : List Arrival) : Type 0 where
   pub each : All (IsArrival g) arrivals

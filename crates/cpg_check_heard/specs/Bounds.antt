@@ -23,7 +23,7 @@ abbrev pub variable_of : LiteralBound → ℕ
 variable_of (Low v least) = v
 variable_of (High v most) = v
 
--- whether every number is within it
+-- whether every number is within a bound
 abbrev pub is_free : ℕ → LiteralBound → Bool
 is_free k (Low v least) = least == 0
 is_free k (High v most) = nat_le (top k v) most
@@ -33,7 +33,7 @@ abbrev pub tells : LiteralBound → Literal → Bool
 tells (Low v least) m = (m.variable == v) && nat_le least m.low
 tells (High v most) m = (m.variable == v) && nat_le m.high most
 
--- the numbers within it
+-- the numbers within a bound
 abbrev pub range_of : ℕ → LiteralBound → Literal
 range_of k (Low v least) = record { variable = v; low = least; high = top k v }
 range_of k (High v most) = record { variable = v; low = 0; high = most }

@@ -37,7 +37,7 @@ abbrev pub is_telling_at : Graph → Telling → ℕ → LiteralBound → List C
 is_telling_at g telling time b columns s i =
     nat_lt i (length columns) && is_telling g telling time b s (column_at columns i)
 
--- whether a column of a row does
+-- whether a column of a row matches, and its end or frame tells a bound by a time
 abbrev pub row_tells : Graph → Telling → ℕ → LiteralBound → List Column → Scenario → Bool
 row_tells g telling time b columns s = list_any (is_telling g telling time b s) columns
 
@@ -63,6 +63,7 @@ item_telling g x (Start p) = End p
 item_telling g x (Message e) = Frame (slot_length g (home g x)) None
 item_telling g x (Broadcast c) = Frame (slot_length g (home g x)) (Some c)
 
+-- how the item with this number tells
 abbrev pub telling_of : Graph → ℕ → Telling
 telling_of g x = item_telling g x (item_at g x)
 

@@ -24,6 +24,6 @@ is_one_untold g tables node time bounds s = list_any (λ b. not (is_told g table
 abbrev pub is_column_unheard : Graph → List NodeTable → ℕ → Scenario → Column → Bool
 is_column_unheard g tables node s c = list_any (is_literal_unheard g tables node c.time s) c.cube
 
--- whether the column at a place of an item's row matches in a scenario in which a literal of it isn't heard
+-- whether the column at a place of an item's row matches in a scenario in which one of its literals isn't heard
 abbrev pub is_unheard : Graph → List NodeTable → ℕ → List Column → ℕ → Scenario → Bool
 is_unheard g tables x columns i s = is_broken (λ t c. breaks_heard g tables t x c) columns i s

@@ -37,6 +37,7 @@ pub(crate) fn may_have_come(telling: Telling, start: u64, time: u64) -> bool
     ensures { OnFalse result ((g : Graph) (b : LiteralBound) (s : Scenario) (c : Column) → start ≤ c.time → is_telling g telling time b s c ≡ false) }
 {
     match telling {
+        // an end is no earlier than the start
         Telling::End { .. } => start <= time,
         Telling::Frame { delay, .. } => has_come(start, delay, time),
     }
@@ -56,9 +57,11 @@ fn add_column<'a>(
         → do_tell g time b arrivals.new.items s ≡ (do_tell g time b arrivals.old.items s
         || is_telling_at g telling time b columns.now s place)) }
 {
+    // no column stands there
     let Some(column) = columns.get(place as usize) else {
         return Ok(());
     };
+    // its frame comes too late
     if !may_have_come(telling, column.time, time) {
         return Ok(());
     }
@@ -84,9 +87,11 @@ fn add_row<'a>(
         || row_tells g teller.now.telling time b teller.now.line.now.columns.now s)) }
 {
     let line = teller.line;
+    // the row's first column comes too late, and so do all others
     if !may_have_come(teller.telling, line.first, time) {
         return Ok(());
     }
+    // the sieve gives the places of the columns that may match together with the cube
     let places = line.sieve.candidates(alloc, line.columns, cube)?;
     for place in places.as_slice() {
         add_column(teller.telling, line.columns, *place, time, arrivals)?;
@@ -110,6 +115,7 @@ impl<'a> Hearing<'a> {
         ensures { IfOk result (λ arrivals. AreArrivals self.now.admitted.now.graph self.now.tables.now.nodes time cube.now items.now arrivals.items) }
     {
         let mut arrivals = Vec::new(alloc);
+        // goes over the items that the node hears
         for item in items {
             let teller = &self.tellers[*item as usize];
             add_row(alloc, teller, cube, time, &mut arrivals)?;
@@ -131,13 +137,16 @@ fn tells_whole(
     ensures { OnTrue result ((s : Scenario) → IsScenario problem.now s → matches cube.now s ≡ true
         → is_telling problem.now arrival.now.telling time bound s arrival.now.column.now ≡ true) }
 {
+    // an end says something by its count: that is left to the full search
     let Telling::Frame { delay, .. } = arrival.telling else {
         return false;
     };
     let column = arrival.column;
+    // the frame comes later
     if !has_come(column.time, delay, time) {
         return false;
     }
+    // no literal of the column says the bound
     if !bound.is_told_by_any(column.cube.literals()) {
         return false;
     }

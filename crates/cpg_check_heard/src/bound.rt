@@ -56,7 +56,7 @@ impl LiteralBound {
         }
     }
 
-    /// Whether a literal, if it is told, bounds the variable at least as closely.
+    /// Whether a literal that is told bounds the variable at least as closely.
     pub(crate) fn is_told_by(&self, literal: &Literal) -> bool
         ensures { result ≡ tells self.now literal.now }
     {
@@ -70,7 +70,7 @@ impl LiteralBound {
         }
     }
 
-    /// Whether one of these literals, if it is told, bounds the variable at least as closely.
+    /// Whether one of these literals, if they are told, bounds the variable at least as closely.
     pub(crate) fn is_told_by_any(&self, literals: &[Literal]) -> bool
         ensures { result ≡ list_any (tells self.now) literals.now }
     {

@@ -1,4 +1,4 @@
-//! Processes of a node whose executions have all ended by a time. So it is with most literals' processes, and no column
+//! Processes of a node whose executions have all ended by a time. This holds for the processes of most literals, and no column
 //! is looked at to see it.
 ghost use Rattle.std.specs.Bool.{OnTrue};
 ghost use Rattle.cpg_base.specs.Graph.{IsVariable};

@@ -1,5 +1,5 @@
-//! Bounds that frames tell wherever a column matches. The rows that a node hears are asked one after another, those with
-//! long cubes first: they tell most, and if nothing is left, no other row is looked at.
+//! Bounds that frames tell wherever a column matches. The rows that a node hears are asked one after another: first those
+//! with long cubes, which tell most. If nothing is left, no other row is looked at.
 ghost use Rattle.std.specs.Prelude.{◌≡◌, ℕ, Bool, All, Contains, IfOk, false, true};
 ghost use Rattle.std.specs.List.{list_any};
 ghost use Rattle.cpg_base.specs.Graph.{IsVariable};

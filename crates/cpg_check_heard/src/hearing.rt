@@ -1,4 +1,4 @@
-//! What all rows tell: the least scenario in which a node hasn't heard a literal by a time.
+//! The least scenario in which a node hasn't heard a literal by a time, by what all rows tell.
 ghost use Rattle.std.specs.Prelude.{◌≡◌, ◌&&◌, ◌||◌, All, Contains, IfOk, not, true};
 ghost use Rattle.std.specs.Bool.{OnFalse, OnTrue};
 ghost use Rattle.std.specs.List.{list_any};
@@ -74,6 +74,7 @@ fn may_leave(
     ensures { IfOk result (λ left. OnFalse left ((s : Scenario) → IsScenario admitted.now.graph s → matches cube.now s ≡ true
         → list_any (λ b. matches b s) told.now ≡ true)) }
 {
+    // one cube of the list matches everywhere: nothing is left, and no search is needed
     if is_within_one(admitted.problem(), cube, told) {
         return Ok(false);
     }
@@ -104,6 +105,7 @@ impl Hearing<'_> {
     {
         let problem = self.admitted.problem();
         let process = problem.process_of_variable(bound.variable());
+        // the process of the variable is on another node, so no end of this node says the bound
         if problem.node_of(process) != node {
             return Ok(());
         }
@@ -128,11 +130,14 @@ impl Hearing<'_> {
             → matches cube.now s ≡ true → is_told self.now.admitted.now.graph self.now.tables.now.nodes node time bound s
             ≡ true)) }
     {
+        // a bound that every number keeps needs no telling
         if bound.is_free(self.admitted.problem().faults()) {
             return Ok(false);
         }
+        // the parts of the cube in which an end says the bound
         let mut told = Vec::new(alloc);
         self.add_own(alloc, node, cube, time, bound, &mut told)?;
+        // no end says the bound, so it is open wherever the cube matches
         if told.is_empty() {
             return Ok(true);
         }
@@ -188,9 +193,11 @@ impl Hearing<'_> {
             ≡ (is_one_untold self.now.admitted.now.graph self.now.tables.now.nodes node column.now.time bounds.old.items s
             || is_literal_unheard self.now.admitted.now.graph self.now.tables.now.nodes node column.now.time s literal.now)) }
     {
+        // the process of the variable has ended on this node by then, so both bounds are known
         if self.has_ended(node, literal.variable, column.time) {
             return Ok(());
         }
+        // a literal is a range: it is heard if both of its bounds are
         self.add_open(alloc, node, column, LiteralBound::low_of(literal), bounds)?;
         self.add_open(alloc, node, column, LiteralBound::high_of(literal), bounds)?;
         Ok(())
@@ -213,6 +220,7 @@ impl Hearing<'_> {
             ≡ is_column_unheard self.now.admitted.now.graph self.now.tables.now.nodes node s column.now) }
     {
         let mut bounds = Vec::new(alloc);
+        // goes over the literals of the column's cube
         for literal in column.cube.literals() {
             self.add_literal(alloc, node, column, literal, &mut bounds)?;
         }
@@ -240,12 +248,15 @@ impl Hearing<'_> {
     {
         let problem = self.admitted.problem();
         let (cube, time) = (&column.cube, column.time);
+        // a bound that every number keeps needs no telling
         if bound.is_free(problem.faults()) {
             return Ok(None);
         }
+        // one frame says the bound wherever the column matches: the usual case
         if tells_one_whole(problem, arrivals, cube, time, bound) {
             return Ok(None);
         }
+        // the parts in which an end or a frame says the bound; what they leave of the cube is a violation
         let mut told = Vec::new(alloc);
         self.add_own(alloc, node, cube, time, bound, &mut told)?;
         add_told(problem, arrivals, time, bound, &mut told)?;
@@ -274,6 +285,7 @@ impl Hearing<'_> {
     {
         let problem = self.admitted.problem();
         let order = self.admitted.order();
+        // goes over the bounds, and keeps the least scenario of all
         let mut found: Option<Scenario> = None;
         for bound in bounds {
             let next = self.least_untold(alloc, node, items, arrivals, column, *bound)?;
@@ -300,8 +312,10 @@ impl Hearing<'_> {
         ensures { IfOk result (IsFirst self.now.admitted.now.graph self.now.admitted.now.order (λ s. matches column.now.cube s
             && is_column_unheard self.now.admitted.now.graph self.now.tables.now.nodes node s column.now)) }
     {
+        // first the quick ways: the node's own ends, then single frames; the full search is for what they leave
         let bounds = self.open_bounds(alloc, node, column)?;
         let left = self.unframed(alloc, node, ranks, column, bounds)?;
+        // every bound is known
         if left.is_empty() {
             return Ok(None);
         }

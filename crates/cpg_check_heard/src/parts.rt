@@ -19,17 +19,19 @@ use cpg_base::{FIRST_VALUE, OutOfMemory, Problem};
 use cpg_cube::{Column, Cube, Literal};
 use std::alloc::Global;
 
-/// With how many of the fault counts, from 0 on, an execution that starts at a time has ended by another.
+/// How many of the fault counts, from 0 on, let an execution that starts at a time end by another.
 fn counts_by(problem: &Problem, process: u32, start: u64, time: u64) -> u8
     requires { process < process_count problem.now }
     ensures limits { IsWithinLimits problem.now }
     ensures counts { (n : ℕ) → n ≤ problem.now.faults → nat_le (start + duration problem.now process n) time ≡ nat_lt n result }
 {
     let all = problem.faults() + 1;
+    // it starts later than that, so it ends later with any count
     if start > time {
         return 0;
     }
     let left = time - start;
+    // counts from 0 on: durations rise with them, so the first that takes too long ends the search
     for count in 0..all {
         if problem.duration(process, count) > left {
             return count;
@@ -53,14 +55,17 @@ fn end_part(
     ensures known { IfOk result (λ r. IfSome r (IsKnown problem.now)) }
 {
     let counts = counts_by(problem, process, column.time, time);
+    // with no count has the process ended by then
     if counts == 0 {
         return Ok(None);
     }
+    // the counts with which it has ended by then: from 0 to the last one
     let come = Literal {
         variable: process as u8,
         low: 0,
         high: counts - 1,
     };
+    // the column leaves none of these counts
     let Some(part) = column.cube.with(come)? else {
         return Ok(None);
     };
@@ -94,16 +99,20 @@ fn frame_part(
     ensures part { IfOk result (IsPart problem.now (λ s. is_telling problem.now (Frame delay condition) time bound s column.now)) }
     ensures known { IfOk result (λ r. IfSome r (IsKnown problem.now)) }
 {
+    // the frame comes later
     if !has_come(column.time, delay, time) {
         return Ok(None);
     }
+    // a literal of the column says the bound, wherever the column matches
     if bound.is_told_by_any(column.cube.literals()) {
         let cube = column.cube.copy()?;
         return Ok(Some(cube));
     }
+    // the frame doesn't carry the value that the bound is about
     if !is_value(condition, bound.variable()) {
         return Ok(None);
     }
+    // the frame carries the value: the bound is said in the part in which the value keeps it
     let told = column.cube.with(bound.range(problem.faults()))?;
     Ok(told)
 }
@@ -134,7 +143,7 @@ pub(crate) fn part_of(
     }
 }
 
-/// As `part_of`, of the column at a place, if there is one.
+/// What `part_of` gives for the column at a place, if there is one.
 fn part_at(
     problem: &Problem,
     telling: Telling,
@@ -149,6 +158,7 @@ fn part_at(
     ensures part { IfOk result (IsPart problem.now (λ s. is_telling_at problem.now telling time bound columns.now s place)) }
     ensures known { IfOk result (λ r. IfSome r (IsKnown problem.now)) }
 {
+    // no column stands there
     let Some(column) = columns.get(place as usize) else {
         return Ok(None);
     };
@@ -189,9 +199,11 @@ pub(crate) fn add_row(
         || row_tells problem.now teller.now.telling time bound teller.now.line.now.columns.now s)) }
 {
     let line = teller.line;
+    // the row's first column comes too late, and so do all others
     if !may_have_come(teller.telling, line.first, time) {
         return Ok(());
     }
+    // the sieve gives the places of the columns that may match together with the cube
     let places = line.sieve.candidates(alloc, line.columns, cube)?;
     for place in places.as_slice() {
         let part = part_at(problem, teller.telling, line.columns, *place, time, bound)?;

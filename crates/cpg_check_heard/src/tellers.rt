@@ -17,11 +17,11 @@ use std::alloc::Global;
 pub(crate) enum Telling {
     /// By the ends of a process, to its own node.
     End { process: u32 },
-    /// By frames that arrive so many time units after the column's time, those of a broadcast with a condition's value.
+    /// By frames that arrive this many time units after the column's time. Those of a broadcast carry a condition's value.
     Frame { delay: u64, condition: Option<u32> },
 }
 
-/// Whether a frame that arrives so long after a start has come by a time.
+/// Whether a frame that arrives this long after a start has come by a time.
 pub(crate) fn has_come(start: u64, delay: u64, time: u64) -> bool
     ensures { result ≡ nat_le (start + delay) time }
 {

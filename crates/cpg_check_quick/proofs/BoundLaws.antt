@@ -51,6 +51,7 @@ bounds_wider k known literals w h =
     let p = Contains-flat_map_parts (unknown_bounds k known) literals w h in
     bound_wider k literals p.0 w p.1 (unknown_parts (get_or known p.0.variable false) (bounds_of k p.0) w p.2)
 
+-- the bounds of a literal are all implied by what a node has kept
 module _ (k : ℕ) (known : List Literal) (l : Literal)
     (heard : (w : Literal) → Contains (bounds_of k l) w → is_heard k known w ≡ true) where
   low_heard : nat_le l.low (kept_low known l.variable) ≡ true
@@ -82,11 +83,14 @@ module _ (k : ℕ) (known : List Literal) (l : Literal)
   bound_heard = and_from _ _ low_heard high_heard
 
 -- all literals of a column are implied if those on known variables are, and all bounds of the others
+-- `c`, `known`: a column, and the variables whose numbers are known; `wanted`, `is`: the bounds of its other literals
 module _ (g : Graph) (tables : List NodeTable) (node : ℕ) (c : Column) (known : List Bool) (wanted : List Literal)
     (is : wanted ≡ flat_map (unknown_bounds g.faults known) c.cube) where
+  -- each bound is as wide as some literal of the column
   pub all_wider : AreToldIn c.cube wanted
   all_wider w h = bounds_wider g.faults known c.cube w (subst (λ ws. Contains ws w) is h)
 
+  -- if the literals on known variables are heard, and all bounds of the others, the column's literals all are
   pub column_heard :
       ((l : Literal) → Contains c.cube l → get_or known l.variable false ≡ true → IsHeardIn g tables node c l) →
       ((l : Literal) → Contains wanted l → IsHeardIn g tables node c l) →

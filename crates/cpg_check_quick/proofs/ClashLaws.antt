@@ -44,7 +44,7 @@ no_overlap a b c d (inl h) = ap (λ t. t && nat_lt c (a + b)) (le-ltb a (c + d) 
 no_overlap a b c d (inr h) = and_right (nat_lt a (c + d)) (nat_lt c (a + b)) (le-ltb c (a + b) h)
 
 module _ (g : Graph) (tables : List NodeTable) (p : ℕ) where
-  -- what is no process
+  -- an item that is no process keeps V6
   pub sure_no_process : process_count g ≤ p → IsSure g tables Rule.Processor p
   sure_no_process l = sure_of g tables Rule.Processor p refl
       (λ s c earlier law there m. and_left (nat_lt p (process_count g)) _ (le-ltb p (process_count g) l))
@@ -65,13 +65,14 @@ module _ (g : Graph) (tables : List NodeTable) (p : ℕ) where
       (All-contains (λ q. IsApart (execution g) g tables q p)
       (filter (λ q. node_of g q == node_of g p) (numbers_below p)) q apart k s c law there m d at n)))))
 
+  -- a process that is apart from those of lower numbers on its node keeps V6
   pub sure_alone : (lower : List ℕ) → lower ≡ filter (λ q. node_of g q == node_of g p) (numbers_below p) →
       All (λ q. IsApart (execution g) g tables q p) lower →
       IsSure g tables Rule.Processor p
   sure_alone lower is apart =
       lower_alone (subst (λ (ys : List ℕ). All (λ q. IsApart (execution g) g tables q p) ys) is apart)
 
-  -- what is no process has no execution
+  -- an item that is no process has no execution, so it keeps V6
   pub sure_none : process_count g ≤ p → IsSure g tables Rule.Processor p
   sure_none none = sure_of g tables Rule.Processor p refl
       (λ s c earlier law there m. and_left (nat_lt p (process_count g)) _ (le-ltb p (process_count g) none))
@@ -79,7 +80,7 @@ module _ (g : Graph) (tables : List NodeTable) (p : ℕ) where
 -- ---- V7
 
 module _ (g : Graph) (tables : List NodeTable) (x : ℕ) where
-  -- what isn't sent
+  -- an item that isn't sent keeps V7
   pub sure_not_sent : is_sent g x ≡ false → IsSure g tables Rule.Slot x
   sure_not_sent e = sure_of g tables Rule.Slot x refl (λ s c earlier law there m. and_left (is_sent g x) _ e)
 
@@ -107,6 +108,7 @@ module _ (g : Graph) (tables : List NodeTable) (x : ℕ) where
       (Contains-filter (λ y. is_sent g y && (home g y == home g x)) (numbers_below x) y e k) s c law
       there m d at n))))))
 
+  -- an item whose columns start slots, and whose sends are apart from those of lower numbers, keeps V7
   pub sure_own_slots : (lower : List ℕ) → lower ≡ filter (λ y. is_sent g y && (home g y == home g x)) (numbers_below x)
       → All (λ (c : Column). (s : Scenario) → IsScenario g s → matches c.cube s ≡ true →
       next_slot g (home g x) c.time ≡ c.time) (columns_of tables x) →

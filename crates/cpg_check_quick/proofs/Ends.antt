@@ -20,11 +20,13 @@ use Rattle.cpg_check_quick.specs.Order.{IsOverBy, execution}
 
 -- what begins with the columns of an item and is done later
 module _ (tables : List NodeTable) (x : ℕ) (s : Scenario) (done : ℕ → ℕ) (time : ℕ) where
+  -- if a column matches and what it begins is done by the time, something is
   pub come_by : (d : Column) → Contains (columns_of tables x) d → matches d.cube s ≡ true → done d.time ≤ time →
       is_by time (map done (at tables x s)) ≡ true
   come_by d k m l = list_any_true (λ m. nat_le m time) (map done (at tables x s)) (done d.time)
       (Contains-map done (at tables x s) d.time (in_at tables x s d k m)) (le-leb (done d.time) time l)
 
+  -- if something is done by the time, a column that matches began it
   pub by_parts : is_by time (map done (at tables x s)) ≡ true →
       (d : Column) × Contains (columns_of tables x) d × (matches d.cube s ≡ true) × (done d.time ≤ time)
   by_parts t =
@@ -33,6 +35,7 @@ module _ (tables : List NodeTable) (x : ℕ) (s : Scenario) (done : ℕ → ℕ)
       let e = at_parts tables x s r.0 r.1 in
       (e.0, e.1, e.2, omega (arith, leb-true m.0 time m.2, ap done e.3, r.2))
 
+-- tables that keep V1 to V3, a scenario and a time
 module _ (g : Graph) (tables : List NodeTable) (rules : AllHold g tables row_rules) (s : Scenario)
     (law : IsScenario g s) (time : ℕ) where
   -- an active process that is over has ended

@@ -43,7 +43,7 @@ module _ (g : Graph) (tables : List NodeTable) where
       ap not (there c e k in_it.0 s law m in_it.1))))
 
   module _ (rules : AllHold g tables row_rules) where
-    -- a send after its producer
+    -- a send whose producer is always over before it keeps V5
     pub send_sure : WellFormed g → (x : ℕ) → x < item_count g → process_count g ≤ x →
         IsBefore g tables (producer g x) x →
         IsSure g tables Rule.Inputs x
@@ -60,7 +60,7 @@ module _ (g : Graph) (tables : List NodeTable) where
           ap (λ b. is_by c.time (cond b (arrivals_of g tables s (message_item g e)) (ends_of g tables s (source g e))))
           m ∙ h
 
-      -- a message whose frame is over
+      -- a message is there if its frame is over by the column's time
       pub message_there : e < edge_count g → is_message g e ≡ true
           → ((s : Scenario) → IsScenario g s → matches c.cube s ≡ true → live g s.values e ≡ true →
           IsOverBy tables (slot_length g (home g (message_item g e))) (message_item g e) c.time s) →
@@ -68,7 +68,7 @@ module _ (g : Graph) (tables : List NodeTable) where
       message_there l sent over s law m a =
           there_if s true sent (over_arrived g tables rules s law c.time e l sent a (over s law m a))
 
-      -- a source on the node that is over
+      -- a source on the node is there if its execution is over by the column's time
       pub source_there : is_message g e ≡ false → source g e < process_count g
           → ((s : Scenario) → IsScenario g s → matches c.cube s ≡ true → live g s.values e ≡ true →
           IsOverBy tables (execution g (source g e) s) (source g e) c.time s) → IsInputThere g tables c e
@@ -92,7 +92,7 @@ module _ (g : Graph) (tables : List NodeTable) where
           IsInputThere g tables c e
       before_there p from k near = source_there near.near from (λ s law m a. near.before s c law k m)
 
-    -- inputs one after another
+    -- inputs are there if each of them is over by the column's time
     pub inputs_there : WellFormed g → (c : Column) (edges : List ℕ) → All (λ e. e < edge_count g) edges
         → ((s : Scenario) → IsScenario g s → matches c.cube s ≡ true →
         All (λ e. live g s.values e ≡ true → IsInputOver g tables e c.time s) edges) →
@@ -114,12 +114,13 @@ module _ (g : Graph) (tables : List NodeTable) where
           | inr near ↦ before_there c e p (formed.sources e (inputs_parts g p e h).0) k near
         ])
 
--- elements of which something is known, or that are kept
+-- elements for which a fact holds, or that are kept
 module _ {T : Type 0} (fact : T → Type 0) (edges kept : List T) (k : ℕ) (any : T) (within : k < length edges) where
   one_of : (d : T) → Contains (take (k + 1) edges) d → Contains (take k edges) d ⊎ (get_or edges k any ≡ d)
   one_of d c = Contains-push_cases (take k edges) (get_or edges k any) d
       (subst (λ xs. Contains xs d) (take_more edges k any within) c)
 
+  -- with the next element kept, each of one element more is kept or the fact holds for it
   pub others_push : ((d : T) → Contains (take k edges) d → Contains kept d ⊎ fact d) → (d : T) →
       Contains (take (k + 1) edges) d →
       Contains (kept ++ get_or edges k any ∷ []) d ⊎ fact d
@@ -130,6 +131,7 @@ module _ {T : Type 0} (fact : T → Type 0) (edges kept : List T) (k : ℕ) (any
         inl (subst (λ z. Contains (kept ++ get_or edges k any ∷ []) z) q (Contains-push kept (get_or edges k any)))
   ]
 
+  -- the next element, if it is kept, is one of the list
   pub others_among : ((d : T) → Contains kept d → Contains edges d) → (d : T) →
       Contains (kept ++ get_or edges k any ∷ []) d →
       Contains edges d
@@ -138,12 +140,13 @@ module _ {T : Type 0} (fact : T → Type 0) (edges kept : List T) (k : ℕ) (any
     | inr q ↦ subst (Contains edges) q (Contains-get_or edges k any within)
   ]
 
+  -- if the fact holds for the next element, each of one element more is kept or the fact holds for it
   pub others_skip : fact (get_or edges k any) → ((d : T) → Contains (take k edges) d → Contains kept d ⊎ fact d) →
       (d : T) → Contains (take (k + 1) edges) d →
       Contains kept d ⊎ fact d
   others_skip f before d c = elim (one_of d c) [ inl b ↦ before d b | inr q ↦ inr (subst fact q f) ]
 
--- the inputs of a process are edges
+-- the inputs of a process are edges of the graph
 pub inputs_below : (g : Graph) (p : ℕ) → All (λ e. e < edge_count g) (inputs g p)
 inputs_below g p = All-weaker (Contains (inputs g p)) (λ e. e < edge_count g) (λ e k. (inputs_parts g p e k).0)
     (inputs g p) (All-contains_itself (inputs g p))

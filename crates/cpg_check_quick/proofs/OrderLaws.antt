@@ -67,6 +67,7 @@ pub record AreSoFar (lasts : ℕ → Scenario → ℕ) (g : Graph) (tables : Lis
   pub count : length list ≡ n
   pub each : (x : ℕ) (d : Course) → x < length list → IsCourse g tables (lasts x) x (get_or list x d)
 
+-- the course of the next item after those of the first ones makes the courses of one item more
 pub courses_more : (lasts : ℕ → Scenario → ℕ) (g : Graph) (tables : List NodeTable) (n : ℕ) (list : List Course)
     (course : Course) →
     AreSoFar lasts g tables n list →
@@ -86,7 +87,7 @@ courses_more lasts g tables n list course before here = record {
 
 -- ---- one column
 
--- what is told of the column at the tree's place is told of each that matches
+-- what holds for the column at the tree's place holds for each that matches
 module _ {g : Graph} {columns : List Column} {tree : PlacesState} (is : IsRowTree g columns tree) (s : Scenario)
     (law : IsScenario g s) (fact : Column → Type 0) where
   by_place : (o : Option ℕ) → place_at tree s ≡ o → IfSome o (λ i. fact (column_at columns i)) → (d : Column) →
@@ -97,18 +98,22 @@ module _ {g : Graph} {columns : List Column} {tree : PlacesState} (is : IsRowTre
       let same : c.0 ≡ i = place_only is s law i c.0 e c.1 (ap (λ (d : Column). matches d.cube s) at ∙ m) in
       subst fact (ap (column_at columns) (sym same) ∙ at) h
 
+  -- a fact of the column at the scenario's place is one of each column that matches
   pub each_told : IfSome (place_at tree s) (λ i. fact (column_at columns i)) → (d : Column) → Contains columns d →
       matches d.cube s ≡ true → fact d
   each_told h = by_place (place_at tree s) refl h
 
+-- the span of an item, and a scenario
 module _ {g : Graph} {lasts : Scenario → ℕ} {span : ItemSpan} (is : IsSpan g lasts span)
     {s : Scenario} (law : IsScenario g s) where
+  -- a start that is past by the span's length of some count is over by the time
   pub past_over : (start time : ℕ) → IsPast span start time s → start + lasts s ≤ time
   past_over start time p = omega (arith, is.enough s p.count law p.most p.known, p.over)
 
+-- the course of an item, and a scenario
 module _ {g : Graph} {tables : List NodeTable} {lasts : Scenario → ℕ} {x : ℕ} {course : Course}
     (is : IsCourse g tables lasts x course) {s : Scenario} (law : IsScenario g s) where
-  -- by the last column
+  -- an item is over by a time if its last column and its longest length are
   pub early_over : (time : ℕ) → course.last + course.span.longest ≤ time → IsOverBy tables (lasts s) x time s
   early_over time h d c m =
       let last : d.time ≤ course.last =
@@ -129,7 +134,7 @@ module _ {g : Graph} {tables : List NodeTable} {lasts : Scenario → ℕ} {x : �
     row_tree = subst (λ (o : Option PlacesState). IfSome o (λ (t : PlacesState). IsRowTree g (columns_of tables x) t))
         there is.tree
 
-    -- by the tree
+    -- an item is over by a time if it is past by then from the column at its tree's place
     pub told_over : (time : ℕ) →
         IfSome (place_at tree s) (λ i. IsPast course.span (column_at course.columns.now i).time time s) →
         IsOverBy tables (lasts s) x time s
@@ -138,7 +143,7 @@ module _ {g : Graph} {tables : List NodeTable} {lasts : Scenario → ℕ} {x : �
         (subst (λ (columns : List Column).
         IfSome (place_at tree s) (λ i. IsPast course.span (column_at columns i).time time s)) is.columns h) d c m)
 
-    -- by the tree, one or the other
+    -- an item and another one are apart if one is past by the other's time from the column at the tree's place
     pub told_apart : {other : Scenario → ℕ} {span : ItemSpan} → IsSpan g other span → (time : ℕ)
         → IfSome (place_at tree s) (λ i. IsPast course.span (column_at course.columns.now i).time time s ⊎
         IsPast span time (column_at course.columns.now i).time s) →
@@ -158,20 +163,21 @@ module _ {g : Graph} {tables : List NodeTable} {last : Scenario → ℕ} {x : �
   its_tree = subst (λ (o : Option PlacesState). IfSome o (λ (t : PlacesState). IsRowTree g (columns_of tables x) t))
       there is.tree
 
--- what is told of the column that a look-up finds
+-- what holds for the column that a look-up finds holds for the column at the place
 pub told_at : (fact : Column → Type 0) (columns : List Column) (i : ℕ) (c : Column) → i < length columns →
     c ≡ get_or columns i c → fact c →
     fact (column_at columns i)
 told_at fact columns i c l is h =
     subst fact (is ∙ sym (get_or_default columns i (record { time = 0; cube = [] }) c l)) h
 
--- what is told in some place, of what is told there
+-- what holds for the place of a scenario, from what holds for each place
 pub told_so : {P Q : ℕ → Type 0} (o : Option ℕ) → IfSome o P → ((i : ℕ) → P i → Q i) → IfSome o Q
 told_so None h f = tt
 told_so (Some i) h f = f i h
 
 -- ---- two trees
 
+-- the course of an item with a tree, and a scenario
 module _ {g : Graph} {tables : List NodeTable} {lasts : Scenario → ℕ} {y : ℕ} {one : Course}
     (is : IsCourse g tables lasts y one) {s : Scenario} (law : IsScenario g s) (own : PlacesState)
     (there : one.tree.now ≡ Some own) where
@@ -181,14 +187,15 @@ module _ {g : Graph} {tables : List NodeTable} {lasts : Scenario → ℕ} {y : �
     | inr past ↦ told_over is law own there time past
   ]
 
+-- the courses of two items
 module _ {g : Graph} {tables : List NodeTable} (lasts : ℕ → Scenario → ℕ) {y x : ℕ} {one other : Course}
     (is : IsCourse g tables (lasts y) y one) (by : IsCourse g tables (lasts x) x other) where
-  -- what is over by the first column of another is over before it
+  -- an item that is over by the first column of another is over before it
   pub early_before : one.last + one.span.longest ≤ other.first → IsOver lasts g tables y x
   early_before h s c law here m = early_over is law c.time
       (omega (arith, h, All-contains (λ (d : Column). other.first ≤ d.time) (columns_of tables x) c by.first here))
 
-  -- what is over by the time of the column at each place of another's tree is over before it
+  -- an item that is over by the time of the column at each place of another's tree is over before it
   pub walked_before : (own tree : PlacesState) → one.tree.now ≡ Some own → other.tree.now ≡ Some tree
       → ((s : Scenario) → IsScenario g s →
       IfSome (place_at tree s) (λ i. IsOverAt one (column_at other.columns.now i).time (place_at own s) s)) →
@@ -203,7 +210,7 @@ module _ {g : Graph} {tables : List NodeTable} (lasts : ℕ → Scenario → ℕ
 -- ---- columns one after another
 
 module _ (lasts : ℕ → Scenario → ℕ) (g : Graph) (tables : List NodeTable) where
-  -- what is over by each column's time is over before the item
+  -- an item that is over by each column's time is over before the column's item
   pub over_all : (x : ℕ) (columns : List Column) (items : List ℕ) → columns ≡ columns_of tables x
       → ((s : Scenario) → IsScenario g s → All
       (λ (c : Column). matches c.cube s ≡ true → All (λ y. IsOverBy tables (lasts y s) y c.time s) items) columns)
@@ -213,6 +220,7 @@ module _ (lasts : ℕ → Scenario → ℕ) (g : Graph) (tables : List NodeTable
       columns c (each s law)
       (subst (λ (cs : List Column). Contains cs c) (sym all) here) m k d l
 
+  -- if each column's time is apart from each of some items, the items are apart from the column's item
   pub apart_all : (x : ℕ) (columns : List Column) (items : List ℕ) → columns ≡ columns_of tables x
       → ((s : Scenario) → IsScenario g s → All (λ (c : Column). matches c.cube s ≡ true →
       All (λ y. IsApartAt tables (lasts y s) y (lasts x s) c.time s) items) columns)
@@ -226,6 +234,7 @@ module _ (lasts : ℕ → Scenario → ℕ) (g : Graph) (tables : List NodeTable
   pub over_apart : (y x : ℕ) → IsOver lasts g tables y x → IsApart lasts g tables y x
   over_apart y x h s c law here m d at n = inl (h s c law here m d at n)
 
+  -- an item is apart from one that is over before it
   pub apart_over : (y x : ℕ) → IsOver lasts g tables x y → IsApart lasts g tables y x
   apart_over y x h s c law here m d at n = inr (h s d law at n c here m)
 
@@ -261,6 +270,11 @@ module _ (g : Graph) (tables : List NodeTable) (present : Holds g tables Rule.Pr
         let b : e.0.time + lasts r s ≤ c.time = k s c law here m e.0 e.1 e.2 in
         omega (arith, a, b)
 
+    -- an item at a place of an order: those from a start on are over before it, and the start is always active
+    -- `items`, `place`, `there`: an order and the item at one of its places; `start`, `within`: a place before it or
+    -- there
+    -- `always`: the item at the start, unless that is place 0, is active in each scenario
+    -- `here`: the items from the start on are over before the item at the place
     module _ (items : List ℕ) (place start : ℕ) (there : place < length items) (within : start ≤ place)
         (always : 0 < start →
         (start < place) × IsUnconditional g (get_or items start 0) × (get_or items start 0 < item_count g))
@@ -283,7 +297,7 @@ module _ (g : Graph) (tables : List NodeTable) (present : Holds g tables Rule.Pr
           before_over (get_or items i 0) (get_or items start 0) (get_or items place 0) is.2 is.1 (before i start h is.0)
           (near start (omega arith) is.0)
 
-      -- one place more
+      -- if the items before a place are in turn, those up to the place are
       pub in_turn_more : ((i j : ℕ) → i < j → j < place → IsOver lasts g tables (get_or items i 0) (get_or items j 0)) →
           (i j : ℕ) → i < j → j < place + 1 →
           IsOver lasts g tables (get_or items i 0) (get_or items j 0)
@@ -307,6 +321,7 @@ pub record IsInTurnTo (courses : Courses) (items : List ℕ) (place start : ℕ)
       Holds g tables Rule.Present → (i j : ℕ) → i < j → j < place →
       IsOver lasts g tables (get_or items i 0) (get_or items j 0)
 
+-- if those from the start on are over before the next item, the items up to that are in turn
 pub turn_step : (courses : Courses) (items : List ℕ) (place start next : ℕ) (b : Bool) → next ≡ cond b place start →
     place < length items
     → ((g : Graph) (tables : List NodeTable) (lasts : ℕ → Scenario → ℕ) → AreCourses lasts g tables courses → b ≡ true →
@@ -366,6 +381,7 @@ order_at lasts g tables orders list node order all same l is =
     (sym (is ∙ ap (λ (os : List (Vec ℕ Global)). get_or os node order) same))
     (all node order (omega (arith, l, ap length same)))
 
+-- an order of items in turn may be added to such orders
 pub orders_more : (lasts : ℕ → Scenario → ℕ) (g : Graph) (tables : List NodeTable) (orders : List (Vec ℕ Global))
     (order : Vec ℕ Global) →
     All (λ o. IsInTurn lasts g tables o.items) orders →
@@ -381,7 +397,7 @@ module _ (lasts : ℕ → Scenario → ℕ) (g : Graph) (tables : List NodeTable
   abbrev pub Known : List ℕ → ℕ → Type 0
   Known left y = Contains left y ⊎ IsApart lasts g tables y x
 
-  -- one more that is left
+  -- with the next item left, each of one item more is left or known to be apart
   pub known_push : (left items : List ℕ) (i : ℕ) → i < length items → All (Known left) (take i items) →
       All (Known (left ++ get_or items i 0 ∷ [])) (take (i + 1) items)
   known_push left items i l before = All-more (Known (left ++ get_or items i 0 ∷ [])) items i 0 l

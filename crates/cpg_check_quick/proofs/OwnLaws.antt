@@ -47,7 +47,7 @@ module _ (g : Graph) (tables : List NodeTable) (rules : AllHold g tables row_rul
           ap (λ (c : Column). breaks_inputs_of g tables s c.time (item_at g x)) (sym at) ∙ none in
           not-false (is_by c.time (ends_of g tables s (producer g x))) (sym (waits g s x lx send tables c.time) ∙ here)
 
-      -- what is always over before the producer has ended, too
+      -- so has a process that is always over before the producer
       pub earlier_ended : WellFormed g → (q : ℕ) → q < process_count g → IsBefore g tables q (producer g x) →
           IsSure g tables Rule.Inputs x →
           IsEndedBy g tables q x
@@ -59,6 +59,7 @@ module _ (g : Graph) (tables : List NodeTable) (rules : AllHold g tables row_rul
           over_ended g tables rules s law c.time q l a (λ e h n. let over = before s d.0 law d.1 d.2 e h n in
           omega (arith, over, d.3))
 
+    -- a column of the item, and a literal whose variable a literal of the column bounds at least as closely
     module _ (few : process_count g ≤ 128) (c : Column) (l : Literal) (k : Contains (columns_of tables x) c)
         (h : IsToldIn c.cube l) where
       -- the literal's process is active, and its number in range
@@ -127,7 +128,7 @@ module _ (g : Graph) (tables : List NodeTable) (rules : AllHold g tables row_rul
         | inr heard ↦ heard
       ]
 
--- one variable more
+-- with the next variable marked only if its process has ended, the marks are right
 pub own_more : (g : Graph) (tables : List NodeTable) (x : ℕ) (known : List Bool) (k : ℕ) (b : Bool) → k < length known →
     AreOwnEnded g tables x known →
     OnTrue b (IsOwnEnded g tables x k) →
@@ -138,7 +139,7 @@ own_more g tables x known k b within before here v t = elim (cases_eq v k) [
   | inr other ↦ before v (sym (get_or-set_other known k v b false other) ∙ t)
 ]
 
--- at first none is marked
+-- at first no variable is marked
 pub none_marked : (n v : ℕ) → get_or (replicate n false) v false ≡ true → ⊥
 none_marked zero v t = true≢false (sym t)
 none_marked (suc n) zero t = true≢false (sym t)

@@ -21,13 +21,17 @@ use Rattle.cpg_check_quick.specs.Speakers.{AreToldIn, HasCome, IsSpeaker, IsTold
 use Rattle.cpg_check_quick.specs.declared.speakers.Speaker.{Speaker}
 use Rattle.cpg_check_quick.proofs.HeardLaws.{heard_frame}
 
+-- an item that a node hears, and a literal whose variable a literal of a column bounds at least as closely
 module _ {g : Graph} {tables : List NodeTable} {node : ℕ} {speaker : Speaker} (is : IsSpeaker g tables node speaker)
     (places : List ℕ) (c : Column) (l : Literal) (h : IsToldIn c.cube l) where
+  -- if a frame of the speaker has come by the column's time, and the speaker implies the literal at the place found,
+  -- the node has heard the literal; by cases on whether the frame carries the value, or its column's cube bounds it
   told_by : (s : Scenario) → IsScenario g s → matches c.cube s ≡ true →
       IsTold speaker.value speaker.columns.now places l → (o : Option ℕ) →
       place_at speaker.tree.now s ≡ o
       → HasCome speaker.columns.now speaker.delay c.time o → IsAmong places o →
       is_heard g.faults (facts g tables node s c.time) l ≡ true
+  -- no place is found, which the list of places excludes
   told_by s law m told None e come among = absurd among
   told_by s law m told (Some i) e come among =
       let d : Column = column_at (columns_of tables speaker.item) i in
@@ -42,6 +46,7 @@ module _ {g : Graph} {tables : List NodeTable} {node : ℕ} {speaker : Speaker} 
       let to : number_of s l.variable ≤ h.by.high =
       subst (λ v. number_of s v ≤ h.by.high) h.variable (leb-true _ _ inside.1) in
       elim told as (λ _. is_heard g.faults (facts g tables node s c.time) l ≡ true) [
+        -- the frame carries the value of the variable
         | inl value ↦
             let carried : Contains (frame_value s (item_at g speaker.item))
             (exactly l.variable (number_of s l.variable)) =
@@ -52,6 +57,7 @@ module _ {g : Graph} {tables : List NodeTable} {node : ℕ} {speaker : Speaker} 
             is.heard (Contains-get_or (columns_of tables speaker.item) i _ there) match by
             (Contains-append_right d.cube (frame_value s (item_at g speaker.item)) _ carried) refl
             (omega (arith, h.low, from)) (omega (arith, to, h.high))
+        -- the column at the place bounds the variable as closely
         | inr all ↦
             let at : IsToldIn d.cube l = subst (λ (d : Column). IsToldIn d.cube l) same
             (All-contains (λ i. IsToldIn (column_at speaker.columns.now i).cube l) places i all among) in
@@ -73,6 +79,7 @@ module _ {g : Graph} {tables : List NodeTable} {node : ℕ} {speaker : Speaker} 
 module _ {g : Graph} {tables : List NodeTable} {node : ℕ} {speaker : Speaker} (is : IsSpeaker g tables node speaker)
     (places : List ℕ) (c : Column) (wanted left : List Literal)
     (wider : AreToldIn c.cube wanted) where
+  -- if the frames have come wherever the column matches, the literals that they don't tell are those left
   pub left_untold : ((l : Literal) → Contains left l → Contains wanted l) →
       ((l : Literal) → Contains wanted l → Contains left l ⊎ IsTold speaker.value speaker.columns.now places l)
       → ((s : Scenario) → IsScenario g s → matches c.cube s ≡ true → HasCome speaker.columns.now speaker.delay c.time
@@ -85,11 +92,11 @@ module _ {g : Graph} {tables : List NodeTable} {node : ℕ} {speaker : Speaker} 
   }
 
 module _ (g : Graph) (tables : List NodeTable) (node : ℕ) (c : Column) where
-  -- all, at first
+  -- at first all wanted literals are left
   pub left_first : (wanted : List Literal) → AreLeft g tables node c wanted wanted
   left_first wanted = record { among = λ l h. h; heard = λ l h. inl h }
 
-  -- what is left of those that are left is left of all
+  -- the literals left of those left are those left of all
   pub left_more : (wanted left next : List Literal) → AreLeft g tables node c wanted left →
       AreLeft g tables node c left next →
       AreLeft g tables node c wanted next

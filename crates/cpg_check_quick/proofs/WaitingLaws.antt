@@ -8,7 +8,7 @@ use Rattle.cpg_check_quick.specs.Inputs.{IsInputCourse, IsInputOver}
 use Rattle.cpg_check_quick.specs.Order.{IsOverBy, execution, frame}
 use Rattle.cpg_check_quick.specs.declared.course.Course.{Course}
 
--- what is over of each item that a row may be of is over of the input
+-- if each item that the row may belong to is over, the input is
 pub input_over : {g : Graph} {tables : List NodeTable} {e : ℕ} {course : Course} → IsInputCourse g tables e course →
     (time : ℕ) (s : Scenario)
     → ((lasts : Scenario → ℕ) (x : ℕ) → IsCourse g tables lasts x course → IsOverBy tables (lasts s) x time s) →

@@ -13,10 +13,10 @@ abbrev pub high_of : ℕ → Literal → List Literal
 high_of k l = if nat_le (top k l.variable) l.high then []
     else record { variable = l.variable; low = 0; high = l.high } ∷ []
 
--- both
+-- the low and the high
 abbrev pub bounds_of : ℕ → Literal → List Literal
 bounds_of k l = low_of k l ++ high_of k l
 
--- none, if a variable's number is known
+-- the bounds of a literal, or none if its variable's number is known
 abbrev pub unknown_bounds : ℕ → List Bool → Literal → List Literal
 unknown_bounds k known l = if get_or known l.variable false then [] else bounds_of k l

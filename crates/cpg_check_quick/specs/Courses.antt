@@ -16,11 +16,13 @@ use Rattle.cpg_check_quick.specs.declared.course.Courses.{Courses}
 -- for each number that the variable has at most, the item lasts no longer than the length of that number, nor than the
 -- longest
 pub record IsSpan (g : Graph) (lasts : Scenario → ℕ) (span : ItemSpan) : Type 0 where
+  -- whatever bound n the variable's number has, the length at n is enough
   pub enough : (s : Scenario) (n : ℕ) → IsScenario g s → number_of s span.variable ≤ n → n ≤ MOST_FAULTS →
       lasts s ≤ get_or span.lengths n 0
+  -- the longest length is enough in any case
   pub longest : (s : Scenario) → IsScenario g s → lasts s ≤ span.longest
 
--- what starts at a time is over by another, with a length of a number that the variable has at most
+-- an item that starts at a time is over by another, with the length of a number that the variable has at most
 pub record IsPast (span : ItemSpan) (start time : ℕ) (s : Scenario) : Type 0 where
   pub count : ℕ
   pub most : number_of s span.variable ≤ count
@@ -37,7 +39,9 @@ pub record IsCourse (g : Graph) (tables : List NodeTable) (lasts : Scenario → 
     (course : Course) : Type 0 where
   pub item : x < item_count g
   pub columns : course.columns.now ≡ columns_of tables x
+  -- the tree, if one was made, is a tree of these columns
   pub tree : IfSome course.tree.now (IsRowTree g (columns_of tables x))
+  -- no column is earlier than `first`, or later than `last`
   pub first : All (λ d. course.first ≤ d.time) (columns_of tables x)
   pub last : All (λ d. d.time ≤ course.last) (columns_of tables x)
   pub span : IsSpan g lasts course.span
@@ -50,6 +54,8 @@ pub record HasAll (g : Graph) (space : Space) : Type 0 where
 -- the courses of the first items, and a space of all scenarios
 pub record AreCourses (lasts : ℕ → Scenario → ℕ) (g : Graph) (tables : List NodeTable)
     (courses : Courses) : Type 0 where
+  -- a space in which all scenarios lie
   pub everywhere : HasAll g courses.everywhere
+  -- a course for each of the first items
   pub each : (x : ℕ) (d : Course) → x < length courses.list.items →
       IsCourse g tables (lasts x) x (get_or courses.list.items x d)

@@ -19,7 +19,9 @@ IsHeardIn g tables node c l = (s : Scenario) → IsScenario g s → matches c.cu
 -- wherever a column matches, a node has heard each of some literals by its time that isn't among those that are left
 pub record AreLeft (g : Graph) (tables : List NodeTable) (node : ℕ) (c : Column)
     (wanted left : List Literal) : Type 0 where
+  -- what is left is wanted
   pub among : (l : Literal) → Contains left l → Contains wanted l
+  -- each wanted literal is left, or heard
   pub heard : (l : Literal) → Contains wanted l → Contains left l ⊎ IsHeardIn g tables node c l
 
 -- wherever a column matches, a node has heard all its literals by its time
@@ -45,7 +47,7 @@ pub record IsOwnEnded (g : Graph) (tables : List NodeTable) (x v : ℕ) : Type 0
   pub near : node_of g process ≡ home g x
   pub ended : IsEndedBy g tables process x
 
--- all variables that are marked are such
+-- all variables that are marked are of processes on the item's node that have always ended by its columns
 abbrev pub AreOwnEnded : Graph → List NodeTable → ℕ → List Bool → Type 0
 AreOwnEnded g tables x marks = (v : ℕ) → get_or marks v false ≡ true → IsOwnEnded g tables x v
 

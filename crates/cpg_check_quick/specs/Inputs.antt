@@ -19,12 +19,12 @@ abbrev pub IsInputThere : Graph → List NodeTable → Column → ℕ → Type 0
 IsInputThere g tables c e = (s : Scenario) → IsScenario g s → matches c.cube s ≡ true → live g s.values e ≡ true →
     input_is_there g tables s c.time e ≡ true
 
--- what an input comes from, a message or an execution on the same node, is over by a time
+-- the message of an input, or the execution of its source if there is no message, is over by a time
 pub record IsInputOver (g : Graph) (tables : List NodeTable) (e time : ℕ) (s : Scenario) : Type 0 where
   pub message : is_message g e ≡ true → IsOverBy tables (frame g (message_item g e) s) (message_item g e) time s
   pub source : is_message g e ≡ false → IsOverBy tables (execution g (source g e) s) (source g e) time s
 
--- the row of what it comes from
+-- a course of the message of an input, or of the execution of its source if there is no message
 pub record IsInputCourse (g : Graph) (tables : List NodeTable) (e : ℕ) (course : Course) : Type 0 where
   pub message : is_message g e ≡ true → IsCourse g tables (frame g (message_item g e)) (message_item g e) course
   pub source : is_message g e ≡ false → IsCourse g tables (execution g (source g e)) (source g e) course
@@ -42,5 +42,7 @@ pub record IsWaiting (g : Graph) (tables : List NodeTable) (w : Waiting) : Type 
 
 -- a column is no earlier than a release, nor than these inputs
 pub record IsLateEnough (g : Graph) (tables : List NodeTable) (edges : List ℕ) (release : ℕ) (c : Column) : Type 0 where
+  -- no earlier than the release
   pub released : release ≤ c.time
+  -- each input is there by then
   pub there : (e : ℕ) → Contains edges e → IsInputThere g tables c e

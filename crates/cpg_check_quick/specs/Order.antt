@@ -8,7 +8,8 @@ use Rattle.cpg_cube.specs.Cube.{matches}
 use Rattle.cpg_table.specs.Table.{NodeTable, columns_of}
 use Rattle.cpg_cube.specs.declared.column.Column.{Column}
 
--- from each column of an item that matches, what lasts so long is over by the time
+-- from each column of an item that matches, an item that lasts this long is over by the time
+-- `tables`, `lasts`: the tables, and how long the item lasts; `y`, `time`, `s`: the item, the time and the scenario
 abbrev pub IsOverBy : List NodeTable → ℕ → ℕ → ℕ → Scenario → Type 0
 IsOverBy tables lasts y time s =
     (d : Column) → Contains (columns_of tables y) d → matches d.cube s ≡ true → d.time + lasts ≤ time
@@ -19,8 +20,9 @@ IsOver lasts g tables y x =
     (s : Scenario) (c : Column) → IsScenario g s → Contains (columns_of tables x) c → matches c.cube s ≡ true →
     IsOverBy tables (lasts y s) y c.time s
 
--- for each column of an item that matches, the item is over by the time, or what is at that time is over by the
+-- for each column of an item that matches, the item is over by the time, or another one from that time by the
 -- column's
+-- `y`, `lasts`: the item and how long it lasts; `other`: how long the other item lasts, if that begins at `time`
 abbrev pub IsApartAt : List NodeTable → ℕ → ℕ → ℕ → ℕ → Scenario → Type 0
 IsApartAt tables lasts y other time s = (d : Column) → Contains (columns_of tables y) d → matches d.cube s ≡ true →
     (d.time + lasts ≤ time) ⊎ (time + other ≤ d.time)

@@ -1,4 +1,4 @@
--- What a node hears of others, and which literals that tells.
+-- What a node hears of others, and which literals it learns from that.
 use Rattle.std.specs.Prelude.{ℕ, ◌+◌, ◌≡◌, ◌≤◌, ◌<◌, ◌⊎◌, true, List, Option, None, Some, IfSome, All, Contains}
 use Rattle.cpg_base.specs.Bus.{slot_length}
 use Rattle.cpg_base.specs.Graph.{Graph, home, is_heard_by, item_at, item_count}
@@ -18,7 +18,9 @@ pub record IsSpeaker (g : Graph) (tables : List NodeTable) (node : ℕ) (speaker
   pub heard : is_heard_by g node (item_at g speaker.item) ≡ true
   pub columns : speaker.columns.now ≡ columns_of tables speaker.item
   pub tree : IsRowTree g (columns_of tables speaker.item) speaker.tree.now
+  -- a frame is there a slot of its node after its column's time
   pub delay : speaker.delay ≡ slot_length g (home g speaker.item)
+  -- if the frames carry a value, it is that of this variable
   pub value : IfSome speaker.value
       (λ v. (s : Scenario) → Contains (frame_value s (item_at g speaker.item)) (exactly v (number_of s v)))
 
@@ -35,7 +37,7 @@ pub record IsToldIn (literals : List Literal) (l : Literal) : Type 0 where
   pub low : l.low ≤ by.low
   pub high : by.high ≤ l.high
 
--- a frame carries the value that a literal speaks of, or the column at each of these places has such a literal
+-- a frame carries the value that a literal speaks of, or the column at each of these places bounds it as closely
 abbrev pub IsTold : Option ℕ → List Column → List ℕ → Literal → Type 0
 IsTold value columns places l = (value ≡ Some l.variable) ⊎ All (λ i. IsToldIn (column_at columns i).cube l) places
 

@@ -1,4 +1,4 @@
-//! Items of one node of which one is always over before the other begins, whichever of them.
+//! Items of one node that are apart: one of two is always over before the other begins.
 ghost use Rattle.std.specs.Prelude.{◌≡◌, ◌⊎◌, ℕ, All, Contains, IfOk, IfSome, List, true};
 ghost use Rattle.std.specs.Bool.{OnTrue};
 ghost use Rattle.cpg_base.specs.Graph.{Graph};
@@ -20,7 +20,7 @@ use cpg_row_trees::Test;
 use cpg_tree::Space;
 use std::alloc::Global;
 
-/// That what lasts so long is over by a time, from the column at each place, or what is at that time by the column's.
+/// Tests whether an item is over by a time from the column at a place, or another from that time by the column's.
 #[derive(Drop)]
 struct TimeParts<'a> {
     columns: &'a [Column],
@@ -152,7 +152,7 @@ impl<'a> Courses<'a> {
 }
 
 impl<'a> Turns<'a> {
-    /// Those of these items of a node of which it isn't known by the order whether they are apart from another.
+    /// Those of these items of a node that the order doesn't show to be apart from another.
     fn untold(
         &self,
         alloc: Global,

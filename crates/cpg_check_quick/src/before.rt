@@ -1,4 +1,4 @@
-//! What is always over before something else begins.
+//! Which items are always over before others begin.
 ghost use Rattle.std.specs.Prelude.{◌≡◌, ◌<◌, ℕ, All, IfSome, List, Some, true};
 ghost use Rattle.std.specs.Bool.{OnTrue};
 ghost use Rattle.cpg_base.specs.Graph.{Graph};
@@ -17,7 +17,7 @@ use cpg_cube::Column;
 use cpg_row_trees::{PairTest, Places, Test};
 use cpg_tree::Space;
 
-/// That what lasts so long is over by a time, from the column at each place.
+/// Tests whether an item with this span is over by a time, from the column at a place.
 #[derive(Drop)]
 struct Ends<'a> {
     columns: &'a [Column],
@@ -29,6 +29,7 @@ impl<'a> Test for Ends<'a> {
     ghost guarantees = { λ test place s. IfSome place (λ i. IsPast test.span (column_at test.columns.now i).time test.time s) };
 
     fn passes(&self, place: Option<u32>, space: &Space) -> bool {
+        // no column matches, so there is nothing to be over
         let Some(place) = place else {
             return true;
         };
@@ -39,7 +40,7 @@ impl<'a> Test for Ends<'a> {
     }
 }
 
-/// That an item is over by the time of another's column, from the columns at a place of each.
+/// Tests whether an item is over by the time of another's column, from the columns at a place of each.
 #[derive(Drop)]
 struct Before<'a> {
     course: &'a Course<'a>,
@@ -50,6 +51,7 @@ impl<'a> PairTest for Before<'a> {
     ghost guarantees = { λ test place own s. IfSome place (λ i. IsOverAt test.course.now (column_at test.columns.now i).time own s) };
 
     fn passes_with_any(&self, first: Option<u32>) -> bool {
+        // the other item isn't active, so there is nothing to compare
         let Some(place) = first else {
             return true;
         };
@@ -60,6 +62,7 @@ impl<'a> PairTest for Before<'a> {
     }
 
     fn passes(&self, first: Option<u32>, second: Option<u32>, space: &Space) -> bool {
+        // the other item isn't active, so there is nothing to compare
         let Some(place) = first else {
             return true;
         };
@@ -91,12 +94,13 @@ impl<'a> Course<'a> {
         test.passes(place, space)
     }
 
-    /// Whether the item is over before another that has a tree: a walk down it and the own tree has the scenarios of each two
+    /// Whether the item is over before another that has a tree: a walk down both trees has the scenarios of each two
     /// columns.
     fn ends_before(&self, everywhere: &Space, other: &Course<'_>, tree: &Places) -> bool
         ensures { OnTrue result ((g : Graph) (tables : List NodeTable) (lasts : ℕ → Scenario → ℕ) (y x : ℕ) → HasAll g everywhere.now →
             IsCourse g tables (lasts y) y self.now → IsCourse g tables (lasts x) x other.now → other.now.tree.now ≡ Some tree.now → IsOver lasts g tables y x) }
     {
+        // its latest end is no later than the other's first time
         if has_come(self.last, self.span.longest, other.first) {
             return true;
         }
@@ -115,9 +119,11 @@ impl<'a> Course<'a> {
         ensures { OnTrue result ((g : Graph) (tables : List NodeTable) (lasts : Scenario → ℕ) (x : ℕ) (s : Scenario) →
             IsCourse g tables lasts x self.now → IsScenario g s → IsInSpace space.now s → IsOverBy tables (lasts s) x time s) }
     {
+        // its latest end is no later than the time
         if self.is_early(time) {
             return true;
         }
+        // without a tree nothing else is known of it
         let Some(tree) = self.tree else {
             return false;
         };
@@ -169,10 +175,12 @@ impl<'a> Courses<'a> {
             AreCourses lasts g tables self.now → IsScenario g s → matches column.now.cube s ≡ true →
             All (λ y. IsOverBy tables (lasts y s) y column.now.time s) items.now) }
     {
+        // known without the column's cube
         if self.are_early(items, column.time) {
             return true;
         }
         let mut space = self.everywhere;
+        // no scenario matches the column
         if !space.narrow_to(column.cube.literals()) {
             return true;
         }
@@ -214,6 +222,7 @@ impl<'a> Courses<'a> {
         ensures { OnTrue result ((g : Graph) (tables : List NodeTable) (lasts : ℕ → Scenario → ℕ) (x : ℕ) →
             AreCourses lasts g tables self.now → IsCourse g tables (lasts x) x course.now → All (λ y. IsOver lasts g tables y x) items.now) }
     {
+        // without a tree of the other's row, its columns are gone over one by one
         let Some(tree) = course.tree else {
             return self.come_before(items, course.columns);
         };

@@ -1,4 +1,4 @@
-//! What a node has to hear of literals: lows and highs, which different items may tell it.
+//! What a node has to hear of literals: lows and highs, which it may hear from different items.
 ghost use Rattle.std.specs.Prelude.{◌≡◌, ◌++◌, if◌then◌else◌, IfOk, [], flat_map};
 ghost use Rattle.cpg_check_quick.specs.Bounds.{bounds_of, high_of, low_of, unknown_bounds};
 

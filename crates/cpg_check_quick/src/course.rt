@@ -1,4 +1,4 @@
-//! The rows of items, with what is asked of them before their columns are compared.
+//! The rows of items, with what is asked about them before their columns are compared.
 ghost use Rattle.std.specs.Prelude.{◌≡◌, ◌<◌, ℕ, IfOk, length};
 ghost use Rattle.cpg_base.specs.Graph.{item_count, process_count};
 ghost use Rattle.cpg_base.specs.Scenario.{Scenario};
@@ -34,12 +34,12 @@ pub(crate) struct Course<'a> {
 /// The courses of the first items, by number.
 #[derive(Drop)]
 pub(crate) struct Courses<'a> {
-    /// All scenarios: made once, since a space is long to make.
+    /// All scenarios. The space is made once, since it takes long to make.
     pub(crate) everywhere: Space,
     pub(crate) list: Vec<Course<'a>>,
 }
 
-/// The course of an item that lasts so long.
+/// The course of an item with this span.
 fn course_of<'a>(
     admitted: &Admitted,
     tables: &'a Tables,

@@ -38,7 +38,7 @@ fn longest(columns: &[Column]) -> usize {
     most
 }
 
-/// All items, those with the longest columns first: one that tells much tells mostly all.
+/// All items, those with the longest columns first: an item that tells much mostly tells all.
 fn longest_first(
     alloc: Global,
     problem: &Problem,
@@ -88,7 +88,7 @@ fn push_inputs(
     Ok(())
 }
 
-/// These items, the messages to a process first: these mostly tell all that its columns speak of.
+/// These items, the messages to a process first: these mostly tell all the literals of its columns.
 fn inputs_first(
     alloc: Global,
     problem: &Problem,
@@ -130,11 +130,13 @@ impl<'a> Hall<'a> {
     {
         let problem = self.admitted.problem();
         let known = own_ended(self.admitted, self.turns, item, is_sent_in_time);
+        // all literals are on the node's own ended processes, so no frame is needed
         if are_all_known(&known, columns) {
             return Ok(true);
         }
         let node = problem.home(item);
         let process = problem.producer(item);
+        // the messages to the process come first: they mostly imply all that its columns say
         let items = inputs_first(alloc, problem, process, self.items.as_slice())?;
         let speakers = speakers(alloc, problem, self.frames, node, items.as_slice())?;
         let listener = Listener {
@@ -149,7 +151,7 @@ impl<'a> Hall<'a> {
     }
 }
 
-/// The items of which each literal is heard by the time of its column, wherever that matches, by what is known of executions
+/// The items each of whose literals is heard by the time of its column, wherever that matches, by what is known of executions
 /// and frames, and of the sends that keep V5.
 pub(crate) fn heard_marks(
     alloc: Global,

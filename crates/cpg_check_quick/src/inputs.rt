@@ -61,7 +61,7 @@ fn is_sure(
     Ok(sure)
 }
 
-/// The items of which no column is too early for what it waits for.
+/// The items that have no column too early for what it waits for.
 pub(crate) fn inputs_marks(
     alloc: Global,
     admitted: &Admitted,

@@ -64,13 +64,16 @@ fn has_ended(
 {
     let problem = admitted.problem();
     let node = problem.node_of(process);
+    // the item is a start: the process has to come before it in turn
     if (item as usize) < problem.processes().len() {
         return turns.is_before(node, process, item);
     }
+    // a send whose producer may end later than its columns says nothing
     if !is_sent_in_time {
         return false;
     }
     let producer = problem.producer(item);
+    // the producer has ended by then, as the send keeps V5
     if process == producer {
         return true;
     }
@@ -94,13 +97,14 @@ fn is_own_ended(
     let Some(process) = owner(problem, variable) else {
         return false;
     };
+    // the process is on another node
     if problem.node_of(process) != problem.home(item) {
         return false;
     }
     has_ended(admitted, turns, item, is_sent_in_time, process)
 }
 
-/// The variables of which this is so, by number.
+/// Marks of the variables whose process is on an item's node and has always ended by the item's columns, by number.
 pub(crate) fn own_ended(
     admitted: &Admitted,
     turns: &Turns<'_>,
@@ -119,7 +123,7 @@ pub(crate) fn own_ended(
     known
 }
 
-/// Whether all literals are on marked variables: without a way out before the last, so that the loop is taken in larger steps.
+/// Whether all literals are on marked variables. It never stops early, so that the loop is taken in larger steps.
 fn are_known(known: &[bool; VARIABLES], literals: &[Literal]) -> bool
     ensures { OnTrue result (All (λ l. get_or known.now l.variable false ≡ true) literals.now) }
 {
@@ -154,13 +158,14 @@ fn marked_from_start(known: &[bool; VARIABLES]) -> usize
     VARIABLES
 }
 
-/// Whether all literals of a cube are on known variables, the first `first` variables being known. It is told at once
+/// Whether all literals of a cube are on known variables, the first `first` variables being known. This is found at once
 /// if the last literal is on one of these, as the variables rise.
 fn is_cube_known(known: &[bool; VARIABLES], first: usize, cube: &Cube) -> bool
     requires { (v : ℕ) → v < first → get_or known.now v false ≡ true }
     ensures { OnTrue result (All (λ l. get_or known.now l.variable false ≡ true) cube.now) }
 {
     let literals = cube.literals();
+    // the last literal is on one of the first variables, so all are
     if are_below(literals, first) {
         return true;
     }
@@ -224,7 +229,8 @@ impl<'a> Listener<'a> {
         self.is_over(process, space, time)
     }
 
-    /// Whether this is so of the variables of all these literals.
+    /// Whether the processes of the variables of all these literals are on the node, and over by a time in the scenarios of a
+    /// space.
     fn are_over(&self, literals: &[Literal], space: &Space, time: u64) -> bool
         ensures { OnTrue result ((tables : List NodeTable) (s : Scenario) →
             AreTurns (execution self.now.admitted.now.graph) self.now.admitted.now.graph tables self.now.turns.now →

@@ -28,7 +28,7 @@ fn lower_on_node(alloc: Global, problem: &Problem, process: u32) -> Result<Vec<u
     Ok(lower)
 }
 
-/// Whether the executions of an item are known to overlap with none of a process of a lower number. What is no process
+/// Whether the executions of an item are known to overlap with none of a process of a lower number. An item that is no process
 /// has none.
 fn is_alone(
     alloc: Global,

@@ -143,13 +143,16 @@ fn has_own_slots(
     ensures { IfOk result (λ r. OnTrue r (IsSure admitted.now.graph tables.now.nodes Rule.Slot item)) }
 {
     let problem = admitted.problem();
+    // an item that isn't sent takes no slot
     if !problem.is_sent(item) {
         return Ok(true);
     }
     let node = problem.home(item);
+    // a column isn't at the start of a slot
     if !are_in_slots(problem, node, tables.columns_of(item)) {
         return Ok(false);
     }
+    // only lower numbers: the rule compares each pair once
     let lower = lower_sent(alloc, problem, item)?;
     let is_alone = turns.are_apart(alloc, node, lower.as_slice(), item)?;
     Ok(is_alone)

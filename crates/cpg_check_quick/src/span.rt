@@ -42,7 +42,7 @@ impl ItemSpan {
         }
     }
 
-    /// One time unit, for what has to be at another time.
+    /// One time unit, for items that only have to be at different times.
     pub(crate) fn one() -> ItemSpan
         ensures { (g : Graph) → IsSpan g (λ _. 1) result }
     {
@@ -64,7 +64,7 @@ impl ItemSpan {
         }
     }
 
-    /// Whether what starts at a time is over by another in all scenarios of a space.
+    /// Whether an item that starts at a time is over by another in all scenarios of a space.
     pub(crate) fn is_past(&self, start: u64, time: u64, space: &Space) -> bool
         ensures { OnTrue result ((s : Scenario) → IsInSpace space.now s → IsPast self.now start time s) }
     {

@@ -29,13 +29,13 @@ pub(crate) struct Speaker<'a> {
     pub(crate) tree: &'a Places,
     /// No column is at an earlier time.
     pub(crate) first: u64,
-    /// A frame is there so long after its column's time.
+    /// How long after its column's time a frame is there.
     pub(crate) delay: u64,
     /// The variable of the condition whose value a frame carries.
     pub(crate) value: Option<u8>,
 }
 
-/// Whether what takes so long from a start has come by a time.
+/// Whether a frame that takes this long from its start has come by a time.
 pub(crate) fn has_come(start: u64, delay: u64, time: u64) -> bool
     ensures { OnTrue result (start + delay ≤ time) }
 {
@@ -45,7 +45,7 @@ pub(crate) fn has_come(start: u64, delay: u64, time: u64) -> bool
     delay <= time - start
 }
 
-/// That there is a place, and the frame of its column has come by a time.
+/// Tests whether there is a place, and the frame of its column has come by a time.
 #[derive(Drop)]
 struct Arrivals<'a> {
     columns: &'a [Column],
@@ -57,9 +57,11 @@ impl<'a> Test for Arrivals<'a> {
     ghost guarantees = { λ test place s. HasCome test.columns.now test.delay test.time place };
 
     fn passes(&self, place: Option<u32>, _space: &Space) -> bool {
+        // no column matches, so no frame is there
         let Some(place) = place else {
             return false; // where no column matches, nothing is told
         };
+        // a place beyond the columns; a row's tree has none
         let Some(column) = self.columns.get(place as usize) else {
             return false;
         };
@@ -147,6 +149,7 @@ fn tell_at_all(columns: &[Column], places: &[u32], wanted: &Literal) -> bool
 fn alone<'a>(columns: &'a [Column], places: &[u32]) -> Option<&'a Column>
     ensures { IfSome result (λ column. All (λ i. column_at columns.now i ≡ column.now) places.now) }
 {
+    // none, or several: then each column is looked up for each literal
     if places.len() != 1 {
         return None;
     }
@@ -171,6 +174,7 @@ impl<'a> Speaker<'a> {
     fn tells(&self, places: &[u32], wanted: &Literal) -> bool
         ensures { OnTrue result (IsTold self.now.value self.now.columns.now places.now wanted.now) }
     {
+        // the value itself is in the frame, so any literal on it follows
         if self.carries(wanted.variable) {
             return true;
         }
@@ -201,6 +205,7 @@ impl<'a> Speaker<'a> {
     {
         left.clear();
         let mut at = 0;
+        // both lists go by rising variable, so the search goes on from the last place
         for literal in wanted {
             at = place_from(own, at, literal.variable);
             if self.tells_by(own, at, literal) {
@@ -232,8 +237,8 @@ impl<'a> Speaker<'a> {
         Ok(())
     }
 
-    /// Lists the same literals as `leave_each`, with the one column looked up once if there is a single place, as is
-    /// mostly so.
+    /// Lists the same literals as `leave_each`. If there is a single place, as there mostly is, its column is looked up
+    /// once.
     fn leave(
         &self,
         places: &[u32],
@@ -245,10 +250,12 @@ impl<'a> Speaker<'a> {
             Contains left.new.items l ⊎ IsTold self.now.value self.now.columns.now places.now l) }
     {
         match alone(self.columns, places) {
+            // the single column's literals are gone over along with the wanted ones
             Some(column) => {
                 self.leave_by(column.cube.literals(), wanted, left)?;
                 Ok(())
             }
+            // each wanted literal is looked up in the column at each place
             None => {
                 self.leave_each(places, wanted, left)?;
                 Ok(())
@@ -271,6 +278,7 @@ impl<'a> Speaker<'a> {
             AreToldIn column.now.cube wanted.now → ((s : Scenario) → IsScenario g s → matches column.now.cube s ≡ true → IsInSpace space.now s) →
             AreLeft g tables node column.now wanted.now left.new.items)) }
     {
+        // even the first frame comes too late
         if !has_come(self.first, self.delay, column.time) {
             return Ok(false);
         }
@@ -280,6 +288,7 @@ impl<'a> Speaker<'a> {
             delay: self.delay,
             time: column.time,
         };
+        // false if one of the frames that match comes too late, or none matches somewhere
         let all = self.tree.gather(space, &arrivals, places)?;
         if !all {
             return Ok(false);
@@ -294,6 +303,7 @@ fn value_of(problem: &Problem, item: Item) -> Option<u8>
     ensures { IfSome result (λ v. (s : Scenario) → Contains (frame_value s item) (exactly v (number_of s v))) }
 {
     match item {
+        // a start and a message carry no value
         Item::Start(_) => None,
         Item::Message(_) => None,
         Item::Broadcast(condition) => {
@@ -315,15 +325,18 @@ fn speaker_of<'a>(
 ) -> Option<Speaker<'a>>
     ensures { (tables : List NodeTable) → AreCourses (frame problem.now) problem.now tables frames.now → IfSome result (IsSpeaker problem.now tables node) }
 {
+    // no item of the graph
     if item >= problem.item_count() {
         return None;
     }
+    // the node doesn't hear it
     if !problem.is_heard_by(node, item) {
         return None;
     }
     let Some(course) = frames.list.get(item as usize) else {
         return None;
     };
+    // without a tree of its row, nothing is asked of it
     let Some(tree) = course.tree else {
         return None;
     };

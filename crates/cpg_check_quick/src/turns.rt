@@ -33,7 +33,7 @@ fn next_start(is_always: bool, place: usize, start: usize) -> usize
 }
 
 impl<'a> Courses<'a> {
-    /// Whether each of these items is over before each later one. Only those are compared that stand after the last that
+    /// Whether each of these items is over before each later one. Compares only those that stand after the last that
     /// is active in every scenario: all others are over before it begins.
     fn are_in_turn(&self, items: &[u32]) -> bool
         ensures { OnTrue result ((g : Graph) (tables : List NodeTable) (lasts : ℕ → Scenario → ℕ) → AreCourses lasts g tables self.now →
@@ -44,6 +44,8 @@ impl<'a> Courses<'a> {
             let Some(course) = self.list.get(*item as usize) else {
                 return false;
             };
+            // the items from `start` on are compared with this one; those before `start` are over before the item at
+            // `start`
             if !self.precede(&items[start..place], course) {
                 return false;
             }
@@ -59,6 +61,7 @@ fn stands_before(order: &[u32], first: u32, second: u32) -> bool
 {
     let mut is_past = false;
     for item in order {
+        // the second comes here: has the first been passed?
         if *item == second {
             return is_past;
         }
@@ -74,6 +77,7 @@ impl<'a> Courses<'a> {
     fn by_time(&self, alloc: Global, items: &[u32]) -> Result<Vec<u32>, OutOfMemory> {
         let mut ranks = Vec::new(alloc);
         ranks.reserve(items.len())?;
+        // items of which no course is known are left out
         for item in items {
             if let Some(course) = self.list.get(*item as usize) {
                 ranks.push(TimeRank {
@@ -98,14 +102,17 @@ impl<'a> Courses<'a> {
             AreCourses lasts g tables self.now → Holds g tables Rule.Present → IsInTurn lasts g tables order.items) }
     {
         let mut order = Vec::new(alloc);
+        // as the items are given
         if self.are_in_turn(items) {
             order.extend_from_slice(items)?;
             return Ok(order);
         }
+        // by their first times
         let sorted = self.by_time(alloc, items)?;
         if self.are_in_turn(sorted.as_slice()) {
             return Ok(sorted);
         }
+        // neither: the empty order, which says nothing
         Ok(order)
     }
 

@@ -1,4 +1,4 @@
-//! What items wait for: whether it is there by the times of their columns.
+//! Whether what items wait for is there by the times of their columns.
 ghost use Rattle.std.specs.Prelude.{◌≡◌, ◌<◌, ◌⊎◌, ℕ, All, Contains, IfOk, IfSome, List, true};
 ghost use Rattle.std.specs.Bool.{OnTrue};
 ghost use Rattle.cpg_base.specs.Activity.{live};
@@ -37,6 +37,7 @@ impl<'a> Waiting<'a> {
             IfSome result (λ c. IsInputCourse self.now.admitted.now.graph tables edge c.now) }
     {
         let problem = self.admitted.problem();
+        // the message's item stands behind the starts, at the number of its edge
         if problem.is_message(edge) {
             let item = problem.processes().len() + edge as usize;
             return self.frames.list.get(item);
@@ -63,6 +64,7 @@ impl<'a> Waiting<'a> {
             IsScenario self.now.admitted.now.graph s → IsInSpace space.now s → live self.now.admitted.now.graph s.values edge ≡ true →
             IsInputOver self.now.admitted.now.graph tables edge time s) }
     {
+        // the edge isn't live in the space
         if is_refused(self.admitted.problem(), edge, space) {
             return true;
         }
@@ -109,10 +111,12 @@ impl<'a> Waiting<'a> {
     {
         // called for its contract: the graph is admitted
         let _problem = self.admitted.problem();
+        // known without the column's cube
         if self.are_early(edges, column.time) {
             return true;
         }
         let mut space = self.frames.everywhere;
+        // no scenario matches the column
         if !space.narrow_to(column.cube.literals()) {
             return true;
         }
@@ -144,6 +148,7 @@ impl<'a> Waiting<'a> {
             IsFromBefore self.now.admitted.now.graph tables edge process) }
     {
         let problem = self.admitted.problem();
+        // it comes from another node
         if problem.is_message(edge) {
             return false;
         }
@@ -151,7 +156,8 @@ impl<'a> Waiting<'a> {
         self.turns.is_before(node, problem.source(edge), process)
     }
 
-    /// Those of these inputs of a process of which this isn't known.
+    /// Those of these inputs of a process that aren't known to come from the same node, from a process that is always over
+    /// before.
     pub(crate) fn others(
         &self,
         alloc: Global,
@@ -166,6 +172,7 @@ impl<'a> Waiting<'a> {
     {
         let mut others = Vec::new(alloc);
         for edge in edges {
+            // this input needs no further test
             if self.is_from_before(*edge, process) {
                 continue;
             }

@@ -59,26 +59,27 @@ module _ (g : Graph) (order : List ℕ) (cube : List Literal) where
   with_part l part o both f = first_same g order (matches part) (λ s. matches cube s && holds s l) o
       (λ s _. both s ∙ and_comm (holds s l) (matches cube s)) f
 
+  -- if the cube never matches together with the literal, no scenario of the cube has it
   pub with_none : (l : Literal) → ((s : Scenario) → (holds s l && matches cube s) ≡ false) → (s : Scenario) →
       IsScenario g s →
       (matches cube s && holds s l) ≡ false
   with_none l none s i = and_comm (matches cube s) (holds s l) ∙ none s
 
-  -- what is inactive together
+  -- if two tests are the same, the first scenario in which one fails is the first in which the other does
   pub inactive_same : (a b : Scenario → Bool) (o : Option Scenario) → ((s : Scenario) → IsScenario g s → b s ≡ a s) →
       IsFirst g order (λ s. matches cube s && not (a s)) o →
       IsFirst g order (λ s. matches cube s && not (b s)) o
   inactive_same a b o is f = first_same g order (λ s. matches cube s && not (a s)) (λ s. matches cube s && not (b s)) o
       (λ s i. ap (λ t. matches cube s && not t) (sym (is s i))) f
 
-  -- what is never active
+  -- if a test always fails, the first scenario of the cube is the first in which it does
   pub inactive_always : (b : Scenario → Bool) (o : Option Scenario) → ((s : Scenario) → IsScenario g s → b s ≡ false) →
       IsFirst g order (matches cube) o →
       IsFirst g order (λ s. matches cube s && not (b s)) o
   inactive_always b o off f = first_same g order (matches cube) (λ s. matches cube s && not (b s)) o
       (λ s i. sym (ap (λ t. matches cube s && not t) (off s i) ∙ sym (with_true (matches cube s) true refl))) f
 
-  -- an edge that asks for no value
+  -- an edge that asks for no value isn't live exactly where its source isn't active
   pub unlive_idle : (source_active passed whole : Scenario → Bool) (o : Option Scenario) →
       ((s : Scenario) → IsScenario g s → whole s ≡ (source_active s && passed s)) →
       ((s : Scenario) → passed s ≡ true)
@@ -87,7 +88,7 @@ module _ (g : Graph) (order : List ℕ) (cube : List Literal) where
   unlive_idle source_active passed whole o is all f = inactive_same source_active whole o
       (λ s i. is s i ∙ ap (λ b. source_active s && b) (all s) ∙ sym (with_true (source_active s) true refl)) f
 
-  -- an edge that asks for a value
+  -- an edge that asks for a value isn't live where its source isn't active or has the other value
   pub unlive_either : (source_active passed whole : Scenario → Bool) (l : Literal) (a b : Option Scenario) →
       ((s : Scenario) → IsScenario g s → whole s ≡ (source_active s && passed s)) →
       ((s : Scenario) → holds s l ≡ not (passed s))
@@ -114,7 +115,7 @@ module _ (g : Graph) (order : List ℕ) (cube : List Literal) where
       (IsFirst g order (λ s. matches cube s && not (by_item s)))
       (λ o. inactive_same by_source by_item o (λ s i. is s.values))
 
-  -- an item that nothing makes active
+  -- an item that nothing makes active is inactive wherever the cube matches
   pub inactive_never : {E : Type 0} (x : ℕ) → ((values : List Bool) → item_active g values (item_at g x) ≡ false) →
       (r : Result (Option Scenario) E)
       → IfOk r (λ o. (urgency : List ℕ) → IsFirst g urgency (matches cube) o) →

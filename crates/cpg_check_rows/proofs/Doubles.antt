@@ -17,18 +17,19 @@ use Rattle.cpg_violation.proofs.SieveLaws.{before_at}
 use Rattle.cpg_violation.proofs.Tests.{same_where}
 use Rattle.cpg_check_rows.specs.Single.{is_double}
 
--- the column at a place
+-- the column at a place is double exactly if it matches together with an earlier one
 pub double_at : (columns : List Column) (i : ℕ) (d : Column) (s : Scenario) → i < length columns →
     (matches (get_or columns i d).cube s && breaks_single s (take i columns)) ≡ is_double columns i s
 double_at columns i d s h = sym (or-false (matches (get_or columns i d).cube s && breaks_single s (take i columns)))
     ∙ sym (ap (λ l. list_any (λ c. matches c.cube s && breaks_single s (take i columns)) (take 1 l))
     (drop_more columns i d h))
 
--- there is no column past the last
+-- there is no double column past the last place
 pub double_past : (columns : List Column) (i : ℕ) (s : Scenario) → length columns ≤ i → is_double columns i s ≡ false
 double_past columns i s h =
     ap (λ l. list_any (λ c. matches c.cube s && breaks_single s (take i columns)) (take 1 l)) (drop_all i columns h)
 
+-- a column at a place of a row
 module _ (g : Graph) (order : List ℕ) (columns : List Column) (i : ℕ) (d : Column) (h : i < length columns)
     (places : List ℕ) where
   -- the answer for a column, by places among which each is that matches with it, is that for its place

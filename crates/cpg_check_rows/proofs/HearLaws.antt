@@ -40,6 +40,7 @@ rows_by_item f (r ∷ rs) h = ap₂ (λ (q : Row) (qs : List Row). q ∷ qs) (h 
     (rows_by_item f rs (λ row k. h row (Contains-rest r rs row k)))
 
 module _ (g : Graph) (w : IsWithinLimits g) (tables : List NodeTable) (are : AreTablesOf (head_of g) tables) where
+  -- a hear row has the columns at which its item is heard well, so it is the row that is due
   row_well : ((x : ℕ) → x < item_count g → IsHeardWell g tables x) → (node : ℕ) → node < length g.nodes → (row : Row) →
       Contains (table_at tables node).hears row →
       row ≡ hear_row g tables row.item
@@ -59,6 +60,7 @@ module _ (g : Graph) (w : IsWithinLimits g) (tables : List NodeTable) (are : Are
       (well row.item inside node l) in
       ap (λ cs. record { item = row.item; columns = cs }) same
 
+  -- if each item is heard at the columns that are due, V10 holds
   pub hears_hold : ((x : ℕ) → x < item_count g → IsHeardWell g tables x) → HearsHold g tables
   hears_hold well node t is =
       let inside : node < length g.nodes = omega (arith, slice_get_within tables node t is, are.count) in
@@ -67,7 +69,7 @@ module _ (g : Graph) (w : IsWithinLimits g) (tables : List NodeTable) (are : Are
       (rows_by_item (hear_row g tables) (table_at tables node).hears (row_well well node inside)
       ∙ ap (map (hear_row g tables)) (suits_graph g w tables are node inside).hears)
 
--- one item more
+-- if all items before one are heard as they are due, and it is, too, one item more is
 pub heard_more : (g : Graph) (tables : List NodeTable) (x : ℕ) → ((y : ℕ) → y < x → IsHeardWell g tables y) →
     IsHeardWell g tables x → (y : ℕ) → y < x + 1 →
     IsHeardWell g tables y

@@ -46,6 +46,7 @@ process_within g few v (inr r) =
     subst (λ p. p < process_count g) (of_value g v r.0) (process_of_below g (v - 128) (omega (arith, r.0, r.1)))
 
 module _ (g : Graph) (tables : List NodeTable) (x : ℕ) where
+  -- an item none of whose columns is unlawful where it matches keeps V1
   pub lawful_sure :
       All (λ (c : Column). (s : Scenario) → IsScenario g s → matches c.cube s ≡ true → breaks_activity g s x c ≡ false)
       (columns_of tables x) →
@@ -54,6 +55,7 @@ module _ (g : Graph) (tables : List NodeTable) (x : ℕ) where
       (λ s c earlier law k m. All-contains (λ (c : Column). (s : Scenario) → IsScenario g s → matches c.cube s ≡ true →
       breaks_activity g s x c ≡ false) (columns_of tables x) c all k s law m)
 
+  -- an item that is always active keeps V1 if all processes always are
   pub always_sure : process_count g ≤ 128 → AllAlways g → All (λ (c : Column). IsKnown g c.cube) (columns_of tables x)
       → IsUnconditional g x → IsSure g tables Rule.Activity x
   always_sure few always known item =

@@ -36,7 +36,7 @@ turned false true false = refl
 turned false false n = refl
 
 module _ (g : Graph) (order : List ℕ) (columns : List Column) where
-  -- what is so if a process is active and a cube matches
+  -- the first scenario of the cube without a column, in which the process is active, is the answer for a test of both
   pub absent_from : (b : Scenario → Bool) (p : ℕ) (cube : List Literal) →
       ((s : Scenario) → IsScenario g s → b s ≡ (active g s.values p && matches cube s)) →
       (o : Option Scenario)
@@ -62,7 +62,7 @@ module _ (g : Graph) (order : List ℕ) (columns : List Column) where
       (λ o. first_same g order by_source (is_absent g columns x) o
       (λ s i. ap (λ a. a && has_none columns s) (sym (is s.values))))
 
-  -- an item that nothing makes active
+  -- an item that nothing makes active never lacks a column
   pub absent_never : (x : ℕ) → ((values : List Bool) → item_active g values (item_at g x) ≡ false) →
       IsFirst g order (is_absent g columns x) None
   absent_never x off = λ s i. ap (λ a. a && has_none columns s) (off s.values)
@@ -77,7 +77,7 @@ live_where {g} {order} {guards} a s i e l cube m =
     live_tested g order a.topological guards a.guards s.values i.values e l
     ∙ ap (λ t. active g s.values (source g e) && t) (sym m)
 
--- no item before, with one more
+-- if no item before one breaks V3 and it is never absent, none of one item more breaks V3
 pub present_more : (g : Graph) (tables : List NodeTable) (x : ℕ) →
     ((y : ℕ) (column : Option ℕ) (s : Scenario) → y < x → IsScenario g s →
     breaks Rule.Present g tables s y column ≡ false)
@@ -95,6 +95,7 @@ present_more g tables x before here y column s l i = elim (cases_lt y x) [
     at_item (Some k) = list_any_false (breaks_at Rule.Present g tables s x (take k (columns_of tables x)))
         (take 1 (drop k (columns_of tables x))) (λ c _. and_right (matches c.cube s) false refl)
 
+-- what holds for the image of each element holds for all of the mapped list
 pub all_mapped : {X Y : Type 0} (P : Y → Type 0) (f : X → Y) (xs : List X) → All (λ x. P (f x)) xs → All P (map f xs)
 all_mapped P f [] h k d l = absurd (omega arith)
 all_mapped P f (x ∷ xs) h zero d l = h 0 x (omega arith)

@@ -42,6 +42,7 @@ none_double g columns tree is i s law = elim (cases_lt i (length columns)) [
   | inr past ↦ double_past columns i s past
 ]
 
+-- if the first columns of a row have a tree, none of them matches together with an earlier one
 pub none_by_tree : (g : Graph) (columns : List Column) (n : ℕ) (o : Option PlacesState) →
     IfSome o (IsRowTree g (take n columns))
     → OnTrue (is_some o) ((i : ℕ) (s : Scenario) → i < n → IsScenario g s → is_double columns i s ≡ false)

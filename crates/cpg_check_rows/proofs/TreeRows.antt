@@ -26,9 +26,10 @@ use Rattle.cpg_violation.proofs.Tests.{off_where}
 use Rattle.cpg_row_trees.specs.Trees.{AreRowTrees}
 use Rattle.cpg_check_rows.specs.Absent.{IsIdleWhere}
 
+-- the tree of an item's row
 module _ (g : Graph) (tables : List NodeTable)
     (x : ℕ) {tree : PlacesState} (is : IsRowTree g (columns_of tables x) tree) where
-  -- V2
+  -- a row that has a tree keeps V2
   pub single_sure : IsSure g tables Rule.Single x
   single_sure None s law = refl
   single_sure (Some i) s law = elim (cases_lt i (length (columns_of tables x))) [
@@ -42,7 +43,7 @@ module _ (g : Graph) (tables : List NodeTable)
         (drop_all i (columns_of tables x) past)
   ]
 
-  -- V3
+  -- a row that has a tree keeps V3 if the item is inactive wherever the tree has no place
   pub present_sure : ((s : Scenario) → IsScenario g s → IsIdleWhere g x (place_at tree s) s) →
       IsSure g tables Rule.Present x
   present_sure idle (Some i) s law =
@@ -50,6 +51,7 @@ module _ (g : Graph) (tables : List NodeTable)
       (λ c k. and-false (matches c.cube s))
   present_sure idle None s law = go (place_at tree s) refl
     where
+      -- without a place the item is idle, so no column is due; with a place the column there matches
       go : (o : Option ℕ) → place_at tree s ≡ o → breaks_present g tables s x ≡ false
       go None e =
           ap (λ b. b && not (list_any (λ (d : Column). matches d.cube s) (columns_of tables x))) (idle s law e law)
@@ -71,13 +73,13 @@ module _ (g : Graph) (tables : List NodeTable) (trees : List (Option PlacesState
       IfSome o (IsRowTree g (columns_of tables x))
   here there is are = tree_of_row g tables trees x are (omega (arith, there, are.count)) o is
 
-  -- the tree of an item's row
+  -- the tree found at an item's number is that of the item's row
   pub tree_at : (tree : PlacesState) → x < length trees → o ≡ get_or trees x o → o ≡ Some tree →
       AreRowTrees g tables trees →
       IsRowTree g (columns_of tables x) tree
   tree_at tree there is some are = subst (λ p. IfSome p (IsRowTree g (columns_of tables x))) some (here there is are)
 
-  -- a row that has one keeps V2
+  -- an item with a tree in the list keeps V2
   pub single_at : x < length trees → o ≡ get_or trees x o → AreRowTrees g tables trees →
       OnTrue (is_some o) (IsSure g tables Rule.Single x)
   single_at there is are = go o (here there is are)

@@ -22,9 +22,12 @@ HearsAt tables x columns node = IfSome (row_columns (table_at tables node).hears
 
 -- the least node that hears the item at other columns, and the first column that differs there
 pub record IsFirstHear (tables : List NodeTable) (nodes x : ℕ) (columns : List Column) (place : ℕ) : Type 0 where
+  -- the node
   pub node : ℕ
   pub within : node < nodes
+  -- all nodes before it hear the item at these columns
   pub earlier : (m : ℕ) → m < node → HearsAt tables x columns m
+  -- it has a row of the item, which first differs at this place
   pub differ : IsSomeAnd (row_columns (table_at tables node).hears x) (λ cs. DifferFirstAt cs columns place)
 
 -- the columns at which an item is to be heard
@@ -35,7 +38,7 @@ due_columns g tables x = (hear_row g tables x).columns
 abbrev pub IsHeardWell : Graph → List NodeTable → ℕ → Type 0
 IsHeardWell g tables x = (node : ℕ) → node < length g.nodes → HearsAt tables x (due_columns g tables x) node
 
--- V10 holds
+-- V10 holds: each node has the hear rows that are due
 abbrev pub HearsHold : Graph → List NodeTable → Type 0
 HearsHold g tables = (node : ℕ) (t : NodeTable) → slice_get tables node ≡ Some t → t.hears ≡ hear_rows g tables node
 

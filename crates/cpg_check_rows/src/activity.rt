@@ -52,9 +52,11 @@ fn other_value(problem: &Problem, edge: u32) -> Option<Literal>
         (edge_at problem.now edge).when) s.values)) }
 {
     let edge = problem.edges()[edge as usize];
+    // the source has no condition, so the edge asks for no value
     let Some(condition) = problem.condition_of(edge.from) else {
         return None;
     };
+    // the edge asks for no value
     let Some(value) = edge.when else {
         return None;
     };
@@ -72,6 +74,7 @@ fn least_with(
     requires literal { IsVariable problem.now literal.variable }
     ensures { IfOk result (λ r. (order : List ℕ) → IsFirst problem.now order (λ s. matches cube.now s && holds s literal) r) }
 {
+    // the cube leaves no scenario in which the literal holds
     let Some(part) = cube.with(literal)? else {
         return Ok(None);
     };
@@ -95,6 +98,7 @@ fn least_unlive(
     let order = admitted.order();
     let process = problem.source(edge);
     let idle = least_idle(alloc, admitted, process, cube)?;
+    // without a value asked for, an edge is live if its source is active
     let Some(literal) = other_value(problem, edge) else {
         return Ok(idle);
     };
@@ -116,6 +120,7 @@ fn least_inactive(
 {
     let problem = admitted.problem();
     match item_source(problem, item) {
+        // the item is never sent: it is active in no scenario, so the least that the cube matches is the answer
         ItemSource::Nothing => cube.least(alloc, problem),
         ItemSource::Process(process) => least_idle(alloc, admitted, process, cube),
         ItemSource::Edge(edge) => least_unlive(alloc, admitted, edge, cube),
@@ -135,6 +140,7 @@ fn least_unrun(
 {
     let problem = admitted.problem();
     let order = admitted.order();
+    // goes over the literals, and keeps the least scenario of all
     let mut found: Option<Scenario> = None;
     for literal in cube.literals() {
         let process = problem.process_of_variable(literal.variable);
@@ -179,6 +185,7 @@ fn first_idle(
 {
     for (place, column) in columns.iter().enumerate() {
         let unlawful = least_unlawful(alloc, admitted, item, column)?;
+        // columns are met from the first on, so this one is the first
         if let Some(scenario) = unlawful {
             return Ok(Some((place as u32, scenario)));
         }
@@ -201,6 +208,7 @@ pub(crate) fn check_activity(
     ensures first { IfOk result (λ r. IfSome r (IsFirstViolation admitted.now.graph admitted.now.order tables.now.nodes Rule.Activity)) }
 {
     for item in 0..admitted.problem().item_count() {
+        // a quick check has shown that the item keeps the rule
         if is_marked(marks, item) {
             continue;
         }

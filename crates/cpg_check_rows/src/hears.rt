@@ -16,15 +16,18 @@ use cpg_rules::Admitted;
 use cpg_table::{Fault, Rule, Tables, row_columns};
 use std::alloc::Global;
 
+/// Whether two literals are the same.
 fn is_same(literal: &Literal, other: &Literal) -> bool
     ensures { IsTrue result ↔ (literal.now ≡ other.now) }
 {
     literal.variable == other.variable && literal.low == other.low && literal.high == other.high
 }
 
+/// Whether two lists of literals are the same.
 fn are_same(literals: &[Literal], others: &[Literal]) -> bool
     ensures { IsTrue result ↔ (literals.now ≡ others.now) }
 {
+    // lists of different lengths differ
     if literals.len() != others.len() {
         return false;
     }
@@ -40,9 +43,11 @@ fn are_same(literals: &[Literal], others: &[Literal]) -> bool
 fn is_later(heard: &Column, sent: &Column, delay: u64) -> bool
     ensures { IsTrue result ↔ (heard.now ≡ later_by delay sent.now) }
 {
+    // too early to be anything that was sent
     if heard.time < delay {
         return false;
     }
+    // another time than that of the sender and the delay
     if heard.time - delay != sent.time {
         return false;
     }
@@ -55,15 +60,18 @@ fn first_difference(heard: &[Column], sent: &[Column], delay: u64) -> Option<u32
     ensures same { IfNone result (heard.now ≡ map (later_by delay) sent.now) }
     ensures differ { IfSome result (DifferFirstAt heard.now (map (later_by delay) sent.now)) }
 {
+    // goes over the places that both lists have
     let common = heard.len().min(sent.len());
     for place in 0..common {
         if !is_later(&heard[place], &sent[place], delay) {
             return Some(place as u32);
         }
     }
+    // all places agree, and there are as many of them
     if heard.len() == sent.len() {
         return None;
     }
+    // one list goes on: the first place behind the shorter one differs
     Some(common as u32)
 }
 
@@ -76,6 +84,7 @@ fn difference_at(tables: &Tables, node: u32, item: u32, sent: &[Column], delay: 
         (λ cs. DifferFirstAt cs (map (later_by delay) sent.now) place)) }
 {
     let table = tables.node(node);
+    // the node has no row of the item, so it hears it at no time
     let Some(heard) = row_columns(table.hears(), item) else {
         return None;
     };
@@ -89,6 +98,7 @@ fn first_hear(tables: &Tables, nodes: u32, item: u32, sent: &[Column], delay: u6
     ensures same { IfNone result ((node : ℕ) → node < length tables.now.head.nodes → HearsAt tables.now.nodes item (map (later_by delay) sent.now) node) }
     ensures differ { IfSome result (IsFirstHear tables.now.nodes (length tables.now.head.nodes) item (map (later_by delay) sent.now)) }
 {
+    // goes over the nodes, the least first
     for node in 0..nodes {
         if let Some(place) = difference_at(tables, node, item, sent, delay) {
             return Some(place);

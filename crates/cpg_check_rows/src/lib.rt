@@ -7,8 +7,8 @@
 //! | V3, a column | `present` | `quick_present` | both |
 //! | V10, hear rows | `hears` | | |
 //!
-//! `rows` has the first violation of V1 to V3. `quick_rows` has their marks: which items keep a rule in every scenario. What
-//! isn't marked may keep it too.
+//! `rows` has the first violation of V1 to V3. `quick_rows` has their marks: which items keep a rule in every scenario. An
+//! item that isn't marked may keep it too.
 #![tactic(auto)]
 
 mod activity;

@@ -52,6 +52,7 @@ fn least_uncarried(
     ensures { IfOk result (IsFirst admitted.now.graph admitted.now.order (λ s. live admitted.now.graph s.values edge && has_none columns.now s)) }
 {
     let problem = admitted.problem();
+    // the cube of the value that the edge asks for; the whole cube if it asks for none
     let cube = edge_cube(alloc, problem, edge)?;
     let process = problem.source(edge);
     let found = least_without(alloc, admitted, process, &cube, columns)?;
@@ -69,6 +70,7 @@ fn least_unstarted(
     requires columns { All (λ c. IsKnown admitted.now.graph c.cube) columns.now }
     ensures { IfOk result (IsFirst admitted.now.graph admitted.now.order (λ s. active admitted.now.graph s.values process && has_none columns.now s)) }
 {
+    // a process asks for no value, so every scenario counts in which it is active
     let whole = Cube::whole(alloc);
     let found = least_without(alloc, admitted, process, &whole, columns)?;
     Ok(found)
@@ -86,6 +88,7 @@ fn least_absent(
     ensures { IfOk result (IsFirst admitted.now.graph admitted.now.order (is_absent admitted.now.graph columns.now item)) }
 {
     match item_source(admitted.problem(), item) {
+        // active in no scenario, so no column has to be there
         ItemSource::Nothing => Ok(None),
         ItemSource::Process(process) => least_unstarted(alloc, admitted, process, columns),
         ItemSource::Edge(edge) => least_uncarried(alloc, admitted, edge, columns),
@@ -108,6 +111,7 @@ pub(crate) fn check_present(
 {
     let problem = admitted.problem();
     for item in 0..problem.item_count() {
+        // a quick check has shown that the item keeps the rule
         if is_marked(marks, item) {
             continue;
         }

@@ -28,6 +28,7 @@ fn is_active(admitted: &Admitted, always: &[bool], process: u32, space: &Space) 
     requires always { AreAlways admitted.now.graph always.now }
     ensures { OnTrue result ((s : Scenario) → IsScenario admitted.now.graph s → IsInSpace space.now s → active admitted.now.graph s.values process ≡ true) }
 {
+    // active in every scenario: nothing is looked up
     if is_marked(always, process) {
         return true;
     }
@@ -43,6 +44,7 @@ fn are_active(admitted: &Admitted, always: &[bool], literals: &[Literal], space:
 {
     for literal in literals {
         let process = admitted.problem().process_of_variable(literal.variable);
+        // the process of one literal may be inactive
         if !is_active(admitted, always, process, space) {
             return false;
         }
@@ -50,10 +52,11 @@ fn are_active(admitted: &Admitted, always: &[bool], literals: &[Literal], space:
     true
 }
 
-/// The literals on values, which are the last: no others tell what is active.
+/// The literals on values, which are the last. No other literals say whether a process is active.
 fn on_values(literals: &[Literal]) -> &[Literal]
     ensures { (s : Scenario) → matches literals.now s ≡ true → matches result.now s ≡ true }
 {
+    // from the last literal back, to the first that isn't on a value
     for later in 0..literals.len() {
         let from = literals.len() - later;
         if literals[from - 1].variable < FIRST_VALUE {
@@ -79,10 +82,13 @@ fn is_lawful(
         breaks_activity admitted.now.graph s item column.now ≡ false) }
 {
     let literals = column.cube.literals();
+    // the literals on counts leave the activity as it is, so those on values alone make the space narrower
     let mut space = *everywhere;
+    // no scenario matches these literals, so the column breaks nothing
     if !space.narrow_to(on_values(literals)) {
         return true;
     }
+    // the item may be inactive where the column matches
     if !is_item_running(admitted, item, &space) {
         return false;
     }
@@ -104,6 +110,7 @@ fn are_lawful(
     ensures { OnTrue result (All (λ c. (s : Scenario) → IsScenario admitted.now.graph s → matches c.cube s ≡ true →
         breaks_activity admitted.now.graph s item c ≡ false) columns.now) }
 {
+    // goes over the columns of the row
     for column in columns {
         if !is_lawful(admitted, always, everywhere, item, column) {
             return false;
@@ -120,6 +127,7 @@ fn is_plain(admitted: &Admitted, all: bool, everywhere: &Space, item: u32) -> bo
     ensures all { OnTrue result (AllAlways admitted.now.graph) }
     ensures item { OnTrue result (IsUnconditional admitted.now.graph item) }
 {
+    // some process is not always active
     if !all {
         return false;
     }
@@ -145,13 +153,14 @@ fn is_sure(
     // called for its contract: the graph is admitted
     let _problem = admitted.problem();
     let columns = tables.columns_of(item);
+    // nothing can be inactive, whatever the columns are
     if is_plain(admitted, all, everywhere, item) {
         return true;
     }
     are_lawful(admitted, always, everywhere, item, columns)
 }
 
-/// The items of which each column has an active item and active processes of its literals, wherever it matches.
+/// The items whose columns, wherever they match, have an active item and active processes of their literals.
 pub(crate) fn activity_marks(
     alloc: Global,
     admitted: &Admitted,

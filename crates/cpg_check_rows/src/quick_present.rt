@@ -15,7 +15,7 @@ use cpg_tree::Space;
 use cpg_violation::is_item_idle;
 use std::alloc::Global;
 
-/// That a column is there, or an item is inactive.
+/// Tests whether a column is there, or an item is inactive.
 #[derive(Drop)]
 struct Presence<'a> {
     admitted: &'a Admitted,

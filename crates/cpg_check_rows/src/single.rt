@@ -39,6 +39,7 @@ fn met_at(
     ensures room { HasRoom problem.now room.new }
     ensures first { IfOk result (λ r. (order : List ℕ) → IsFirst problem.now order (λ s. matches cube.now s && is_at columns.now s place) r) }
 {
+    // a place behind the earlier columns: not among those that count
     let Some(column) = columns.get(place as usize) else {
         return Ok(None);
     };
@@ -60,6 +61,7 @@ fn shared(
     requires columns { All (λ d. IsKnown problem.now d.cube) columns.now }
     ensures { IfOk result (IsFirst problem.now order.now (λ s. matches cube.now s && list_any (is_at columns.now s) places.now)) }
 {
+    // room for one scenario, used again for each place
     let mut room = Scenario::zero(alloc, problem)?;
     let mut found: Option<Scenario> = None;
     for place in places {
@@ -85,7 +87,9 @@ fn shared_before(
     ensures { IfOk result (IsFirst problem.now order.now (is_double columns.now column)) }
 {
     let cube = &columns[column].cube;
+    // the sieve gives the places of the columns that may match together with the cube
     let places = sieve.candidates(alloc, columns, cube)?;
+    // only earlier columns count: a place of a later one finds nothing
     let others = &columns[..column];
     let found = shared(alloc, problem, order, cube, others, places.as_slice())?;
     Ok(found)
@@ -106,8 +110,8 @@ fn have_tree(
     Ok(tree.is_some())
 }
 
-/// How many first columns of a row are found to have a tree, by halving: if not all have one, mostly the next column is the
-/// first that matches together with an earlier one, and a long row's columns needn't be held against one another.
+/// How many first columns of a row are found to have a tree, by halving. If not all have one, mostly the next column is the
+/// first that matches together with an earlier one, and a long row's columns needn't be compared with one another.
 fn first_with_tree(
     alloc: Global,
     problem: &Problem,

@@ -17,9 +17,10 @@ use Rattle.cpg_cube.specs.Narrow.{with_literal}
 use Rattle.cpg_cube.proofs.CubeLaws.{with-is}
 use Rattle.cpg_cube.proofs.Narrow.{known-narrowed}
 
+-- a part that matches what a cube and the first literals of another match
 module _ (cube other part : List Literal) (i : ℕ) (d : Literal) (l : i < length other)
     (so_far : (s : Scenario) → matches part s ≡ (matches cube s && matches (take i other) s)) where
-  -- one literal more
+  -- the part narrowed by the next literal matches what the cube and one literal more match
   pub common_more : (next : List Literal) →
       ((s : Scenario) → matches next s ≡ (holds s (get_or other i d) && matches part s)) →
       (s : Scenario) →
@@ -30,7 +31,7 @@ module _ (cube other part : List Literal) (i : ℕ) (d : Literal) (l : i < lengt
       ∙ and_assoc (matches cube s) (matches (take i other) s) (holds s (get_or other i d))
       ∙ ap (λ b. matches cube s && b) (sym (list_all_more (holds s) other i d l))
 
-  -- a literal that leaves nothing
+  -- if the next literal leaves the part nothing, no scenario matches both cubes
   pub common_none : ((s : Scenario) → (holds s (get_or other i d) && matches part s) ≡ false) → (s : Scenario) →
       (matches cube s && matches other s) ≡ false
   common_none none s = false_from_ne_true (matches cube s && matches other s) (λ t.
@@ -41,6 +42,7 @@ module _ (cube other part : List Literal) (i : ℕ) (d : Literal) (l : i < lengt
       ∙ ap (list_all (holds s)) (take-append-drop i other) ∙ p.1)).0 in
       both_ways _ (none s) (and_from _ _ here (so_far s ∙ and_from _ _ p.0 before)))
 
+-- a cube of known variables, narrowed by the next literal of another, has known variables
 pub known_more : (g : Graph) (part other next : List Literal) (i : ℕ) (d : Literal) → i < length other →
     IsKnown g part → IsKnown g other →
     with_literal (get_or other i d) part ≡ Some next →

@@ -1,4 +1,4 @@
--- The least count of faults with which an execution ends after a time, and the part of a cube with so many.
+-- The least count of faults with which an execution ends after a time, and the part of a cube with it or more.
 use Rattle.std.proofs.Common.{ℕ, ◌+◌, ◌<◌, ◌≤◌, ◌≡◌, List, Option, Some, None, arith, sym, subst, inl, inr}
 use Rattle.std.specs.Prelude.{IfSome}
 use Rattle.std.proofs.lemmas.Bool.{cases_lt}
@@ -13,6 +13,7 @@ use Rattle.cpg_cube.proofs.Narrow.{known-narrowed}
 use Rattle.cpg_violation.proofs.Durations.{duration_grows}
 use Rattle.cpg_check_time.specs.Lateness.{IsLeastCount}
 
+-- every execution takes at least one time unit
 pub duration_some : (g : Graph) → IsWithinLimits g → (p n : ℕ) → p < process_count g → 1 ≤ duration g p n
 duration_some g within p n l = let works : 1 ≤ (process_at g p).wcet = (within.processes p _ l).works in omega arith
 
@@ -25,7 +26,7 @@ first_is_least g p start time f below here = λ n. (
   λ m. omega (arith, here, duration_grows g p f n m),
 )
 
--- the part of a cube is the graph's
+-- a cube of the graph narrowed by a count of a process is known to the graph
 pub part_known : (g : Graph) (p : ℕ) → p < process_count g →
     (cube : List Literal) (low high : ℕ) (o : Option (List Literal)) →
     IsKnown g cube →

@@ -24,7 +24,7 @@ use Rattle.cpg_check_time.proofs.Seeking.{both_any}
 use Rattle.cpg_violation.proofs.Tests.{with_true}
 use Rattle.cpg_violation.proofs.Durations.{duration_grows, fault_within}
 
--- a slot is short
+-- the slots of a graph within its limits are short
 pub slot_short : (g : Graph) → IsWithinLimits g → (node : ℕ) → slot_length g node < 2 ^ 40
 slot_short g within node = elim (cases_lt (slot_place g node) (length g.slots)) [
   | inl l ↦ omega (arith, (within.slots (slot_place g node) (record { node = 0; length = 0; bytes = 0 }) l).length)
@@ -57,7 +57,7 @@ module _ (g : Graph) (cube : List Literal) (delay : Delay) (time : ℕ) where
       let p = and_parts (matches cube s) (is_late g delay time d s) t in
       (p.0, (and_parts (matches d.cube s) (nat_lt time (done_at g s delay d.time)) p.1).0)
 
-  -- the cube's test is asked once
+  -- the cube's test may be asked once instead of for each column
   pub first_delay : (order : List ℕ) (columns : List Column) (o : Option Scenario) →
       IsFirst g order (λ s. list_any (λ d. delays g cube delay time d s) columns) o →
       IsFirst g order (λ s. matches cube s && list_any (λ d. is_late g delay time d s) columns) o

@@ -13,11 +13,13 @@ use Rattle.cpg_table.specs.declared.rule.Rule.{Rule}
 use Rattle.cpg_check_time.specs.Columns.{breaks_column}
 use Rattle.cpg_check_time.specs.Lateness.{ends_after}
 
+-- given a process x and a column c of it
 module _ (g : Graph) (order : List ℕ) (tables : List NodeTable) (x : ℕ) (c : Column) (l : x < process_count g) where
   due_is : (s : Scenario) →
       (matches c.cube s && ends_after g x c.time (due g x) s) ≡ breaks_column Rule.Due g tables x c s
   due_is s = ap (λ b. matches c.cube s && (b && ends_after g x c.time (due g x) s)) (sym (lt-ltb x (process_count g) l))
 
+  -- the first scenario of the late part of the column is the first in which the column breaks V9
   pub due_first : (part : List Literal) →
       ((s : Scenario) → IsScenario g s → matches part s ≡ (matches c.cube s && ends_after g x c.time (due g x) s)) →
       (o : Option Scenario) →

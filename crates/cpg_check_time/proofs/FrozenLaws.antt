@@ -24,6 +24,8 @@ use Rattle.cpg_check_time.specs.Frozen.{frozen_time, possible_time}
 
 -- ---- the first possible column
 
+-- a column at a place of a row of the graph
+-- `are`: the columns are columns of the graph. `l`, `is`: d is the column at place i.
 module _ (g : Graph) (few : process_count g ≤ 128) (columns : List Column) (are : All (IsColumn g) columns) (i : ℕ)
     (d : Column) (l : i < length columns) (is : d ≡ get_or columns i d) where
   met_here : is_possible g (get_or columns i d) ≡ is_met g.faults d.cube
@@ -35,14 +37,14 @@ module _ (g : Graph) (few : process_count g ≤ 128) (columns : List Column) (ar
   found_step = ap (find (is_possible g)) (drop_more columns i d l)
       ∙ ap (λ b. cond b (Some (get_or columns i d)) (find (is_possible g) (drop (i + 1) columns))) met_here
 
-  -- it is met
+  -- if the column at the place is met and none before is possible, its time is the possible one
   pub time_here : possible_time g columns ≡ possible_time g (drop i columns) → is_met g.faults d.cube ≡ true →
       Some d.time ≡ possible_time g columns
   time_here so_far met = ap (λ (c : Column). Some c.time) is ∙
       sym (so_far ∙ ap (option_map (λ (c : Column). c.time))
       (found_step ∙ ap (λ b. cond b (Some (get_or columns i d)) (find (is_possible g) (drop (i + 1) columns))) met))
 
-  -- it isn't
+  -- if the column at the place isn't met, the possible time comes later
   pub time_later : possible_time g columns ≡ possible_time g (drop i columns) → is_met g.faults d.cube ≡ false →
       possible_time g columns ≡ possible_time g (drop (i + 1) columns)
   time_later so_far met = so_far ∙ ap (option_map (λ (c : Column). c.time))
@@ -64,10 +66,12 @@ differs_some time t true (Some d) e = ap (λ u. not (u == time)) (same_Some d.ti
 differs_some time t false o e = absurd (none-some t e)
 
 module _ (g : Graph) (order : List ℕ) (tables : List NodeTable) (x : ℕ) (c : Column) where
+  -- without a frozen time, the column never breaks V8
   pub frozen_none : frozen_time g tables x ≡ None → (s : Scenario) → breaks_column Rule.Frozen g tables x c s ≡ false
   frozen_none e s = and_right (matches c.cube s) _
       (differs_none c.time (is_frozen g x) (find (is_possible g) (columns_of tables x)) e)
 
+  -- a column at the frozen time never breaks V8
   pub frozen_same : (t : ℕ) → frozen_time g tables x ≡ Some t → t ≡ c.time → (s : Scenario) →
       breaks_column Rule.Frozen g tables x c s ≡ false
   frozen_same t e same s = and_right (matches c.cube s) _ (differs_some c.time t (is_frozen g x)
@@ -78,13 +82,14 @@ module _ (g : Graph) (order : List ℕ) (tables : List NodeTable) (x : ℕ) (c :
   frozen_other t e other s = with_true (matches c.cube s) _ (differs_some c.time t (is_frozen g x)
       (find (is_possible g) (columns_of tables x)) e ∙ ap not (ne_eqb t c.time other))
 
+  -- the first scenario of a column at another time is the first in which it breaks V8
   pub frozen_first : (t : ℕ) → frozen_time g tables x ≡ Some t → t ≢ c.time → (o : Option Scenario) →
       IsFirst g order (matches c.cube) o →
       IsFirst g order (breaks_column Rule.Frozen g tables x c) o
   frozen_first t e other o f =
       first_same g order (matches c.cube) (breaks_column Rule.Frozen g tables x c) o (λ s _. frozen_other t e other s) f
 
--- the time in the list
+-- the time at an item's number in the list is its frozen time
 pub time_at : (g : Graph) (tables : List NodeTable) (times : List (Option ℕ)) (x : ℕ) (d : Option ℕ) →
     times ≡ map (frozen_time g tables) (numbers_below (item_count g)) →
     x < item_count g →

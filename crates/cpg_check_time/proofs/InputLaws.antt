@@ -46,6 +46,7 @@ live_asked : {g : Graph} {order : List ℕ} {guards : Guards} → IsAdmitted g o
     live g s.values e ≡ (active g s.values (source g e) && is_asked g e s)
 live_asked {g} {order} {guards} a s i e l = live_tested g order a.topological guards a.guards s.values i.values e l
 
+-- tables of an admitted graph that keep V1 to V3, and a scenario
 module _ {g : Graph} {order : List ℕ} {guards : Guards} (admitted : IsAdmitted g order guards) (tables : List NodeTable)
     (rules : AllHold g tables row_rules) (s : Scenario)
     (law : IsScenario g s) where
@@ -62,6 +63,7 @@ module _ {g : Graph} {order : List ℕ} {guards : Guards} (admitted : IsAdmitted
       (live g s.values e && not (input_is_there g tables s time e)) ≡ is_input_late g tables time e s
   input_late e l time = go (is_message g e) refl
     where
+      -- by the kind of the input: a message by its arrivals, any other by the ends of its source
       go : (b : Bool) → is_message g e ≡ b →
           (live g s.values e
           && not (is_by time (cond b (arrivals_of g tables s (message_item g e)) (ends_of g tables s (source g e)))))
@@ -97,6 +99,7 @@ module _ {g : Graph} {order : List ℕ} {guards : Guards} (admitted : IsAdmitted
         && (b || list_any (λ e. not (input_is_there g tables s c.time e)) (filter (live g s.values) (inputs g p))))
         (lt-ltb c.time (process_at g p).release early))
 
+    -- once the release has come, an input that is late is all that breaks V5 at a start
     inputs_only : (process_at g p).release ≤ c.time →
         list_any (λ e. lacks_input g tables c e s) (inputs g p) ≡ breaks_column Rule.Inputs g tables p c s
     inputs_only released =
@@ -113,6 +116,7 @@ module _ {g : Graph} {order : List ℕ} {guards : Guards} (admitted : IsAdmitted
 
   -- ---- the rule at a send
 
+  -- a column of a send
   module _ (x : ℕ) (l : x < item_count g) (send : process_count g ≤ x) (c : Column)
       (k : Contains (columns_of tables x) c) where
     at_send : (matches c.cube s && list_any (λ d. is_late g (Execution (producer g x)) c.time d s)
@@ -136,11 +140,13 @@ module _ (g : Graph) (order : List ℕ) (tables : List NodeTable) (c : Column) (
   abbrev source_late : Scenario → Bool
   source_late s = list_any (λ d. is_late g (Execution (source g e)) c.time d s) (columns_of tables (source g e))
 
+  -- the first scenario in which the frame of a message is late is the first that lacks the input
   pub lacks_frame : is_message g e ≡ true → IsFirst g order (λ s. matches c.cube s && frame_late s) o →
       IsFirst g order (lacks_input g tables c e) o
   lacks_frame m f = first_same g order (λ s. matches c.cube s && frame_late s) (lacks_input g tables c e) o
       (λ s _. sym (ap (λ b. matches c.cube s && cond b (frame_late s) (is_asked g e s && source_late s)) m)) f
 
+  -- the first scenario in which the source has the value asked for and ends late is the first that lacks the input
   pub lacks_source : is_message g e ≡ false → (part : List Literal) →
       ((s : Scenario) → matches part s ≡ (matches c.cube s && is_asked g e s)) →
       IsFirst g order (λ s. matches part s && source_late s) o → IsFirst g order (lacks_input g tables c e) o
@@ -150,14 +156,17 @@ module _ (g : Graph) (order : List ℕ) (tables : List NodeTable) (c : Column) (
 
 -- ---- the least scenario
 
+-- tables of an admitted graph that keep V1 to V3, a column, and an answer
 module _ {g : Graph} {order : List ℕ} {guards : Guards} (admitted : IsAdmitted g order guards) (tables : List NodeTable)
     (rules : AllHold g tables row_rules) (x : ℕ) (c : Column)
     (o : Option Scenario) where
+  -- a column of a start before its release breaks V5 wherever it matches
   pub first_released : x < process_count g → c.time < (process_at g x).release → IsFirst g order (matches c.cube) o →
       IsFirst g order (breaks_column Rule.Inputs g tables x c) o
   first_released l early f = first_same g order (matches c.cube) (breaks_column Rule.Inputs g tables x c) o
       (λ s i. too_early admitted tables rules s i x l c early) f
 
+  -- the first scenario in which an input is missing is the first in which a column from the release on breaks V5
   pub first_input : x < process_count g → (process_at g x).release ≤ c.time →
       IsFirst g order (λ s. list_any (λ e. lacks_input g tables c e s) (inputs g x)) o →
       IsFirst g order (breaks_column Rule.Inputs g tables x c) o
@@ -165,6 +174,7 @@ module _ {g : Graph} {order : List ℕ} {guards : Guards} (admitted : IsAdmitted
       (breaks_column Rule.Inputs g tables x c) o
       (λ s i. inputs_only admitted tables rules s i x l c released) f
 
+  -- the first scenario in which the producer ends after a column of a send is the first in which that breaks V5
   pub first_send : x < item_count g → process_count g ≤ x → Contains (columns_of tables x) c →
       IsFirst g order (λ s. matches c.cube s
       && list_any (λ d. is_late g (Execution (producer g x)) c.time d s) (columns_of tables (producer g x))) o →

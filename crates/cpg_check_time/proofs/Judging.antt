@@ -41,14 +41,16 @@ same_rule Single e g tables s x earlier c = absurd (true≢false (sym e))
 same_rule rule e g tables s x earlier c = refl
 
 module _ (rule : Rule) (alone : is_alone rule ≡ true) (g : Graph) (tables : List NodeTable) (x : ℕ) where
+  -- the rule asks nothing about earlier columns
   pub same_earlier : (earlier : List Column) (c : Column) (s : Scenario) →
       breaks_at rule g tables s x earlier c ≡ breaks_column rule g tables x c s
   same_earlier earlier c s = ap (λ b. matches c.cube s && b) (same_rule rule alone g tables s x earlier c)
 
+  -- the rule is never broken for the lack of a column
   pub never_missing : (s : Scenario) → breaks rule g tables s x None ≡ false
   never_missing s = ap (λ b. b && breaks_present g tables s x) (never_asks rule alone)
 
-  -- the column at a place
+  -- the item breaks the rule at a place exactly if the column there breaks it
   pub breaks_here : (i : ℕ) (d : Column) (s : Scenario) → i < length (columns_of tables x) →
       breaks_column rule g tables x (get_or (columns_of tables x) i d) s ≡ breaks rule g tables s x (Some i)
   breaks_here i d s h =
@@ -57,22 +59,25 @@ module _ (rule : Rule) (alone : is_alone rule ≡ true) (g : Graph) (tables : Li
       ∙ sym (ap (λ l. list_any (breaks_at rule g tables s x (take i (columns_of tables x))) (take 1 l))
       (drop_more (columns_of tables x) i d h))
 
-  -- there is no column past the last
+  -- no rule is broken at a place past the last column
   pub breaks_past : (i : ℕ) (s : Scenario) → length (columns_of tables x) ≤ i →
       breaks rule g tables s x (Some i) ≡ false
   breaks_past i s h = ap (λ l. list_any (breaks_at rule g tables s x (take i (columns_of tables x))) (take 1 l))
       (drop_all i (columns_of tables x) h)
 
   -- the column of a step of a loop over the columns
+  -- `all`: these are the columns of the item's row. `l`, `is`: d is the column at place i.
   module _ (order : List ℕ) (columns : List Column) (all : columns ≡ columns_of tables x) (i : ℕ) (d : Column)
       (l : i < length columns) (is : d ≡ get_or columns i d) where
     place_is : (s : Scenario) → breaks_column rule g tables x d s ≡ breaks rule g tables s x (Some i)
     place_is s = ap (λ c. breaks_column rule g tables x c s) (is ∙ ap (λ cs. get_or cs i d) all)
         ∙ breaks_here i d s (omega (arith, ap length all))
 
+    -- the column at the place is one of the item's
     pub place_there : Contains (columns_of tables x) d
     place_there = subst (λ cs. Contains cs d) all (i, l, sym is)
 
+    -- if no earlier column breaks the rule, the first scenario in which this one does is the item's first violation
     pub first_here : (s : Scenario) →
         ((j : ℕ) (t : Scenario) → j < i → IsScenario g t → breaks rule g tables t x (Some j) ≡ false) →
         IsFirst g order (breaks_column rule g tables x d) (Some s)
@@ -83,6 +88,7 @@ module _ (rule : Rule) (alone : is_alone rule ≡ true) (g : Graph) (tables : Li
       columns = λ j t m k. before j t m k;
     }
 
+    -- if no earlier column breaks the rule and this one doesn't, none up to the next place does
     pub none_here : ((j : ℕ) (t : Scenario) → j < i → IsScenario g t → breaks rule g tables t x (Some j) ≡ false) →
         ((t : Scenario) → IsScenario g t → breaks_column rule g tables x d t ≡ false)
         → (j : ℕ) (t : Scenario) → j < i + 1 → IsScenario g t → breaks rule g tables t x (Some j) ≡ false
@@ -100,8 +106,10 @@ in_rows_of t row k = elim (Contains-append_cases t.starts t.sends row k) [
   | inr m ↦ Contains-append_right t.starts (t.sends ++ t.hears) row (Contains-append_left t.sends t.hears row m)
 ]
 
+-- tables of an admitted graph
 module _ {g : Graph} {order : List ℕ} {guards : Guards} (admitted : IsAdmitted g order guards) (tables : List NodeTable)
     (are : AreTablesOf (head_of g) tables) where
+  -- the row of the column stands at the item's node, and all columns of the node's rows are lawful
   lawful_column : (x : ℕ) (c : Column) → Contains (columns_of tables x) c → IsLawfulColumn (space_of (head_of g)) c
   lawful_column x c k =
       let shape = has_shape g admitted.limits tables are in
@@ -115,6 +123,7 @@ module _ {g : Graph} {order : List ℕ} {guards : Guards} (admitted : IsAdmitted
       (in_rows_of (table_at tables (home g x)) r.0 r.1) in
       All-contains (IsLawfulColumn (space_of (head_of g))) r.0.columns c row.columns there
 
+  -- the columns of tables of an admitted graph have its variables, and leave room for an execution
   pub column_is : (x : ℕ) (c : Column) → Contains (columns_of tables x) c → IsColumn g c
   column_is x c k =
       let lawful = lawful_column x c k in
@@ -127,6 +136,7 @@ module _ {g : Graph} {order : List ℕ} {guards : Guards} (admitted : IsAdmitted
         early = lawful.time;
       }
 
+  -- all columns of an item have the graph's variables, and leave room for an execution
   pub columns_are : (x : ℕ) → All (IsColumn g) (columns_of tables x)
   columns_are x = All-weaker (Contains (columns_of tables x)) (IsColumn g) (column_is x) (columns_of tables x)
       (All-contains_itself (columns_of tables x))

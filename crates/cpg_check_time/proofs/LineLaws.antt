@@ -18,10 +18,11 @@ use Rattle.cpg_cube.specs.Column.{column_at}
 abbrev pub AreFound : List Column → List Column → List ℕ → Type 0
 AreFound columns found places = (i : ℕ) → Contains places i → i < length columns → Contains found (column_at columns i)
 
+-- the columns found up to a place, and with the column at that place if there is one
 module _ (columns : List Column) (places : List ℕ) (k d : ℕ) (l : k < length places) (found more : List Column)
     (there : get_or places k d < length columns → more ≡ found ++ column_at columns (get_or places k d) ∷ [])
     (none : length columns ≤ get_or places k d → more ≡ found) where
-  -- one place more
+  -- with the column at the next place, if there is one, the columns of one place more are found
   pub found_more : AreFound columns found (take k places) → AreFound columns more (take (k + 1) places)
   found_more before i c m = elim (Contains-append_cases (take k places) (get_or places k d ∷ []) i
       (subst (λ xs. Contains xs i) (take_more places k d l) c)) [
@@ -41,6 +42,7 @@ module _ (columns : List Column) (places : List ℕ) (k d : ℕ) (l : k < length
         ]
       ]
 
+  -- with the next place's column, if there is one, the found columns are still columns of the line
   pub among_more : All (λ c. Contains columns c) found → All (λ c. Contains columns c) more
   among_more before = elim (cases_lt (get_or places k d) (length columns)) [
     | inl lt ↦ subst (All (λ c. Contains columns c)) (sym (there lt))

@@ -28,9 +28,10 @@ use Rattle.cpg_check_time.proofs.Seeking.{and_swap, any_at, both_any}
 
 -- ---- two columns
 
+-- a column of a process, and one of another
 module _ (g : Graph) (within : IsWithinLimits g) (p : ℕ) (l : p < process_count g) (c : Column) (q : ℕ)
     (d : Column) where
-  -- the other one starts first
+  -- if the other execution starts first, they overlap exactly if it ends after this one starts
   pub overlap_after : d.time ≤ c.time → (order : List ℕ) (o : Option Scenario) →
       IsFirst g order (λ s. matches c.cube s && (matches d.cube s && ends_after g q d.time c.time s)) o →
       IsFirst g order (overlaps g p c q d) o
@@ -41,7 +42,7 @@ module _ (g : Graph) (within : IsWithinLimits g) (p : ℕ) (l : p < process_coun
       (lt-ltb d.time (c.time + duration g p (fault_of s p))
       (omega (arith, duration_some g within p (fault_of s p) l))))) f
 
-  -- the other one starts later
+  -- if the other execution starts later, they overlap exactly if this one ends after that starts
   pub overlap_before : c.time < d.time → (order : List ℕ) (o : Option Scenario) →
       IsFirst g order (λ s. matches d.cube s && (matches c.cube s && ends_after g p c.time d.time s)) o →
       IsFirst g order (overlaps g p c q d) o
@@ -51,7 +52,7 @@ module _ (g : Graph) (within : IsWithinLimits g) (p : ℕ) (l : p < process_coun
       ∙ ap (λ b. matches c.cube s && (matches d.cube s && (b && ends_after g p c.time d.time s)))
       (sym (lt-ltb c.time (d.time + duration g q (fault_of s q)) (omega arith)))) f
 
-  -- they match together
+  -- executions that overlap are of columns that match together
   pub overlaps_both : (s : Scenario) → overlaps g p c q d s ≡ true →
       (matches c.cube s ≡ true) × (matches d.cube s ≡ true)
   overlaps_both s t =
@@ -61,6 +62,7 @@ module _ (g : Graph) (within : IsWithinLimits g) (p : ℕ) (l : p < process_coun
 -- ---- the columns of another process
 
 module _ (g : Graph) (tables : List NodeTable) (p : ℕ) (c : Column) (q : ℕ) where
+  -- on the same node, the first scenario in which two executions overlap is the first in which the other item clashes
   pub other_node : node_of g q ≡ node_of g p → (order : List ℕ) (o : Option Scenario) →
       IsFirst g order (λ s. list_any (λ d. overlaps g p c q d s) (columns_of tables q)) o →
       IsFirst g order (overlaps_some g tables p c q) o
@@ -70,7 +72,7 @@ module _ (g : Graph) (tables : List NodeTable) (p : ℕ) (c : Column) (q : ℕ) 
       (eq-eqb (node_of g q) (node_of g p) same))) f
 
   module _ (few : process_count g ≤ 128) (s : Scenario) (i : IsScenario g s) where
-    -- all start too late
+    -- no execution overlaps if all of the other item start once the longest of this column is over
     pub starts_late : p < process_count g → (first : ℕ) → All (λ d. first ≤ d.time) (columns_of tables q) →
         c.time + duration g p g.faults ≤ first →
         overlaps_some g tables p c q s ≡ false
@@ -82,7 +84,7 @@ module _ (g : Graph) (tables : List NodeTable) (p : ℕ) (c : Column) (q : ℕ) 
         (and_right (ltb c.time (d.time + duration g q (fault_of s q))) _
         (le-ltb d.time (c.time + duration g p (fault_of s p)) (omega arith))))))
 
-    -- all end early enough
+    -- no execution overlaps if even the longest of the other item's last column is over before this one starts
     pub ends_early : q < process_count g → (last : ℕ) → All (λ d. d.time ≤ last) (columns_of tables q) →
         last + duration g q g.faults ≤ c.time →
         overlaps_some g tables p c q s ≡ false
@@ -109,6 +111,7 @@ module _ (g : Graph) (order : List ℕ) (tables : List NodeTable) (p : ℕ) (l :
       ∙ ap (λ b. matches c.cube s && b) (sym (any_at tables q s (at_start s q))))
       ∙ and_swap (node_of g q == node_of g p) (matches c.cube s) (list_any (at_start s q) (at tables q s))
 
+  -- for each lower process: one of its columns overlaps exactly if one of its starts does
   processor_is : (s : Scenario) →
       list_any (λ q. overlaps_some g tables p c q s) (numbers_below p) ≡ breaks_column Rule.Processor g tables p c s
   processor_is s =
@@ -122,6 +125,7 @@ module _ (g : Graph) (order : List ℕ) (tables : List NodeTable) (p : ℕ) (l :
       ∙ sym (ap (λ b. matches c.cube s && (b && list_any (λ q. list_any (at_start s q) (at tables q s))
       (filter (λ q. node_of g q == node_of g p) (numbers_below p)))) (lt-ltb p (process_count g) l))
 
+  -- the first scenario in which an execution of a lower number overlaps is the first in which the column breaks V6
   pub first_overlap : (o : Option Scenario) →
       IsFirst g order (λ s. list_any (λ q. overlaps_some g tables p c q s) (numbers_below p)) o →
       IsFirst g order (breaks_column Rule.Processor g tables p c) o

@@ -16,10 +16,11 @@ use Rattle.cpg_table.specs.Table.{NodeTable, columns_of, at}
 use Rattle.cpg_cube.specs.declared.column.Column.{Column}
 use Rattle.cpg_violation.proofs.Columnwise.{any_filter}
 
+-- the first two of three conditions may change places
 pub and_swap : (a b c : Bool) → (a && (b && c)) ≡ (b && (a && c))
 and_swap a b c = sym (and_assoc a b c) ∙ ap (λ d. d && c) (and_comm a b) ∙ and_assoc b a c
 
--- a test with a premise
+-- a premise beside each test of a list may be asked once
 pub both_any : {X : Type 0} (m : Bool) (test : X → Bool) (xs : List X) →
     list_any (λ x. m && test x) xs ≡ (m && list_any test xs)
 both_any true test [] = refl

@@ -30,6 +30,7 @@ share_where g c d same order o f = first_same g order (λ s. matches c.cube s &&
     (λ s _.
     ap (λ b. matches c.cube s && b) (with_true (matches d.cube s) (d.time == c.time) (eq-eqb d.time c.time same))) f
 
+-- columns that share a slot both match
 pub shares_both : (c : Column) (s : Scenario) (d : Column) → shares c d s ≡ true →
     (matches c.cube s ≡ true) × (matches d.cube s ≡ true)
 shares_both c s d t =
@@ -37,6 +38,7 @@ shares_both c s d t =
     (r.0, (and_parts (matches d.cube s) (d.time == c.time) r.1).0)
 
 module _ (g : Graph) (tables : List NodeTable) (x : ℕ) (c : Column) (y : ℕ) where
+  -- if the node sends the other item, the first scenario in which columns share a slot is the first of a clash
   pub other_item : is_sent g y ≡ true → home g y ≡ home g x → (order : List ℕ) (o : Option Scenario) →
       IsFirst g order (λ s. list_any (λ d. shares c d s) (columns_of tables y)) o →
       IsFirst g order (shares_some g tables x c y) o
@@ -52,11 +54,13 @@ module _ (g : Graph) (tables : List NodeTable) (x : ℕ) (c : Column) (y : ℕ) 
       (list_any_false (λ d. shares c d s) (columns_of tables y) (λ d k.
       and_right (matches c.cube s) _ (and_right (matches d.cube s) _ (ne_eqb d.time c.time (none d k)))))
 
+  -- an item whose columns are all later shares no slot with the column
   pub all_later : (first : ℕ) → All (λ d. first ≤ d.time) (columns_of tables y) → c.time < first → (s : Scenario) →
       shares_some g tables x c y s ≡ false
   all_later first all early = never_shares (λ d k e. let from : first ≤ d.time =
       All-contains (λ (d : Column). first ≤ d.time) (columns_of tables y) d all k in omega arith)
 
+  -- an item whose columns are all earlier shares no slot with the column
   pub all_earlier : (last : ℕ) → All (λ d. d.time ≤ last) (columns_of tables y) → last < c.time → (s : Scenario) →
       shares_some g tables x c y s ≡ false
   all_earlier last all late = never_shares (λ d k e. let by : d.time ≤ last =
@@ -69,6 +73,7 @@ module _ (g : Graph) (order : List ℕ) (tables : List NodeTable) (x : ℕ) (c :
   abbrev other_at : Scenario → ℕ → Bool
   other_at s y = (is_sent g y && (home g y == home g x)) && list_any (λ t. t == c.time) (at tables y s)
 
+  -- an item that isn't sent never breaks V7
   pub not_sent : is_sent g x ≡ false → (s : Scenario) → breaks_column Rule.Slot g tables x c s ≡ false
   not_sent e s = and_right (matches c.cube s) _
       (ap (λ b. b && (not (next_slot g (home g x) c.time == c.time) || list_any (other_at s) (numbers_below x))) e)
@@ -83,6 +88,7 @@ module _ (g : Graph) (order : List ℕ) (tables : List NodeTable) (x : ℕ) (c :
         b && (not (next_slot g (home g x) c.time == c.time) || list_any (other_at s) (numbers_below x))) sent ∙
         ap (λ b. not b || list_any (other_at s) (numbers_below x)) starts)
 
+    -- a column that is at no start of a slot breaks V7 wherever it matches
     pub first_no_start : next_slot g (home g x) c.time ≢ c.time → (o : Option Scenario) →
         IsFirst g order (matches c.cube) o →
         IsFirst g order (breaks_column Rule.Slot g tables x c) o
@@ -105,6 +111,7 @@ module _ (g : Graph) (order : List ℕ) (tables : List NodeTable) (x : ℕ) (c :
           ∙ and_swap (is_sent g y && (home g y == home g x)) (matches c.cube s)
           (list_any (λ t. t == c.time) (at tables y s))
 
+      -- the first scenario in which a lower item shares the slot is the first in which the column breaks V7
       pub first_shared : (o : Option Scenario) →
           IsFirst g order (λ s. list_any (λ y. shares_some g tables x c y s) (numbers_below x)) o →
           IsFirst g order (breaks_column Rule.Slot g tables x c) o

@@ -21,6 +21,8 @@ use Rattle.cpg_violation.specs.Violation.{AllHold, row_rules}
 use Rattle.cpg_violation.proofs.Matching.{at_rule, active_where, match_where}
 use Rattle.cpg_violation.proofs.Moments.{in_at, at_parts}
 
+-- tables that keep V1 to V3, a scenario and an item
+-- V1: what matches is active. V2: no two columns of a row match. V3: what is active has a column that matches.
 module _ (g : Graph) (tables : List NodeTable) (s : Scenario) (law : IsScenario g s) (x : ℕ) (l : x < item_count g)
     (rules : AllHold g tables row_rules) where
   not_after : (c d : Column) (i j : ℕ) → i < length (columns_of tables x) → j < i →

@@ -9,13 +9,13 @@ use Rattle.cpg_table.specs.Valid.{breaks_at}
 use Rattle.cpg_table.specs.declared.rule.Rule.{Rule}
 use Rattle.cpg_table.specs.declared.rule.Rule.TheVariants.{Single, Present}
 
--- whether a rule asks neither which columns stand before one, nor that there is one
+-- whether a rule asks neither which columns stand before a column, nor whether there is one
 abbrev pub is_alone : Rule → Bool
 is_alone Single = false
 is_alone Present = false
 is_alone rule = true
 
--- whether a column of an item breaks such a rule in a scenario
+-- whether a column of an item breaks a rule on single columns in a scenario
 abbrev pub breaks_column : Rule → Graph → List NodeTable → ℕ → Column → Scenario → Bool
 breaks_column rule g tables x c s = breaks_at rule g tables s x [] c
 

@@ -8,6 +8,6 @@ use Rattle.cpg_base.specs.Scenario.{Scenario, fault_of}
 abbrev pub ends_after : Graph → ℕ → ℕ → ℕ → Scenario → Bool
 ends_after g p start time s = nat_lt time (start + duration g p (fault_of s p))
 
--- the execution ends after the time exactly with so many faults or more
+-- the execution ends after the time exactly with this many faults or more
 abbrev pub IsLeastCount : Graph → ℕ → ℕ → ℕ → ℕ → Type 0
 IsLeastCount g p start time count = (n : ℕ) → (time < start + duration g p n) ↔ (count ≤ n)

@@ -1,4 +1,4 @@
--- What is asked of columns, and of what.
+-- Questions about columns: the cube, the delay and the processes that they are asked with.
 use Rattle.std.specs.Prelude.{◌<◌}
 use Rattle.cpg_base.specs.Graph.{Graph, process_count}
 use Rattle.cpg_base.specs.Limits.{IsWithinLimits}

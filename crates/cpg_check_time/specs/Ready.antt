@@ -1,4 +1,4 @@
--- What V5 is judged by.
+-- The links and the columns by which V5 is judged.
 use Rattle.std.specs.Prelude.{◌≡◌, List}
 use Rattle.cpg_base.specs.Graph.{Graph, item_count}
 use Rattle.cpg_order.specs.Links.{links_of}

@@ -31,6 +31,7 @@ fn sift_inputs(
     ensures { IfOk result (λ _. (count : ℕ) → AreLines tables.now.nodes count lines.old → AreLines tables.now.nodes count lines.new) }
 {
     for edge in 0..problem.edges().len() as u32 {
+        // a quick check has shown that the target keeps V5, so it asks no row
         if is_marked(marks, problem.target(edge)) {
             continue;
         }
@@ -50,6 +51,7 @@ fn sift_producers(
     ensures { IfOk result (λ _. (count : ℕ) → AreLines tables.now.nodes count lines.old → AreLines tables.now.nodes count lines.new) }
 {
     for item in problem.processes().len() as u32..problem.item_count() {
+        // a quick check has shown that the item keeps V5
         if is_marked(marks, item) {
             continue;
         }
@@ -60,6 +62,7 @@ fn sift_producers(
 
 /// How long what an item begins takes at most, if it is an execution.
 fn longest(problem: &Problem, item: u32) -> u64 {
+    // a send: it takes no time on the processor
     if item as usize >= problem.processes().len() {
         return 0;
     }
@@ -68,6 +71,7 @@ fn longest(problem: &Problem, item: u32) -> u64 {
 
 /// Whether a row begins before what the columns of another begin is over.
 fn begins_within(problem: &Problem, lines: &[SievedLine<'_>], item: u32, other: u32) -> bool {
+    // an item without a row begins nothing
     let (Some(line), Some(beside)) = (lines.get(item as usize), lines.get(other as usize)) else {
         return false;
     };
@@ -79,6 +83,7 @@ fn may_clash(problem: &Problem, lines: &[SievedLine<'_>], item: u32, other: u32)
     requires first { item < item_count problem.now }
     requires second { other < item_count problem.now }
 {
+    // on different nodes they don't meet
     if problem.home(item) != problem.home(other) {
         return false;
     }
@@ -97,6 +102,7 @@ fn sift_lower(
     requires { item < item_count problem.now }
     ensures { IfOk result (λ _. (count : ℕ) → AreLines tables.now.nodes count lines.old → AreLines tables.now.nodes count lines.new) }
 {
+    // lower items alone: of two that clash, the higher one breaks the rule
     for other in from..item {
         if !may_clash(problem, lines, item, other) {
             continue;
@@ -117,6 +123,7 @@ fn sift_starts(
     ensures { IfOk result (λ _. (count : ℕ) → AreLines tables.now.nodes count lines.old → AreLines tables.now.nodes count lines.new) }
 {
     for item in 0..problem.processes().len() as u32 {
+        // a quick check has shown that the process keeps V6
         if is_marked(marks, item) {
             continue;
         }
@@ -137,6 +144,7 @@ fn sift_sends(
 {
     let from = problem.processes().len() as u32;
     for item in from..problem.item_count() {
+        // a quick check has shown that the item keeps V7
         if is_marked(marks, item) {
             continue;
         }
@@ -155,6 +163,7 @@ pub fn sift_time(
 ) -> Result<(), OutOfMemory>
     ensures { IfOk result (λ _. (count : ℕ) → AreLines tables.now.nodes count lines.old → AreLines tables.now.nodes count lines.new) }
 {
+    // V5 asks the first two, V6 the third, V7 the last
     sift_inputs(alloc, problem, tables, lines, marks.inputs.as_slice())?;
     sift_producers(alloc, problem, tables, lines, marks.inputs.as_slice())?;
     sift_starts(alloc, problem, tables, lines, marks.processor.as_slice())?;

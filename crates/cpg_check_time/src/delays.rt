@@ -26,7 +26,7 @@ use std::alloc::Global;
 pub(crate) enum Delay {
     /// The execution of a process.
     Execution(u32),
-    /// A slot of so many time units.
+    /// A slot of this many time units.
     Slot(u64),
 }
 
@@ -42,7 +42,7 @@ fn most(problem: &Problem, delay: Delay) -> u64
     }
 }
 
-/// That what a column begins is done after a time, in a scenario that a cube matches.
+/// Asks whether what a column begins is done after a time, in a scenario that a cube matches.
 #[derive(Drop)]
 pub(crate) struct Late<'a> {
     pub(crate) cube: &'a Cube,
@@ -63,11 +63,14 @@ impl<'a> Question for Late<'a> {
     ) -> Result<Option<Scenario>, OutOfMemory> {
         let (cube, time) = (self.cube, self.time);
         match self.delay {
+            // how long an execution takes depends on the faults
             Delay::Execution(process) => {
                 let found = least_late(problem, cube, beside, process, time, room)?;
                 Ok(found)
             }
+            // a slot is equally long in each scenario
             Delay::Slot(length) => {
+                // the slot has passed by then
                 if beside.time + length <= time {
                     return Ok(None);
                 }
@@ -102,6 +105,7 @@ pub(crate) fn least_delay(
     let problem = admitted.problem();
     let (cube, time) = (&column.cube, column.time);
     let line = &lines[item as usize];
+    // even the last column is done by then, with any faults
     if line.last.saturating_add(most(problem, delay)) <= time {
         return Ok(None);
     }

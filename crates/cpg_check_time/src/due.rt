@@ -14,7 +14,7 @@ use cpg_rules::Admitted;
 use cpg_table::{Fault, Rule, Tables};
 use std::alloc::Global;
 
-/// That every execution ends by its due.
+/// The rule that every execution ends by its due.
 struct Due;
 
 impl TimeJudge for Due {
@@ -22,7 +22,8 @@ impl TimeJudge for Due {
 
     ghost suits = { λ _ _ _. ⊤ };
 
-    /// The least scenario in which what a column starts ends past its due, if there is one. The contract alone names `tables`.
+    /// The least scenario in which the execution that a column starts ends past its due, if there is one. The contract alone
+    /// names `tables`.
     fn least(
         &self,
         alloc: Global,

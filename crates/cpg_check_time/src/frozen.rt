@@ -24,6 +24,7 @@ fn possible_time(problem: &Problem, columns: &[Column]) -> Option<u64>
     ensures { result ≡ possible_time problem.now columns.now }
 {
     for column in columns {
+        // a column that no scenario matches says nothing
         if column.cube.is_met(problem.faults()) {
             return Some(column.time);
         }
@@ -38,13 +39,14 @@ fn frozen_time(admitted: &Admitted, tables: &Tables, item: u32) -> Option<u64>
     ensures { result ≡ frozen_time admitted.now.graph tables.now.nodes item }
 {
     let problem = admitted.problem();
+    // an item that isn't frozen may have many times
     if !problem.is_frozen(item) {
         return None;
     }
     possible_time(problem, tables.columns_of(item))
 }
 
-/// That a frozen item has one time: for each item, what that time is.
+/// The rule that a frozen item has one time: for each item, what that time is.
 #[derive(Drop)]
 struct FrozenStarts {
     times: Vec<Option<u64>>,
@@ -83,12 +85,15 @@ impl TimeJudge for FrozenStarts {
         item: u32,
         column: &Column,
     ) -> Result<Option<Scenario>, OutOfMemory> {
+        // not frozen, or no column matches anywhere: every time is right
         let Some(time) = self.times[item as usize] else {
             return Ok(None);
         };
+        // the column has the frozen time
         if time == column.time {
             return Ok(None);
         }
+        // another time: the rule breaks in each scenario that the column matches
         let least = column.cube.least(alloc, admitted.problem())?;
         Ok(least)
     }

@@ -34,6 +34,7 @@ fn common(cube: &Cube, other: &Cube) -> Result<Option<Cube>, OutOfMemory>
 {
     let mut part = cube.copy()?;
     for literal in other.literals() {
+        // no scenario matches both
         let Some(next) = part.with(*literal)? else {
             return Ok(None);
         };
@@ -58,6 +59,7 @@ fn least_lacking(
     ensures { IfOk result (IsFirst admitted.now.graph admitted.now.order (lacks_input admitted.now.graph tables.now.nodes column.now edge)) }
 {
     let problem = admitted.problem();
+    // a message: it has to be sent a slot before
     if problem.is_message(edge) {
         let item = problem.processes().len() as u32 + edge;
         let slot = Delay::Slot(problem.slot_length(problem.home(item)));
@@ -66,7 +68,9 @@ fn least_lacking(
     }
     let process = problem.source(edge);
     let execution = Delay::Execution(process);
+    // any other input: its source has to end before, in the scenarios in which the edge is live
     let asked = edge_cube(alloc, problem, edge)?;
+    // the edge is live in no scenario of the column
     let Some(part) = common(&column.cube, &asked)? else {
         return Ok(None);
     };
@@ -97,6 +101,7 @@ fn least_of_lacking(
 {
     let problem = admitted.problem();
     let order = admitted.order();
+    // goes over the edges, and keeps the least scenario of all
     let mut found: Option<Scenario> = None;
     for edge in edges {
         let next = least_lacking(alloc, admitted, tables, lines, *edge, column)?;
@@ -105,7 +110,7 @@ fn least_of_lacking(
     Ok(found)
 }
 
-/// That all that an item waits for is there: the inputs of each process, and the columns of each item.
+/// The rule that all that an item waits for is there: the inputs of each process, and the columns of each item.
 #[derive(Drop)]
 pub(crate) struct WaitedInputs<'a> {
     pub(crate) links: Links,
@@ -127,6 +132,7 @@ impl<'a> TimeJudge for WaitedInputs<'a> {
     ) -> Result<Option<Scenario>, OutOfMemory> {
         let problem = admitted.problem();
         let lines = self.lines;
+        // a message or a broadcast waits for its producer's end
         if item as usize >= problem.processes().len() {
             let process = problem.producer(item);
             let end = Delay::Execution(process);

@@ -28,7 +28,7 @@ fn push_column<'a>(
     Ok(())
 }
 
-/// The columns of a line among which each is that matches some scenario together with a cube.
+/// Columns of a line. Each column that matches some scenario together with a cube is among them.
 pub(crate) fn meeting<'a>(
     alloc: Global,
     line: &SievedLine<'a>,

@@ -17,7 +17,7 @@ use cpg_table::Tables;
 use cpg_violation::SievedLine;
 use std::alloc::Global;
 
-/// That the execution of a process that a column starts overlaps that of another process that its column starts.
+/// Asks whether the execution that a column of a process starts overlaps the one that a column of another process starts.
 #[derive(Drop)]
 pub(crate) struct Overlap<'a> {
     pub(crate) process: u32,
@@ -37,7 +37,9 @@ impl<'a> Question for Overlap<'a> {
         room: &mut Scenario,
     ) -> Result<Option<Scenario>, OutOfMemory> {
         let column = self.column;
+        // the other one starts first: does it end late, behind the start of this one?
         if beside.time <= column.time {
+            // this one starts first: does it end late, behind the start of the other?
             let found = least_late(problem, &column.cube, beside, self.other, column.time, room)?;
             return Ok(found);
         }
@@ -53,7 +55,7 @@ impl<'a> Question for Overlap<'a> {
     }
 }
 
-/// That no two executions on a processor overlap: the columns of each item.
+/// The rule that no two executions on a processor overlap: the columns of each item.
 #[derive(Drop)]
 pub(crate) struct Processors<'a> {
     pub(crate) lines: &'a [SievedLine<'a>],
@@ -81,13 +83,16 @@ impl<'a> ColumnPairs for Processors<'a> {
         let problem = admitted.problem();
         let lines = self.lines;
         let line = &lines[other as usize];
+        // they run on different processors
         if problem.node_of(other) != problem.node_of(item) {
             return Ok(None);
         }
+        // all of the other row starts when this execution has ended, with any faults
         if line.first >= column.time + problem.duration(item, problem.faults()) {
             return Ok(None);
         }
         let longest = problem.duration(other, problem.faults());
+        // all of the other row has ended before this execution starts
         if line.last.saturating_add(longest) <= column.time {
             return Ok(None);
         }
@@ -114,6 +119,7 @@ impl<'a> TimeJudge for Processors<'a> {
         item: u32,
         column: &Column,
     ) -> Result<Option<Scenario>, OutOfMemory> {
+        // only processes run on a processor: a send can't break V6
         if item as usize >= admitted.problem().processes().len() {
             return Ok(None);
         }

@@ -17,7 +17,7 @@ use cpg_table::Tables;
 use cpg_violation::{SievedLine, met};
 use std::alloc::Global;
 
-/// That a column matches together with another at its time.
+/// Asks whether a column matches together with another at its time.
 #[derive(Drop)]
 pub(crate) struct Shared<'a> {
     pub(crate) column: &'a Column,
@@ -35,6 +35,7 @@ impl<'a> Question for Shared<'a> {
         room: &mut Scenario,
     ) -> Result<Option<Scenario>, OutOfMemory> {
         let column = self.column;
+        // sends at different times have different slots
         if beside.time != column.time {
             return Ok(None);
         }
@@ -43,7 +44,7 @@ impl<'a> Question for Shared<'a> {
     }
 }
 
-/// That each send has a slot of its own: the columns of each item.
+/// The rule that each send has a slot of its own: the columns of each item.
 #[derive(Drop)]
 pub(crate) struct Slots<'a> {
     pub(crate) lines: &'a [SievedLine<'a>],
@@ -70,16 +71,20 @@ impl<'a> ColumnPairs for Slots<'a> {
     ) -> Result<Option<Scenario>, OutOfMemory> {
         let lines = self.lines;
         let line = &lines[other as usize];
+        // all of the other row is later
         if column.time < line.first {
             return Ok(None);
         }
+        // all of the other row is earlier
         if line.last < column.time {
             return Ok(None);
         }
         let problem = admitted.problem();
+        // the other item isn't sent over the bus
         if !problem.is_sent(other) {
             return Ok(None);
         }
+        // the slots of different nodes don't meet
         if problem.home(other) != problem.home(item) {
             return Ok(None);
         }
@@ -103,13 +108,16 @@ impl<'a> TimeJudge for Slots<'a> {
         column: &Column,
     ) -> Result<Option<Scenario>, OutOfMemory> {
         let problem = admitted.problem();
+        // the item isn't sent over the bus, so it takes no slot
         if !problem.is_sent(item) {
             return Ok(None);
         }
+        // no slot of the node starts then: the rule breaks in each scenario that the column matches
         if !is_slot_start(problem, problem.home(item), column.time) {
             let least = column.cube.least(alloc, problem)?;
             return Ok(least);
         }
+        // the slot is right: it must not be shared with a lower item of the node
         let least = least_of_lower(alloc, admitted, tables, self, item, column)?;
         Ok(least)
     }

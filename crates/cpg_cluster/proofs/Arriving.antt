@@ -35,6 +35,7 @@ any_times time comes slot other (r ∷ rs) (s ∷ ss) =
     ∙ ap (λ b. (s == other) && b) (any_of_map (waits_until time comes slot) (λ (c : Column). c.time) r.columns))
     (any_times time comes slot other rs ss)
 
+-- the times of a sender say whether it is waited on, as the rows and their senders do
 pub any_index : (time : ℕ) (comes : Option ℕ) (slot other : ℕ) (rows : List Row) (senders times : List ℕ) →
     IsIndex rows senders other times →
     list_any (waits_until time comes slot) times
@@ -68,7 +69,7 @@ none_sent time comes slot times h =
           ∙ and_right (nat_le (get_or times i d) time) false refl
     ]))
 
--- nothing has arrived
+-- if all frames arrive later, none is waited for
 pub none_until : (time : ℕ) (comes : Option ℕ) (slot : ℕ) (times : List ℕ)
     (past : (i d : ℕ) → i < length times → time < get_or times i d) →
     false ≡ list_any (waits_until time comes slot) times
@@ -77,7 +78,7 @@ none_until time comes slot times past = sym
     (λ i d l. ap (λ b. b && list_any (λ u. nat_le (u + slot) (get_or times i d)) (option_to_list comes))
     (lt-leb (get_or times i d) time (past i d l))))
 
--- the last arrival decides
+-- the last arrival by the time decides whether a sender is waited on
 pub last_until : (time : ℕ) (comes : Option ℕ) (slot : ℕ) (times : List ℕ) (place x : ℕ) →
     IsNonDecreasingBy (λ (t : ℕ). t) times →
     place < length times →

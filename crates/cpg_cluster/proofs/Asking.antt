@@ -9,9 +9,11 @@ use Rattle.cpg_base.specs.Numbers.{numbers_below}
 use Rattle.cpg_base.proofs.Lists.{numbers-Contains, filter_none}
 use Rattle.cpg_cluster.specs.Cluster.{Took, Waits, answer_by}
 
+-- what holds of the value of an option, if it has one, holds of the value that it has
 pub at_some : {X : Type 0} (o : Option X) (x : X) (P : X → Type 0) → o ≡ Some x → IfSome o P → P x
 at_some o x P e h = subst (λ o. IfSome o P) e h
 
+-- the first number of a range that passes is the answer
 first_from : (p : ℕ → Bool) (a n i : ℕ) → a ≤ i → i < a + n → ((j : ℕ) → a ≤ j → j < i → p j ≡ false) → p i ≡ true →
     answer_by (filter p (range_with_len a n)) ≡ Waits i
 first_from p a zero i l m none is = absurd (omega arith)
@@ -34,11 +36,12 @@ pub none_waits : (p : ℕ → Bool) (n : ℕ) → ((j : ℕ) → j < n → p j �
     Took ≡ answer_by (filter p (numbers_below n))
 none_waits p n none = sym (ap answer_by (filter_none p (numbers_below n) (λ j c. none j (numbers-Contains n j c))))
 
--- what was added to a list
+-- what was added to a list is its part from the old length on
 pub tail_of : {X : Type 0} (old rs : List X) →
     take (length (old ++ rs) - length old) (drop (length old) (old ++ rs)) ≡ rs
 tail_of old rs = grind (arith, common_steps)
 
+-- the same of a list that is read from a place on
 pub tail_is : {X : Type 0} (seen old rs : List X) (first : ℕ) → seen ≡ old ++ rs → first ≡ length old →
     take (length seen - first) (drop first seen) ≡ rs
 tail_is seen old rs first e f = (λ i. take (length (e i) - f i) (drop (f i) (e i))) ∙ tail_of old rs

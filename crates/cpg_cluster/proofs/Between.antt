@@ -24,18 +24,22 @@ use Rattle.cpg_cluster.specs.Keeping.{waits_by, waits_between, frames_of_sender,
 use Rattle.cpg_cluster.specs.Kept.{cluster_of}
 use Rattle.cpg_cluster.specs.declared.member.Member.{Member}
 
+-- one of the mapped values is true if and only if one of the elements passes
 pub any_map : {X : Type 0} (f : X → Bool) (xs : List X) → list_any (λ w. w) (map f xs) ≡ list_any f xs
 any_map f [] = refl
 any_map f (x ∷ xs) = ap (λ b. f x || b) (any_map f xs)
 
+-- to map a list and to join the results is one flat map
 pub flat_id : {X Y : Type 0} (f : X → List Y) (xs : List X) → flat_map (λ l. l) (map f xs) ≡ flat_map f xs
 flat_id f [] = refl
 flat_id f (x ∷ xs) = ap (λ l. f x ++ l) (flat_id f xs)
 
+-- the dispatcher of a node is that of its member
 pub dispatcher_is : (ms : List Member) (b : ℕ) (d : Member) → b < length ms →
     dispatcher_at (cluster_of ms) b ≡ (get_or ms b d).node.dispatcher
 dispatcher_is ms b d l = get_or-map (λ (m : Member). m.node.dispatcher) ms b d _ l
 
+-- given one of the members of a cluster, each of which keeps what it should
 module _ (g : Graph) (ms : List Member) (fits : AllFit g ms) (a : ℕ) (m : Member)
     (here : (d : Member) → get_or ms a d ≡ m) (l : a < length ms) where
   senders_are : m.senders.items ≡ map (λ (row : Row). home g row.item) m.node.dispatcher.table.hears
@@ -70,6 +74,7 @@ module _ (g : Graph) (ms : List Member) (fits : AllFit g ms) (a : ℕ) (m : Memb
       rows : m.node.dispatcher.table.hears ≡ (dispatcher_at (cluster_of ms) a).table.hears
       rows = sym (ap (λ t. t.hears) table_is)
 
+  -- by the members, a node waits on the same node as by the state of the cluster
   pub answer_is : (time : ℕ) (d : Member) →
       answer_by (filter (λ b. waits_between time m b (get_or ms b d)) (numbers_below (length ms)))
       ≡ answer_by (filter (waits_on g (cluster_of ms) a time) (numbers_below (length (cluster_of ms).nodes)))
@@ -80,6 +85,7 @@ module _ (g : Graph) (ms : List Member) (fits : AllFit g ms) (a : ℕ) (m : Memb
       (sym (length-map ms (λ (m : Member). m.node.dispatcher))))
 
   module _ (w : World) (time : ℕ) where
+    -- a frame carries the value of its item
     frame_is : (i : Item) (act : Act) →
         record { item = act.item; column = act.column; value = value_of_item w.scenario.values i }
         ≡ frame_of_item w i act
@@ -112,6 +118,7 @@ module _ (g : Graph) (ms : List Member) (fits : AllFit g ms) (a : ℕ) (m : Memb
             (get_or ms (home g row.item) m).acts.items ≡ get_or (cluster_of ms).acts (home g row.item) []
         sent k = sym (get_or-map (λ (m : Member). m.acts.items) ms (home g row.item) m [] k)
 
+    -- the frames that the members give are those of the state of the cluster
     pub frames_are : (d : Dispatcher) → d.table ≡ m.node.dispatcher.table →
         frames_by g w.scenario.values ms time m.node.dispatcher.table.hears m.senders.items
         ≡ frames_now g w (cluster_of ms) d time

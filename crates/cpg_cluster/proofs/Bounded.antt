@@ -1,4 +1,4 @@
--- How many instants the nodes of a play may come to, and how many asks of a choice wait.
+-- How many instants the nodes of a play may come to, and how many nodes wait in a choice.
 use Rattle.std.proofs.Common.{◌≡◌, ℕ, ◌+◌, ◌*◌, ◌<◌, ◌≤◌, ◌%◌, ◌==◌, List, [], ◌∷◌, length, map, get_or, Some, sym, ap}
 use Rattle.std.proofs.Common.{◌∙◌, subst, arith}
 use Rattle.std.specs.Prelude.{All, sum_by}
@@ -74,6 +74,7 @@ less_turn g w node d time frames within own comes =
 abbrev HasFew : Dispatcher → Type 0
 HasFew d = (length d.table.own ≤ 128) × HaveFewEnds d.table.own
 
+-- dispatchers that have few processes and ends have few instants left together
 most_of : (ds : List Dispatcher) → All HasFew ds →
     sum_by instants_left ds ≤ sum_by (λ (t : NodeTable). column_count (rows_of t))
     (map (λ (d : Dispatcher). d.table) ds) * 10 + length ds * 1153
@@ -88,7 +89,7 @@ most_of (d ∷ ds) h =
       most_of ds (All-tail HasFew d ds h),
     )
 
--- all nodes together have at most so many
+-- all nodes together have at most this many instants left
 pub most_remaining : (g : Graph) (c : Cluster) → IsWithinLimits g → length c.nodes ≤ 16 →
     ((i : ℕ) → i < length c.nodes → (dispatcher_at c i).table.own ≡ own_of_node g i) →
     sum_by (λ (t : NodeTable). column_count (rows_of t)) (map (λ (d : Dispatcher). d.table) c.nodes) ≤ MOST_LOAD →
@@ -117,6 +118,7 @@ few_waits g w c (x ∷ xs) = go (answer g c x) (few_waits g w c xs)
     go (Waits b) l = omega arith
     go Done l = omega arith
 
+-- a choice round the circle makes no more nodes wait than there are nodes
 pub few_of_circle : (g : Graph) (w : World) (c : Cluster) (nodes first : ℕ) →
     (choose g w c (circle nodes first)).waits ≤ nodes
 few_of_circle g w c nodes first = omega (

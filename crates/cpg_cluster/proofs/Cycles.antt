@@ -39,12 +39,16 @@ use Rattle.cpg_cluster.proofs.Plays.{played_of}
 
 -- The least cycle.
 
+-- a bound within a whole number of steps takes no more steps than that
 below_turns : (bound step rounds : ℕ) → 0 < step → bound ≤ rounds * step → div_ceil bound step ≤ rounds
 below_turns bound step rounds h k = elim (cases_lt rounds (div_ceil bound step)) [
   | inl l ↦ absurd (omega (arith, div_ceil_times bound step h, mul-le-mul_right step l))
   | inr l ↦ l
 ]
 
+-- The least cycle is a cycle, and no cycle is shorter.
+-- A cycle is a whole number of steps that holds the deadline, the last arrival and one unit; the least one rounds
+-- these up.
 pub least_cycles : LeastCyclesAreLeast
 least_cycles g tables =
     let step : ℕ = cycle_step g in
@@ -68,11 +72,14 @@ least_cycles g tables =
 
 -- Each frame has a node that hears it.
 
+-- a node that hears the item
 record Hearer (g : Graph) (x : ℕ) : Type 0 where
   node : ℕ
   within : node < length g.nodes
   hears : is_heard_by g node (item_at g x) ≡ true
 
+-- Each frame is heard by some node.
+-- A message is heard by the node of its target. A broadcast is heard by each other node, and there are two at least.
 hearer : (g : Graph) → WellFormed g → (x : ℕ) → x < item_count g → is_sent g x ≡ true → Hearer g x
 hearer g f x l sent = elim (item_cases g x l) [
   | inl q ↦ absurd (not_both g x q.0 sent)
@@ -100,10 +107,12 @@ hearer g f x l sent = elim (item_cases g x l) [
       ]
 ]
 
+-- a due time is no later than the deadline of the graph
 lesser : (deadline : ℕ) (own : Option ℕ) → lesser_due deadline own ≤ deadline
 lesser deadline None = omega arith
 lesser deadline (Some own) = omega arith
 
+-- given a play of valid tables and the time of a cycle
 module _ {g : Graph} {tables : List NodeTable} {w : World} (k : Played g tables w) (time : ℕ)
     (cycle : IsCycle g tables time) where
   -- what a node hears arrives in the cycle
@@ -122,15 +131,20 @@ module _ {g : Graph} {tables : List NodeTable} {w : World} (k : Played g tables 
       (Contains-get_or tables h.node empty_table (omega (arith, k.setting.shape.count, h.within))) here in
       omega (arith, greatest_above _ (c.time + slot_length g (home g x)) all, cycle.arrivals)
 
+  -- each execution has ended in the cycle, as planned
   planned_end : (p : ℕ) (c : Column) → Match tables w.scenario p c → p < process_count g →
       c.time + duration g p (fault_of w.scenario p) ≤ time
   planned_end p c m l =
       omega (arith, match_due k.setting p c m l, lesser g.deadline (process_at g p).deadline, cycle.deadline)
 
+  -- a process of a node is one of the graph
   known : (node p : ℕ) → Contains (processes_on g node) p → p < process_count g
   known node p m = numbers-Contains (process_count g) p
       (Contains-filter_parts (λ p. node_of g p == node) (numbers_below (process_count g)) p m).0
 
+  -- All that the nodes do in a play is over at the end of the cycle.
+  -- Each start, send, end and report is one of the tables in its scenario: starts, ends and reports are over by the
+  -- due time, and sends have arrived by the cycle's end.
   pub over : (turns : List ℕ) → IsOverBy g w.scenario (play g w (initial_cluster g tables) turns) time
   over turns =
       let c : Cluster = play g w (initial_cluster g tables) turns in
@@ -158,11 +172,13 @@ module _ {g : Graph} {tables : List NodeTable} {w : World} (k : Played g tables 
             );
       }
 
+-- in every play of valid tables, all is over at the end of a cycle
 pub cycles_hold_all : CyclesHoldAll
 cycles_hold_all g tables time f h v cycle w turns is = over (played_of g tables f h v w is) time cycle turns
 
 -- Slots.
 
+-- the lengths of a slot and of the slots before it are together at most the round
 front_sum : (slots : List Slot) (n : ℕ) (d : Slot) → n < length slots →
     sum_by (λ (s : Slot). s.length) (take n slots) + (get_or slots n d).length ≤ sum_by (λ (s : Slot). s.length) slots
 front_sum [] n d l = absurd (omega arith)
@@ -181,6 +197,7 @@ fewer_rounds a b r off t l e = elim (cases_lt b a) [
   | inl lt ↦ absurd (let m : suc b * r ≤ a * r = mul-le-mul_right r lt in omega (arith, m, l, e))
 ]
 
+-- a node's slots have the same places in a later cycle as in the first
 pub same_slots : CyclesHaveTheSameSlots
 same_slots g tables time cycle node f c has = record {
   later = λ t at. (all + at.0, omega (arith, at.1, begin, parts all at.0 (round g)));
@@ -195,27 +212,33 @@ same_slots g tables time cycle node f c has = record {
       );
 }
   where
+    -- how many rounds are over at the beginning of the cycle
     all : ℕ
     all = cycle * c.rounds
 
+    -- the rounds of two parts add up
     parts : (a b r : ℕ) → (a + b) * r ≡ a * r + b * r
     parts a b r = omega arith
 
+    -- the slot begins within its round
     inside : offset g node < round g
     inside =
         let l = slot_place-lt g node has in
         let one = f.slot_lengths (slot_place g node) (record { node = 0; length = 0; bytes = 0 }) l in
         omega (arith, front_sum g.slots (slot_place g node) (record { node = 0; length = 0; bytes = 0 }) l, one)
 
+    -- the cycle begins with a round
     begin : cycle * time ≡ all * round g
     begin = let step : cycle_step g ≡ round g = omega (arith, inside) in
         ap (λ t. cycle * t) (c.whole ∙ ap (λ n. c.rounds * n) step) ∙ assoc cycle c.rounds (round g)
       where
+        -- products may be grouped in either way
         assoc : (a b r : ℕ) → a * (b * r) ≡ a * b * r
         assoc a b r = omega arith
 
 -- Cycles.
 
+-- what nodes do in a cycle is over before they do anything in a later one
 pub cycles_are_apart : CyclesAreApart
 cycles_are_apart g tables time f h v cycle w z turns others one later is iz less =
     let o = over (played_of g tables f h v w is) time cycle turns in

@@ -30,7 +30,7 @@ circle_at nodes first i l =
     drop-cons (circle nodes first) i 0 long ∙ ap₂ ◌∷◌ (get_or-map-below (λ i. (first + i) % nodes) nodes i 0 l)
     (ap (λ m. drop m (circle nodes first)) (sym (add-one i)))
 
--- what is left of a choice, after so many asks without a turn, of which some waited
+-- what is left of a choice after some asks without a turn, in some of which the node waited
 pub record IsChoosing (g : Graph) (w : World) (c : Cluster) (nodes first asked waits : ℕ) : Type 0 where
   pub cluster : (choose g w c (drop asked (circle nodes first))).cluster ≡ (choose g w c (circle nodes first)).cluster
   pub waits' : waits + (choose g w c (drop asked (circle nodes first))).waits
@@ -38,17 +38,21 @@ pub record IsChoosing (g : Graph) (w : World) (c : Cluster) (nodes first asked w
   pub took : (choose g w c (drop asked (circle nodes first))).took ≡ (choose g w c (circle nodes first)).took
   pub few : waits ≤ asked
 
+-- before the first ask, all of the choice is left
 pub choosing_none : (g : Graph) (w : World) (c : Cluster) (nodes first : ℕ) → IsChoosing g w c nodes first 0 0
 choosing_none g w c nodes first = record { cluster = refl; waits' = omega arith; took = refl; few = omega arith }
 
+-- given a choice under way, in which not all nodes have been asked
 module _ (g : Graph) (w : World) (c : Cluster) (nodes first asked waits : ℕ)
     (h : IsChoosing g w c nodes first asked waits) (l : asked < nodes) where
+  -- the choice goes on as the next node answers
   here : (ans : Answer) → answer g c ((first + asked) % nodes) ≡ ans →
       choose g w c (drop asked (circle nodes first)) ≡ chosen g w c ((first + asked) % nodes) ans
       (choose g w c (drop (asked + 1) (circle nodes first)))
   here ans e = ap (choose g w c) (circle_at nodes first asked l)
       ∙ ap (λ ans. chosen g w c ((first + asked) % nodes) ans (choose g w c (drop (asked + 1) (circle nodes first)))) e
 
+  -- if the next node waits, the rest of the choice is left, with one more wait
   pub choosing_waits : (b : ℕ) → answer g c ((first + asked) % nodes) ≡ Waits b →
       IsChoosing g w c nodes first (asked + 1) (waits + 1)
   choosing_waits b e = let one = here (Waits b) e in record {
@@ -58,6 +62,7 @@ module _ (g : Graph) (w : World) (c : Cluster) (nodes first asked waits : ℕ)
     few = omega (arith, h.few);
   }
 
+  -- if the next node is done, the rest of the choice is left
   pub choosing_done : answer g c ((first + asked) % nodes) ≡ Done → IsChoosing g w c nodes first (asked + 1) waits
   choosing_done e = let one = here Done e in record {
     cluster = sym (ap (λ (r : Choice). r.cluster) one) ∙ h.cluster;
@@ -66,6 +71,7 @@ module _ (g : Graph) (w : World) (c : Cluster) (nodes first asked waits : ℕ)
     few = omega (arith, h.few);
   }
 
+  -- if the next node takes its turn, the choice ends with its step and the waits so far
   pub chosen_took : answer g c ((first + asked) % nodes) ≡ Took →
       ((choose g w c (circle nodes first)).cluster ≡ step g w c ((first + asked) % nodes)) ×
       ((choose g w c (circle nodes first)).waits ≡ waits)
@@ -74,13 +80,14 @@ module _ (g : Graph) (w : World) (c : Cluster) (nodes first asked waits : ℕ)
     let z = ap (λ (r : Choice). r.waits) one in omega (arith, z, h.waits'),
   )
 
--- after all were asked nobody took a turn
+-- nothing is left of a list after as many elements as it has
 drop_all : {X : Type 0} (n : ℕ) (xs : List X) → length xs ≤ n → drop n xs ≡ []
 drop_all zero [] l = refl
 drop_all (suc n) [] l = refl
 drop_all zero (x ∷ xs) l = absurd (omega arith)
 drop_all (suc n) (x ∷ xs) l = drop_all n xs (omega arith)
 
+-- a choice in which every node was asked leaves the state as it was, and nobody took a turn
 pub chosen_none : (g : Graph) (w : World) (c : Cluster) (nodes first asked waits : ℕ) →
     IsChoosing g w c nodes first asked waits → nodes ≤ asked →
     ((choose g w c (circle nodes first)).cluster ≡ c) × ((choose g w c (circle nodes first)).waits ≡ waits) ×
@@ -95,12 +102,14 @@ chosen_none g w c nodes first asked waits h l =
 
 -- The steps of a choice, as code takes them.
 
+-- a node that waits, or is done, leaves the state as it was
 still_waits : (g : Graph) (w : World) (c : Cluster) (a b : ℕ) → Waits b ≡ answer g c a → step g w c a ≡ c
 still_waits g w c a b e = λ i. step_by g w c a (sym e i) (next (dispatcher_at c a))
 
 still_done : (g : Graph) (w : World) (c : Cluster) (a : ℕ) → Done ≡ answer g c a → step g w c a ≡ c
 still_done g w c a e = λ i. step_by g w c a (sym e i) (next (dispatcher_at c a))
 
+-- given the play before a choice, as it is after some asks, and after the next ask
 module _ (old now new : Playing) (nodes first asked waits : ℕ) (count : nodes ≡ length old.graph.nodes)
     (same : now ≡ old) (stepped' : new ≡ stepped now ((first + asked) % nodes))
     (h : IsChoosing old.graph old.world old.cluster nodes first asked waits) (l : asked < nodes) where
@@ -109,6 +118,7 @@ module _ (old now new : Playing) (nodes first asked waits : ℕ) (count : nodes 
       ans ≡ answer old.graph old.cluster ((first + asked) % nodes)
   answered ans e = e ∙ ap (λ (p : Playing). answer p.graph p.cluster ((first + asked) % nodes)) same
 
+  -- if the next node takes its turn, the play is as the choice leaves it
   pub took_state : Took ≡ answer now.graph now.cluster ((first + asked) % nodes) → new ≡ record old
       { cluster = (choose old.graph old.world old.cluster (circle (length old.graph.nodes) first)).cluster }
   took_state e = stepped' ∙ ap (λ (p : Playing). stepped p ((first + asked) % nodes)) same
@@ -116,12 +126,14 @@ module _ (old now new : Playing) (nodes first asked waits : ℕ) (count : nodes 
       (sym (chosen_took old.graph old.world old.cluster nodes first asked waits h l (sym (answered Took e))).0
       ∙ ap (λ n. (choose old.graph old.world old.cluster (circle n first)).cluster) count)
 
+  -- if the next node takes its turn, as many nodes waited as in the choice
   pub took_waits : Took ≡ answer now.graph now.cluster ((first + asked) % nodes) →
       waits ≡ (choose old.graph old.world old.cluster (circle (length old.graph.nodes) first)).waits
   took_waits e =
       sym (chosen_took old.graph old.world old.cluster nodes first asked waits h l (sym (answered Took e))).1 ∙
       ap (λ n. (choose old.graph old.world old.cluster (circle n first)).waits) count
 
+  -- if the next node waits, the play stays and the choice goes on with one more wait
   pub waits_more : (b : ℕ) → Waits b ≡ answer now.graph now.cluster ((first + asked) % nodes) →
       (new ≡ old) × IsChoosing old.graph old.world old.cluster nodes first (asked + 1) (waits + 1)
   waits_more b e = (
@@ -131,6 +143,7 @@ module _ (old now new : Playing) (nodes first asked waits : ℕ) (count : nodes 
     choosing_waits old.graph old.world old.cluster nodes first asked waits h l b (sym (answered (Waits b) e)),
   )
 
+  -- if the next node is done, the play stays and the choice goes on
   pub done_more : Done ≡ answer now.graph now.cluster ((first + asked) % nodes) →
       (new ≡ old) × IsChoosing old.graph old.world old.cluster nodes first (asked + 1) waits
   done_more e = (
@@ -140,19 +153,23 @@ module _ (old now new : Playing) (nodes first asked waits : ℕ) (count : nodes 
     choosing_done old.graph old.world old.cluster nodes first asked waits h l (sym (answered Done e)),
   )
 
+-- given a choice in which every node was asked
 module _ (old now : Playing) (nodes first asked waits : ℕ) (count : nodes ≡ length old.graph.nodes) (same : now ≡ old)
     (h : IsChoosing old.graph old.world old.cluster nodes first asked waits)
     (l : nodes ≤ asked) where
+  -- the play is as the choice leaves it
   pub none_state : now ≡ record old
       { cluster = (choose old.graph old.world old.cluster (circle (length old.graph.nodes) first)).cluster }
   none_state = same ∙ ap (λ (c : Cluster). record old { cluster = c })
       (sym (chosen_none old.graph old.world old.cluster nodes first asked waits h l).0
       ∙ ap (λ n. (choose old.graph old.world old.cluster (circle n first)).cluster) count)
 
+  -- as many nodes waited as in the choice
   pub none_waits : waits ≡ (choose old.graph old.world old.cluster (circle (length old.graph.nodes) first)).waits
   none_waits = sym (chosen_none old.graph old.world old.cluster nodes first asked waits h l).1
       ∙ ap (λ n. (choose old.graph old.world old.cluster (circle n first)).waits) count
 
+  -- nobody took a turn
   pub none_took : (choose old.graph old.world old.cluster (circle (length old.graph.nodes) first)).took ≡ true → ⊥
   none_took e = true≢false (sym e ∙ ap (λ n. (choose old.graph old.world old.cluster (circle n first)).took) (sym count)
       ∙ (chosen_none old.graph old.world old.cluster nodes first asked waits h l).2)

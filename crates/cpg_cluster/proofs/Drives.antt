@@ -37,9 +37,11 @@ least_node : (f : ℕ → Option ℕ) (n : ℕ) →
 least_node f zero = inr (λ a l. absurd (omega arith))
 least_node f (suc n) = go (f n) refl (least_node f n)
   where
+    -- no node has a next instant, if node n has none and none before it has one
     all : f n ≡ None → ((a : ℕ) → a < n → f a ≡ None) → (a : ℕ) → a < suc n → f a ≡ None
     all e none a l = elim (cases_eq a n) [ inl s ↦ ap f s ∙ e | inr ne ↦ none a (omega arith) ]
 
+    -- by induction on the number of nodes: node n is compared with the least of the nodes before it, if there is one
     go : (o : Option ℕ) → f n ≡ o →
         ((a : ℕ) × (a < n) × (time : ℕ) × (f a ≡ Some time) ×
         ((other moment : ℕ) → other < n → f other ≡ Some moment → time ≤ moment)) ⊎ ((a : ℕ) → a < n → f a ≡ None) →
@@ -47,6 +49,7 @@ least_node f (suc n) = go (f n) refl (least_node f n)
         ((other moment : ℕ) → other < suc n → f other ≡ Some moment → time ≤ moment)) ⊎
         ((a : ℕ) → a < suc n → f a ≡ None)
     go None e (inr none) = inr (all e none)
+    -- node n has no next instant, so the least one of the others is still the least
     go None e (inl q) = inl (
       q.0,
       omega arith,
@@ -55,6 +58,7 @@ least_node f (suc n) = go (f n) refl (least_node f n)
       λ other moment l h. elim (cases_eq other n)
           [ inl s ↦ absurd (none-some moment (sym (ap f s ∙ e) ∙ h)) | inr ne ↦ q.4 other moment (omega arith) h ],
     )
+    -- node n alone has a next instant
     go (Some t) e (inr none) = inl (
       n,
       omega arith,
@@ -65,6 +69,7 @@ least_node f (suc n) = go (f n) refl (least_node f n)
         | inr ne ↦ absurd (none-some moment (sym (none other (omega arith)) ∙ h))
       ],
     )
+    -- both have one, and the earlier of the two is the least
     go (Some t) e (inl q) = elim (cases_lt t q.2) [
       | inl less ↦ inl (
         n,
@@ -96,9 +101,11 @@ not_took : (g : Graph) (w : World) (c : Cluster) (xs : List ℕ) → (choose g w
 not_took g w c [] f a h e = Contains-nil a h
 not_took g w c (x ∷ xs) f a h e = go (answer g c x) refl f (λ k m. not_took g w c xs k a m e)
   where
+    -- the node isn't x, which doesn't take a turn, and it is none of the others
     rest : (answer g c x ≡ Took → ⊥) → (Contains xs a → ⊥) → ⊥
     rest no' ih = elim (Contains-cases x xs a h) [ inl s ↦ no' (ap (answer g c) s ∙ e) | inr m ↦ ih m ]
 
+    -- by the answer of x: a turn would contradict, and else the choice goes on with the others
     go : (ans : Answer) → answer g c x ≡ ans → (chosen g w c x ans (choose g w c xs)).took ≡ false →
         ((choose g w c xs).took ≡ false → Contains xs a → ⊥) → ⊥
     go Took i k ih = true≢false k
@@ -115,6 +122,7 @@ circle_all n first a f l = elim (cases_lt a first) [
       ∙ add-mod_right a n ∙ mod-eq_of_lt l)
 ]
   where
+    -- the node at place i of the circle is on it
     at : (i : ℕ) → i < n → (first + i) % n ≡ a → Contains (circle n first) a
     at i k e = subst (Contains (circle n first)) e
         (Contains-map (λ i. (first + i) % n) (numbers_below n) i (Contains-numbers n i k))
@@ -125,6 +133,7 @@ left_node : (ms : List Member) → list_any (λ (m : Member). is_some (next m.no
 left_node [] e = absurd (true≢false (sym e))
 left_node (m ∷ ms) e = go (next m.node.dispatcher) refl e (left_node ms)
   where
+    -- by the next instant of the first member: it is the one, or there is one among the others
     go : (o : Option ℕ) → next m.node.dispatcher ≡ o →
         (is_some o || list_any (λ (m : Member). is_some (next m.node.dispatcher)) ms) ≡ true →
         (list_any (λ (m : Member). is_some (next m.node.dispatcher)) ms ≡ true →
@@ -133,11 +142,14 @@ left_node (m ∷ ms) e = go (next m.node.dispatcher) refl e (left_node ms)
     go (Some t) i h ih = (0, omega arith, t, i)
     go None i h ih = let r = ih h in (suc r.0, omega (arith, r.1), r.2, r.3)
 
+-- an option that is nothing is None
 none_is : (o : Option ℕ) → is_some o ≡ false → o ≡ None
 none_is None e = refl
 none_is (Some t) e = absurd (true≢false e)
 
+-- given the members of a play
 module _ (g : Graph) (w : World) (ms : List Member) (p : IsPlaying (play_of g w ms)) where
+  -- there is a member for each node
   count : length ms ≡ length g.nodes
   count = sym (length-map ms (λ (m : Member). m.node.dispatcher.table)) ∙ p.shape.count
 
@@ -151,6 +163,7 @@ module _ (g : Graph) (w : World) (ms : List Member) (p : IsPlaying (play_of g w 
       (from_any_false (λ (m : Member). is_some (next m.node.dispatcher)) ms (get_or ms b d) e
       (Contains-get_or ms b d k)))
     where
+      -- some member, which stands as the default of `get_or`
       member : (ms : List Member) (i : ℕ) → i < length ms → Member
       member [] i l = absurd (omega arith)
       member (m ∷ ms) i l = m
@@ -160,7 +173,7 @@ module _ (g : Graph) (w : World) (ms : List Member) (p : IsPlaying (play_of g w 
   not_done e d = let q = left_node ms e in
       never_done _ (sym (ap (answer_at g (cluster_of ms) q.0) q.3) ∙ d q.0 (omega (arith, q.1, count)))
 
-  -- then someone takes a turn
+  -- if some member has a next instant, someone takes a turn in a choice
   pub someone_takes : list_any (λ (m : Member). is_some (next m.node.dispatcher)) ms ≡ true → (first : ℕ) →
       first < length g.nodes →
       (choose g w (cluster_of ms) (circle (length g.nodes) first)).took ≡ true
@@ -181,10 +194,12 @@ abbrev pub number_after : ℕ → ℕ → ℕ
 number_after zero x = x
 number_after (suc n) x = number_after n (next_number x)
 
+-- the number after one more choice is drawn from the number before it
 number_more : (n x : ℕ) → number_after (suc n) x ≡ next_number (number_after n x)
 number_more zero x = refl
 number_more (suc n) x = number_more n (next_number x)
 
+-- one choice more adds its waits
 driven_more : (g : Graph) (w : World) (n x : ℕ) (c now : Cluster) (total : ℕ) → driven g w n x c ≡ (now, total) →
     driven g w (suc n) x c ≡ (
       (choice g w now (next_number (number_after n x))).cluster,
@@ -220,9 +235,11 @@ pub record IsDriving (g : Graph) (w : World) (x : ℕ) (before now : Cluster) (n
   pub number' : number ≡ number_after turns x
   pub needed : (fewer : ℕ) → fewer < turns → AllDone g (driven g w fewer x before).0 → ⊥
 
+-- before its first choice a drive has changed nothing
 pub driving_none : (g : Graph) (w : World) (x : ℕ) (c : Cluster) → IsDriving g w x c c x 0
 driving_none g w x c = record { turns = 0; is = refl; number' = refl; needed = λ fewer l. absurd (omega arith) }
 
+-- a drive goes on with one more choice if not all nodes are done
 pub driving_more : (g : Graph) (w : World) (x : ℕ) (c now new : Cluster) (number waits more next' : ℕ) →
     IsDriving g w x c now number waits → (AllDone g now → ⊥) →
     next' ≡ next_number number →
@@ -243,6 +260,7 @@ driving_more g w x c now new number waits more next' h left n e m =
       ];
     }
 
+-- a drive is over if all nodes are done
 pub driving_done : (g : Graph) (w : World) (x : ℕ) (c now : Cluster) (number waits : ℕ) →
     IsDriving g w x c now number waits → AllDone g now →
     IsDriven g w x c now waits
@@ -250,6 +268,7 @@ driving_done g w x c now number waits h d = record { turns = h.turns; is = h.is;
 
 -- The same of the state as code sees it.
 
+-- if some member has a next instant, someone takes a turn in a choice
 pub takes_at : (g : Graph) (w : World) (ms : List Member) (now : Playing) → play_of g w ms ≡ now →
     IsPlaying (play_of g w ms) →
     list_any (λ (m : Member). is_some (next m.node.dispatcher)) ms ≡ true →
@@ -260,24 +279,27 @@ takes_at g w ms now view p e = subst (λ (now : Playing). (first : ℕ) → firs
     (choose now.graph now.world now.cluster (circle (length now.graph.nodes) first)).took ≡ true)
     view (someone_takes g w ms p e)
 
+-- if some member has a next instant, not all nodes are done
 pub left_at : (g : Graph) (w : World) (ms : List Member) (now : Playing) → play_of g w ms ≡ now →
     IsPlaying (play_of g w ms) →
     list_any (λ (m : Member). is_some (next m.node.dispatcher)) ms ≡ true →
     AllDone now.graph now.cluster → ⊥
 left_at g w ms now view p e = subst (λ (now : Playing). AllDone now.graph now.cluster → ⊥) view (not_done g w ms p e)
 
+-- if no member has a next instant, all nodes are done
 pub done_at : (g : Graph) (w : World) (ms : List Member) (now : Playing) → play_of g w ms ≡ now →
     IsPlaying (play_of g w ms) →
     list_any (λ (m : Member). is_some (next m.node.dispatcher)) ms ≡ false →
     AllDone now.graph now.cluster
 done_at g w ms now view p e = subst (λ (now : Playing). AllDone now.graph now.cluster) view (all_done g w ms p e)
 
--- the nodes come to so many instants at most
+-- the tables of the dispatchers are those of the members
 tables_twice : (ms : List Member) →
     map (λ (d : Dispatcher). d.table) (map (λ (m : Member). m.node.dispatcher) ms) ≡ tables_of ms
 tables_twice [] = refl
 tables_twice (m ∷ ms) = ap (λ (ts : List NodeTable). m.node.dispatcher.table ∷ ts) (tables_twice ms)
 
+-- the nodes of a play may still come to at most 5261328 instants
 pub most_at : (g : Graph) (w : World) (ms : List Member) (now : Playing) → play_of g w ms ≡ now →
     IsPlaying (play_of g w ms) → length ms ≤ 16 →
     remaining now.cluster ≤ 5261328
@@ -294,6 +316,7 @@ most_at g w ms now view p few =
       ap (λ (ts : List NodeTable). sum_by (λ (t : NodeTable). column_count (rows_of t)) ts) (tables_twice ms),
     )))
 
+-- a choice that the next number makes takes the drive one choice further
 pub drive_step : (old now new : Playing) (x drawn waits drawn' first more : ℕ) →
     now ≡ record old { cluster = now.cluster } →
     IsDriving old.graph old.world x old.cluster now.cluster drawn waits →

@@ -31,6 +31,7 @@ use Rattle.cpg_cluster.proofs.Ends.{valid_tables_end_as_planned}
 -- ---- a sort by keys
 
 module _ {X : Type 0} (key : X → List ℕ) where
+  -- whether an element may stand before another: the other's key is not below its own
   abbrev pub precedes : X → X → Bool
   precedes x y = not (is_below (key y) (key x))
 
@@ -60,12 +61,14 @@ module _ {X : Type 0} (key : X → List ℕ) where
       go true e ih = AllPairs-cons InOrder y (inserted precedes x ys)
           (all_inserted (InOrder y) x ys (below_one_way (key y) (key x) e) after) ih
 
+  -- what is sorted by its keys is in the order of its keys
   pub in_order_sorted : (xs : List X) → AllPairs (λ a b. is_below (key b) (key a) ≡ false) (sorted precedes xs)
   in_order_sorted [] = AllPairs-nil InOrder
   in_order_sorted (x ∷ xs) = in_order_inserted x (sorted precedes xs) (in_order_sorted xs)
 
 -- ---- what is done in another order is as orderly
 
+-- if each piece is reordered, all pieces together are
 pieces_permuted : {X : Type 0} (f h : ℕ → List X) (xs : List ℕ) →
     ((x : ℕ) → Contains xs x → IsPermutation (f x) (h x)) →
     IsPermutation (flat_map f xs) (flat_map h xs)
@@ -76,11 +79,13 @@ pieces_permuted f h (x ∷ xs) each =
     (IsPermutation-append (f x) (h x) (flat_map f xs) (flat_map h xs) (each x (Contains-first x xs))
     (pieces_permuted f h xs (λ y m. each y (Contains-rest x xs y m)))))
 
+-- as many elements pass of a list in another order
 length_filter_permuted : {X : Type 0} (p : X → Bool) (xs ys : List X) → IsPermutation xs ys →
     length (filter p ys) ≡ length (filter p xs)
 length_filter_permuted p xs ys same =
     length-filter p ys ∙ sum_by-IsPermutation (λ x. cond (p x) 1 0) xs ys same ∙ sym (length-filter p xs)
 
+-- given the same acts in two orders
 module _ (g : Graph) (s : Scenario) (xs ys : List Act) (same : IsPermutation xs ys) where
   back : (a : Act) → Contains ys a → Contains xs a
   back a m = Contains-permutation ys xs a (IsPermutation-sym xs ys same) m
@@ -91,6 +96,7 @@ module _ (g : Graph) (s : Scenario) (xs ys : List Act) (same : IsPermutation xs 
   sends_back : (a : Act) → IsSendAct g ys a → IsSendAct g xs a
   sends_back a m = (back a m.0, m.1)
 
+  -- acts that are orderly are so in every order
   pub orderly_permuted : IsOrderly g s xs → IsOrderly g s ys
   orderly_permuted o = record {
     once = λ x l. length_filter_permuted (λ (a : Act). a.item == x) xs ys same ∙ o.once x l;
@@ -107,6 +113,7 @@ module _ (g : Graph) (s : Scenario) (xs ys : List Act) (same : IsPermutation xs 
 
 -- ---- a play that came to its end
 
+-- given a play in which every node is done
 module _ (p : Playing) (playing : IsPlaying p) (done : AllDone p.graph p.cluster) where
   abbrev acts_due : ℕ → List Act
   acts_due node = sorted (precedes (due_key p.graph)) (asked_of p.tables p.world.scenario node)
@@ -135,9 +142,11 @@ module _ (p : Playing) (playing : IsPlaying p) (done : AllDone p.graph p.cluster
   follows = subst (FollowsDue p.graph p.tables p.world.scenario) playing.played.is
       (correct.plays p.world playing.played.turns playing.world)
 
+  -- each node has done what is due on it
   pub acts_are_due : (node : ℕ) → node < length p.graph.nodes → get_or p.cluster.acts node [] ≡ acts_due node
   acts_are_due node l = follows.whole node (acts_due node) l (due node) (done node l)
 
+  -- each node has reached the ends that are due
   pub ends_are_due : (node : ℕ) → node < length p.graph.nodes → get_or p.cluster.ends node [] ≡ ends_due node
   ends_are_due node l =
       let whole = (valid_tables_end_as_planned p.graph p.tables playing.formed playing.shape playing.valid).whole
@@ -145,15 +154,18 @@ module _ (p : Playing) (playing : IsPlaying p) (done : AllDone p.graph p.cluster
       subst (λ (c : Cluster). answer p.graph c node ≡ Done → get_or c.ends node [] ≡ ends_due node) playing.played.is
       whole (done node l)
 
+  -- the acts of each node are what is due on it
   acts_done : (node : ℕ) → node < length p.graph.nodes →
       IsDue p.graph p.tables p.world.scenario node (get_or p.cluster.acts node [])
   acts_done node l = subst (IsDue p.graph p.tables p.world.scenario node) (sym (acts_are_due node l)) (due node)
 
+  -- the ends of each node are the planned ones
   ends_done : (node : ℕ) → node < length p.graph.nodes →
       AreDueEnds p.graph p.tables p.world.scenario node (get_or p.cluster.ends node [])
   ends_done node l =
       subst (AreDueEnds p.graph p.tables p.world.scenario node) (sym (ends_are_due node l)) (planned node)
 
+  -- so the play is whole
   pub done_whole : IsWholePlay p.graph p.tables p.world p.cluster
   done_whole = record {
     played = playing.played;
@@ -175,7 +187,7 @@ whole_play old new same playing done = subst (λ (p : Playing). IsWholePlay p.gr
     (done_whole new playing
     (subst (λ (g : Graph). AllDone g new.cluster) (sym (ap (λ (p : Playing). p.graph) same)) done))
 
--- what is due doesn't tell how a play came to its end
+-- what is due does not depend on how a play came to its end
 pub plays_that_end_are_alike : PlaysThatEndAreAlike
 plays_that_end_are_alike p other one two done over = record {
   acts = λ node l. acts_are_due p one done node l ∙ sym (acts_are_due (record p { cluster = other }) two over node l);

@@ -34,15 +34,17 @@ use Rattle.cpg_cluster.proofs.Between.{flat_id}
 
 -- Reports change nothing but what runs.
 
+-- reports do not change a node's next instant
 pub next_finished : (d : Dispatcher) (es : List Ended) → next (fold finished d es) ≡ next d
 next_finished d [] = refl
 next_finished d (e ∷ es) = next_finished (finished d e) es ∙ next_reported e d.table d.heard d.running d.last
 
+-- reports do not change a node's table
 pub table_finished : (d : Dispatcher) (es : List Ended) → (fold finished d es).table ≡ d.table
 table_finished d [] = refl
 table_finished d (e ∷ es) = table_finished (finished d e) es
 
--- the execution of a process, where the processes of a node differ
+-- the execution of a process is found if the processes of a node are all different
 running_found : (g : Graph) (h : Own → Option Running) (ps : List ℕ) → Rises (λ x y. x < y) ps → (p : ℕ) →
     Contains ps p →
     running_in (map (own_process g) ps) (map h (map (own_process g) ps)) p ≡ h (own_process g p)
@@ -56,6 +58,7 @@ running_found g h (q ∷ qs) r p c = elim (Contains-cases q qs p c) [
       running_found g h qs r.1 p m
 ]
 
+-- given a node with its next instant
 module _ {g : Graph} {tables : List NodeTable} {w : World} (k : Played g tables w) (node : ℕ)
     (l : node < length g.nodes) (heard : List Range) (last : Option ℕ) (time : ℕ)
     (comes : next (node_state g tables w node heard last) ≡ Some time) where
@@ -70,7 +73,9 @@ module _ {g : Graph} {tables : List NodeTable} {w : World} (k : Played g tables 
   abbrev state : (Own → Option Running) → Dispatcher
   state h = record { table = table; heard = heard; running = map h (own_of_node g node); last = last }
 
-  -- a report of an execution that is over by the time
+  -- A report of an execution that is over by the time.
+  -- What the record of such a report asks: the process runs without a report, the faults are few, the execution has
+  -- taken some time and no longer than planned, and the report comes after the last turn and before the next.
   may : (h : Own → Option Running) → next (state h) ≡ Some time → (p : ℕ) → Contains (processes_on g node) p →
       (run : Running) →
       h (own_process g p) ≡ Some run →
@@ -102,6 +107,7 @@ module _ {g : Graph} {tables : List NodeTable} {w : World} (k : Played g tables 
   after : (Own → Option Running) → ℕ → Own → Option Running
   after h p o = with_report (ended_of g w (own_process g p)) o (h o)
 
+  -- a report leaves the state with what runs after it
   state_after : (h : Own → Option Running) (p : ℕ) →
       finished (state h) (ended_of g w (own_process g p)) ≡ state (after h p)
   unfolding after
@@ -160,6 +166,7 @@ module _ {g : Graph} {tables : List NodeTable} {w : World} (k : Played g tables 
       (all_from (after h p) (next_after h p n) ps r.1 (λ q c. on q (Contains-rest p ps q c))
       (λ q c. kept h p q (λ e. let m = r.0 q c in absurd (omega (arith, m, e))) ∙ same q (Contains-rest p ps q c)))
 
+  -- a node may take the reports of all executions that are over by its next instant
   pub all_finish : AllFinish (node_state g tables w node heard last)
       (reports_now g w (node_state g tables w node heard last) time)
   all_finish = subst (AllFinish (node_state g tables w node heard last))
@@ -172,20 +179,24 @@ module _ {g : Graph} {tables : List NodeTable} {w : World} (k : Played g tables 
 module _ {g : Graph} {tables : List NodeTable} {w : World} (k : Played g tables w) (c : Cluster)
     (r : Reached g tables w c) (a : ℕ) (l : a < length g.nodes) (time : ℕ)
     (e : next (dispatcher_at c a) ≡ Some time) where
+  -- a node may take the reports of all executions that are over by its next instant
   pub may_finish : AllFinish (dispatcher_at c a) (reports_now g w (dispatcher_at c a) time)
   may_finish = let n = r.holds a l in
       subst (λ d. AllFinish d (reports_now g w d time)) (sym n.is)
       (all_finish k a l n.heard n.last time (ap next (sym n.is) ∙ e))
 
+  -- its next instant stays the same after these reports
   pub next_ready : next (reported g w (dispatcher_at c a) time) ≡ Some time
   next_ready =
       next_finished (dispatcher_at c a) (map (λ (r : ℕ × Ended). r.1) (reports_now g w (dispatcher_at c a) time)) ∙ e
 
+  -- the reports before a turn do not change the node's table
   pub table_ready : (reported g w (dispatcher_at c a) time).table ≡ own_table g a (table_at tables a)
   table_ready =
       table_finished (dispatcher_at c a) (map (λ (r : ℕ × Ended). r.1) (reports_now g w (dispatcher_at c a) time))
       ∙ ap (λ (d : Dispatcher). d.table) (r.holds a l).is
 
+  -- after these reports it may take its turn, with the frames that arrive
   pub may_turn : MayTurn (reported g w (dispatcher_at c a) time) []
       (frames_now g w c (reported g w (dispatcher_at c a) time) time)
   may_turn =
@@ -203,6 +214,7 @@ module _ {g : Graph} {tables : List NodeTable} {w : World} (k : Played g tables 
             }) frames (All-contains_itself frames);
       }
 
+  -- its table says of each of its processes what the graph says
   pub own_known : All (IsOwnOf g) (dispatcher_at c a).table.own
   own_known = subst (All (IsOwnOf g)) (sym (ap (λ (d : Dispatcher). d.table.own) (r.holds a l).is))
       (All-weaker (Contains (own_of_node g a)) (IsOwnOf g) (λ o h.

@@ -54,6 +54,7 @@ noted_once x (a ∷ acts) noted r l n = elim (cases_eq a.item x) [
     here e = ap (λ z. get_or (note noted a) z None) (sym e)
         ∙ get_or-set_same noted a.item (Some a) None (omega (arith, l, e))
 
+-- both tests keep the same of all elements as of those that pass the first
 both_pass : {X : Type 0} (p q : X → Bool) (xs : List X) →
     filter (λ x. p x && q x) (filter p xs) ≡ filter (λ x. p x && q x) xs
 both_pass p q [] = refl
@@ -73,6 +74,7 @@ frames_noted value x slot time acts noted h = ap (frames_from value x slot time)
     ∙ ap (λ (l : List Act). map (λ (act : Act). record { item = act.item; column = act.column; value = value }) l)
     (both_pass (λ (a : Act). a.item == x) (λ (a : Act). a.time + slot == time) acts)
 
+-- the frames of what a sender has noted of an item are those of what it has done of it
 pub sender_frames : (ms : List Member) (sender : ℕ) (m : Member) (value : Bool) (x time : ℕ)
     (noted : List (Option Act)) → sender < length ms → m ≡ get_or ms sender m → HasNoted m x →
     noted ≡ m.noted.items →
@@ -83,6 +85,7 @@ sender_frames ms sender m value x time noted l at has is =
     ∙ sym (ap (λ (o : Option Member). option_map_or (λ (m : Member). frames_from value x m.slot time m.acts.items) o [])
     (slice_get-get_or ms sender m l ∙ ap (λ (m : Member). Some m) (sym at)))
 
+-- given a play
 module _ (g : Graph) (w : World) (ms : List Member) (p : IsPlaying (play_of g w ms)) where
   -- in a play each node has noted what it has done
   pub all_noted : AllFit g ms → (i x : ℕ) (d : Member) → i < length ms → x < item_count g → HasNoted (get_or ms i d) x

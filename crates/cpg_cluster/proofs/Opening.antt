@@ -69,7 +69,7 @@ open_next g tables n number after t rest ms m a left is next o =
       ap (λ k. drop k tables) next ∙ (sym (drop-drop 1 n tables) ∙ ap (drop 1) left),
     )
 
--- what a node hears by valid tables
+-- by valid tables a node hears only items that there are
 pub hears_items : (g : Graph) (tables : List NodeTable) → IsValid g tables → (i : ℕ) → i < length tables →
     HearsItems g (table_at tables i)
 hears_items g tables v i l = subst (All (λ (row : Row). row.item < item_count g))
@@ -81,12 +81,15 @@ hears_items g tables v i l = subst (All (λ (row : Row). row.item < item_count g
     subst (λ (row : Row). row.item < item_count g) q.2 (numbers-Contains (item_count g) q.0 p.0)) (hear_rows g tables i)
     (All-contains_itself (hear_rows g tables i)))
 
+-- given the members of a graph's tables before their first turns
 module _ (g : Graph) (tables : List NodeTable) (w : World) (within : IsWithinLimits g)
     (of : AreTablesOf (head_of g) tables) (ms : List Member) (open' : AreOpen g tables (length tables) ms) where
+  -- the dispatcher of each member is that of its table before the first turn
   table_here : (i : ℕ) (d : Member) → i < length tables →
       (get_or ms i d).node.dispatcher ≡ initial_dispatcher (table_at tables i)
   table_here i d l = ap (λ (s : NodeState). s.dispatcher) (open'.each i d l).node
 
+  -- the members have these tables
   pub tables_are : tables_of ms ≡ tables
   tables_are =
       same_lists (tables_of ms) tables (length-map ms (λ (m : Member). m.node.dispatcher.table) ∙ open'.count) (λ i t l.
@@ -114,6 +117,7 @@ module _ (g : Graph) (tables : List NodeTable) (w : World) (within : IsWithinLim
       get_or-map f ms i (get_member ms i k) d k ∙ h i (get_member ms i k) t
       ∙ sym (get_or-replicate (length tables) i [] d t))
 
+  -- their state is the one before the first turns
   pub cluster_is : cluster_of ms ≡ initial_cluster g tables
   cluster_is = λ i. record {
     nodes = nodes_are i;
@@ -122,13 +126,16 @@ module _ (g : Graph) (tables : List NodeTable) (w : World) (within : IsWithinLim
     reports = none_are (λ (m : Member). m.reports.items) (λ i d l. (open'.each i d l).reports) i;
   }
 
+  -- their play is the one before the first turn
   pub play_is : play_of g w ms ≡ opened g tables w
   play_is = λ i. record { graph = g; tables = tables_are i; world = w; cluster = cluster_is i }
 
+  -- in a world of the graph, it is a play of valid tables
   pub playing_open : WellFormed g → IsValid g tables → IsWorld g w → IsPlaying (play_of g w ms)
   playing_open f v o = subst IsPlaying (sym play_is)
       (record { limits = within; formed = f; lawful = of; shape = has_shape g within tables of; valid = v; world = o; played = played_open g tables w })
 
+  -- each member keeps what it should, and has the room for a play
   pub fits_open : AllFit g ms
   fits_open i d l =
       let o = open'.each i d (omega (arith, l, open'.count)) in

@@ -42,7 +42,7 @@ pub record HasReported (g : Graph) (tables : List NodeTable) (w : World) (node :
   pub only : (q : ℕ × Ended) → Contains reports q → OneReport g tables w node q × (by last q.0 ≡ true)
   pub apart : Rises (λ (a b : ℕ × Ended). a.1.process ≢ b.1.process) reports
 
--- the reports of a process
+-- a process has at most one report at a time
 single : (g : Graph) (w : World) (time : ℕ) (o : Own) (run : Option Running) →
     Rises (λ (a b : ℕ × Ended). a.1.process ≢ b.1.process) (report_of g w time o run)
 single g w time o None = tt
@@ -62,6 +62,7 @@ record Told (g : Graph) (w : World) (time : ℕ) (o : Own) (run : Option Running
   over : it.start + get_or w.lengths o.process 0 ≤ time
   is : q ≡ (it.start + get_or w.lengths o.process 0, ended_of g w o)
 
+-- a report comes from an execution that is over and has not reported
 told : (g : Graph) (w : World) (time : ℕ) (o : Own) (run : Option Running) (q : ℕ × Ended) →
     Contains (report_of g w time o run) q →
     Told g w time o run q
@@ -90,6 +91,7 @@ told g w time o (Some run) q h = go (is_none run.report && leb (run.start + get_
               ];
         }
 
+-- given a node of a play and a time
 module _ {g : Graph} {tables : List NodeTable} {w : World} (k : Played g tables w) (node : ℕ) (last : Option ℕ)
     (time : ℕ) where
   -- the reports by the time
@@ -118,10 +120,12 @@ module _ {g : Graph} {tables : List NodeTable} {w : World} (k : Played g tables 
         omega (arith, at, t.over),
       )
 
+  -- the report of a process is of that process
   of_own : (o : Own) (q : ℕ × Ended) → Contains (report_of g w time o (planned g tables w last o)) q →
       q.1.process ≡ o.process
   of_own o q h = ap (λ (q : ℕ × Ended). q.1.process) (told g w time o (planned g tables w last o) q h).is
 
+  -- two processes of a node never report the same process
   own_apart : (ps : List ℕ) → Rises (λ x y. x < y) ps →
       Rises (λ (x y : Own). (a b : ℕ × Ended) → Contains (report_of g w time x (planned g tables w last x)) a →
       Contains (report_of g w time y (planned g tables w last y)) b →
@@ -145,6 +149,7 @@ module _ {g : Graph} {tables : List NodeTable} {w : World} (k : Played g tables 
       (own_apart (processes_on g node) (Rises-filter (λ x y. x < y) (λ p. node_of g p == node)
       (numbers_below (process_count g)) (numbers_go_up (process_count g))))
 
+  -- before its next turn a node has reported at most one execution of each process, all by that instant
   pub reports_more : (heard : List Range) → NextIs (node_state g tables w node heard last) time →
       (reports : List (ℕ × Ended)) →
       HasReported g tables w node last reports →
@@ -165,6 +170,7 @@ module _ {g : Graph} {tables : List NodeTable} {w : World} (k : Played g tables 
   }
 
 module _ {g : Graph} {tables : List NodeTable} {w : World} (k : Played g tables w) where
+  -- each node of the state has reported so
   pub record ReportsHold (c : Cluster) : Type 0 where
     pub count : length c.reports ≡ length g.nodes
     pub each : (node : ℕ) → node < length g.nodes →
@@ -203,6 +209,7 @@ module _ {g : Graph} {tables : List NodeTable} {w : World} (k : Played g tables 
   }
 
   module _ (c : Cluster) (r : Reached g tables w c) (h : ReportsHold c) where
+    -- after its turn the node has reported at most one execution of each process
     hold_here : (a time : ℕ) → (l : a < length g.nodes) → answer g c a ≡ Took → next (dispatcher_at c a) ≡ Some time →
         HasReported g tables w a (dispatcher_at (take_turn g w c a time) a).last
         (get_or (take_turn g w c a time).reports a [])
@@ -222,6 +229,7 @@ module _ {g : Graph} {tables : List NodeTable} {w : World} (k : Played g tables 
         subst (λ o. HasReported g tables w a o (get_or (take_turn g w c a time).reports a [])) (sym last)
         (subst (HasReported g tables w a (Some time)) (sym reports) after)
 
+    -- a turn keeps this of all nodes
     hold_turn : (a time : ℕ) → answer g c a ≡ Took → next (dispatcher_at c a) ≡ Some time →
         ReportsHold (take_turn g w c a time)
     hold_turn a time e n = record {
@@ -251,5 +259,6 @@ module _ {g : Graph} {tables : List NodeTable} {w : World} (k : Played g tables 
   hold_play [] c r h = h
   hold_play (a ∷ rest) c r h = hold_play rest (step g w c a) (reached_step k c r a) (hold_step c r h a)
 
+  -- in every state of a play each node has reported so
   pub reports_hold : (c : Cluster) → IsPlayed g tables w c → ReportsHold c
   reports_hold c p = subst ReportsHold p.is (hold_play p.turns (initial_cluster g tables) (reached_open k) hold_open)

@@ -29,6 +29,7 @@ pairs_of : {X : Type 0} (R : X → X → Type 0) (xs : List X) → Rises R xs �
 pairs_of R [] h = λ i j d l m. absurd (omega arith)
 pairs_of R (x ∷ xs) h = AllPairs-cons_by R x xs h.0 (pairs_of R xs h.1)
 
+-- if keys differ, the list of keys has no repeats
 keys_apart : {X : Type 0} (key : X → ℕ) (xs : List X) → Rises (λ a b. key a ≢ key b) xs →
     Rises (λ a b. a ≢ b) (map key xs)
 keys_apart key [] h = tt
@@ -46,6 +47,7 @@ no_more_keys key xs ys apart in' = omega (
       (λ y c. let r = Contains-map_parts key xs y c in subst (Contains ys) r.2 (in' r.0 r.1)),
 )
 
+-- given a node of a play
 module _ {g : Graph} {tables : List NodeTable} {w : World} (k : Played g tables w) (node : ℕ)
     (l : node < length g.nodes) (last : Option ℕ) where
   -- acts are of different items
@@ -90,6 +92,7 @@ module _ {g : Graph} {tables : List NodeTable} {w : World} (k : Played g tables 
           sym p.time ∙ (λ i. (one i).time + duration g (same i) (fault_of w.scenario (same i))) ∙ q.time in
           elim before [ inl less ↦ omega arith | inr r ↦ omega (arith, r.1, e) ]
 
+  -- reports are of different processes of the node
   pub reports_few : (reports : List (ℕ × Ended)) → HasReported g tables w node last reports →
       length reports ≤ length (processes_on g node)
   reports_few reports d = no_more_keys (λ (q : ℕ × Ended). q.1.process) reports (processes_on g node) d.apart
@@ -97,6 +100,7 @@ module _ {g : Graph} {tables : List NodeTable} {w : World} (k : Played g tables 
 
 -- Frames: at most one of each row.
 
+-- of acts of different items, at most one is of an item
 one_item : (test : Act → Bool) (x : ℕ) (acts : List Act) → Rises (λ (a b : Act). a.item ≢ b.item) acts →
     length (filter (λ (a : Act). (a.item == x) && test a) acts) ≤ 1
 one_item test x [] r = omega arith
@@ -117,11 +121,13 @@ one_item test x (a ∷ acts) r = elim (cases_Bool ((a.item == x) && test a)) [
   )
 ]
 
+-- if each element gives at most one, there are no more results than elements
 few_in_all : {X Y : Type 0} (f : X → List Y) (xs : List X) → ((x : X) → length (f x) ≤ 1) →
     length (flat_map f xs) ≤ length xs
 few_in_all f [] h = omega arith
 few_in_all f (x ∷ xs) h = omega (arith, length-append (f x) (flat_map f xs), h x, few_in_all f xs h)
 
+-- at most one frame of each hear row arrives at a time
 pub frames_few : {g : Graph} {tables : List NodeTable} {w : World} (k : Played g tables w) (c : Cluster)
     (r : Reached g tables w c) (d : Dispatcher) (time : ℕ) →
     length (frames_now g w c d time) ≤ length d.table.hears
@@ -135,6 +141,7 @@ frames_few {g = g} {tables = tables} {w = w} k c r d time = few_in_all (frames_o
           (sym (get_or_past c.acts node [] (omega (arith, past, r.acts)))) tt
     ]
 
+    -- at most one frame of a hear row arrives at a time
     row_few : (row : Row) (acts : List Act) → Rises (λ (a b : Act). a.item ≢ b.item) acts →
         length (map (λ act. frame_of_item w (item_at g row.item) act) (filter
         (λ (act : Act). (act.item == row.item) && (act.time + slot_length g (home g row.item) == time)) acts)) ≤ 1

@@ -45,30 +45,40 @@ tables_of ms = map (λ (m : Member). m.node.dispatcher.table) ms
 abbrev pub play_of : Graph → World → List Member → Playing
 play_of g w ms = record { graph = g; tables = tables_of ms; world = w; cluster = cluster_of ms }
 
+-- Given one of the members of a play, each of which keeps what it should.
+-- The member m stands at the place a of the list (`at`, `l`).
 module _ (g : Graph) (w : World) (ms : List Member) (p : IsPlaying (play_of g w ms)) (fits : AllFit g ms) (a : ℕ)
     (m : Member) (at : m ≡ get_or ms a m) (l : a < length ms) where
+  -- the tables of the members are valid, and the world is one of the graph
   k : Played g (tables_of ms) w
   k = played_of g (tables_of ms) p.formed p.shape p.valid w p.world
 
+  -- the state of the members
   c : Cluster
   c = cluster_of ms
 
+  -- the state is one that a play reaches
   r : Reached g (tables_of ms) w (cluster_of ms)
   r = played_reached k (cluster_of ms) p.played
 
+  -- the member is a node of the graph
   on : a < length g.nodes
   on = omega (arith, l, p.shape.count, length-map ms (λ (m : Member). m.node.dispatcher.table))
 
+  -- the member stands at its place, whatever the default is
   here : (d : Member) → get_or ms a d ≡ m
   here d = get_or_default ms a d m l ∙ sym at
 
+  -- its dispatcher is that of the state
   pub at_is : dispatcher_at (cluster_of ms) a ≡ m.node.dispatcher
   at_is = dispatcher_is ms a m l ∙ ap (λ (m : Member). m.node.dispatcher) (here m)
 
+  -- its table is that of the node
   table_is : table_at (tables_of ms) a ≡ m.node.dispatcher.table
   table_is = get_or-map (λ (m : Member). m.node.dispatcher.table) ms a m empty_table l
       ∙ ap (λ (m : Member). m.node.dispatcher.table) (here m)
 
+  -- the processes of its table are those of the node
   own_is : m.node.dispatcher.table.own ≡ own_of_node g a
   own_is = sym (ap (λ (d : Dispatcher). d.table.own) at_is) ∙ ap (λ (d : Dispatcher). d.table.own) (r.holds a on).is
 
@@ -80,32 +90,41 @@ module _ (g : Graph) (w : World) (ms : List Member) (p : IsPlaying (play_of g w 
       subst (λ n. AreIndexed m.node.dispatcher.table.hears m.senders.items n m.arrivals.items) e
       (subst (Fits g a) (here m) (fits a m l)).arrivals
 
+  -- if it has no next instant, it answers that it is done
   pub done_answer : next m.node.dispatcher ≡ None → Done ≡ answer g (cluster_of ms) a
   done_answer e = sym (ap (answer_at g (cluster_of ms) a) (ap next at_is ∙ e))
 
+  -- if it has no next instant, nothing changes
   pub done_step : next m.node.dispatcher ≡ None → step g w (cluster_of ms) a ≡ cluster_of ms
   done_step e = (λ i. step_by g w (cluster_of ms) a ((sym (done_answer e)) i) ((ap next at_is ∙ e) i))
 
+  -- given its next instant
   module _ (time : ℕ) (comes : next m.node.dispatcher ≡ Some time) where
+    -- the instant is the next one of the node in the state
     next_at : next (dispatcher_at (cluster_of ms) a) ≡ Some time
     next_at = ap next at_is ∙ comes
 
+    -- the least member that it waits on, if any, gives the answer of the state
     pub asked : (ans : Answer) (d : Member) →
         ans ≡ answer_by (filter (λ b. waits_between time m b (get_or ms b d)) (numbers_below (length ms))) →
         ans ≡ answer g (cluster_of ms) a
     asked ans d e = e ∙ answer_is g ms fits a m here l time d ∙ sym (ap (answer_at g (cluster_of ms) a) next_at)
 
+    -- if it waits, nothing changes
     pub waits_step : (b : ℕ) → Waits b ≡ answer g (cluster_of ms) a → step g w (cluster_of ms) a ≡ cluster_of ms
     waits_step b e = (λ i. step_by g w (cluster_of ms) a ((sym e) i) (next_at i))
 
+    -- its table says of each of its processes what the graph says
     pub own_all : All (IsOwnOf g) m.node.dispatcher.table.own
     own_all =
         subst (λ (d : Dispatcher). All (IsOwnOf g) d.table.own) at_is (own_known k (cluster_of ms) r a on time next_at)
 
+    -- it may take the reports of all executions that are over by its next instant
     pub finish_all : AllFinish m.node.dispatcher (reports_of g w.scenario w.lengths time m.node.dispatcher)
     finish_all = subst (λ (d : Dispatcher). AllFinish d (reports_now g w d time)) at_is
         (may_finish k (cluster_of ms) r a on time next_at)
 
+    -- the reports do not change its next instant
     pub ready_next : next (ready g w.scenario w.lengths time m.node.dispatcher) ≡ Some time
     ready_next = subst (λ (d : Dispatcher). next (reported g w d time) ≡ Some time) at_is
         (next_ready k (cluster_of ms) r a on time next_at)
@@ -119,6 +138,7 @@ module _ (g : Graph) (w : World) (ms : List Member) (p : IsPlaying (play_of g w 
         (map (λ (q : ℕ × Ended). q.1) (reports_now g w (dispatcher_at (cluster_of ms) a) time))
         ∙ ap (λ (d : Dispatcher). d.table) at_is)
 
+    -- no more frames arrive than it has hear rows
     pub frames_fit : length (frames_by g w.scenario.values ms time m.node.dispatcher.table.hears m.senders.items)
         ≤ length m.node.dispatcher.table.hears
     frames_fit = omega (
@@ -131,15 +151,19 @@ module _ (g : Graph) (w : World) (ms : List Member) (p : IsPlaying (play_of g w 
           ap (λ (d : Dispatcher). d.table) at_is),
     )
 
+    -- given the frames that arrive
     module _ (fs : List Frame)
         (arrive : fs ≡ frames_by g w.scenario.values ms time m.node.dispatcher.table.hears m.senders.items) where
+      -- after the reports it may take its turn with the frames that arrive
       pub turn_may : MayTurn (ready g w.scenario w.lengths time m.node.dispatcher) [] fs
       turn_may = subst (MayTurn (ready g w.scenario w.lengths time m.node.dispatcher) []) (sym (gathered fs arrive))
           (subst (λ (d : Dispatcher). MayTurn (reported g w d time) []
           (frames_now g w (cluster_of ms) (reported g w (dispatcher_at (cluster_of ms) a) time) time)) at_is
           (may_turn k (cluster_of ms) r a on time next_at))
 
+      -- given that the node takes its turn
       module _ (took : Took ≡ answer g (cluster_of ms) a) where
+        -- the ask is a turn
         step_is : step g w (cluster_of ms) a ≡ take_turn g w (cluster_of ms) a time
         step_is = (λ i. step_by g w (cluster_of ms) a ((sym took) i) (next_at i))
 
@@ -147,22 +171,28 @@ module _ (g : Graph) (w : World) (ms : List Member) (p : IsPlaying (play_of g w 
         abbrev d : Dispatcher
         d = ready g w.scenario w.lengths time m.node.dispatcher
 
+        -- the state after the turn
         c' : Cluster
         c' = take_turn g w (cluster_of ms) a time
 
+        -- the state after the turn is one of a play
         played' : IsPlayed g (tables_of ms) w (take_turn g w (cluster_of ms) a time)
         played' =
             subst (IsPlayed g (tables_of ms) w) step_is (played_step g (tables_of ms) w (cluster_of ms) a p.played)
 
+        -- a play reaches it
         r' : Reached g (tables_of ms) w (take_turn g w (cluster_of ms) a time)
         r' = played_reached k (take_turn g w (cluster_of ms) a time) played'
 
+        -- the dispatcher after the reports is the same in the state and in the member
         d_is : reported g w (dispatcher_at (cluster_of ms) a) time ≡ ready g w.scenario w.lengths time m.node.dispatcher
         d_is = ap (λ (d : Dispatcher). reported g w d time) at_is
 
+        -- the frames of the turn are those that were gathered
         fs_is : frames_now g w (cluster_of ms) (reported g w (dispatcher_at (cluster_of ms) a) time) time ≡ fs
         fs_is = sym (gathered fs arrive)
 
+        -- the member has the room that its table asks for
         fit : Fits g a m
         fit = subst (Fits g a) (here m) (fits a m l)
 
@@ -172,6 +202,7 @@ module _ (g : Graph) (w : World) (ms : List Member) (p : IsPlaying (play_of g w 
             (ready g w.scenario w.lengths time m.node.dispatcher) time [] fs
         node_then = ap₂ (λ (d : Dispatcher) (fs : List Frame). turn d time [] fs) d_is fs_is
 
+        -- the acts of the node in the state are then those of the member
         acts_then : get_or (cluster_of ms).acts a []
             ++ acts_of_turn (reported g w (dispatcher_at (cluster_of ms) a) time) time []
             (frames_now g w (cluster_of ms) (reported g w (dispatcher_at (cluster_of ms) a) time) time)
@@ -180,6 +211,7 @@ module _ (g : Graph) (w : World) (ms : List Member) (p : IsPlaying (play_of g w 
             (get_or-map (λ (m : Member). m.acts.items) ms a m [] l ∙ ap (λ (m : Member). m.acts.items) (here m))
             (ap₂ (λ (d : Dispatcher) (fs : List Frame). acts_of_turn d time [] fs) d_is fs_is)
 
+        -- and its ends
         ends_then : get_or (cluster_of ms).ends a [] ++ map {A = Ended} {B = ℕ × Ended} (λ e. (time, e))
             (due_reports (reported g w (dispatcher_at (cluster_of ms) a) time) time) ≡ m.ends.items
             ++ ends_of time (ready g w.scenario w.lengths time m.node.dispatcher)
@@ -187,12 +219,14 @@ module _ (g : Graph) (w : World) (ms : List Member) (p : IsPlaying (play_of g w 
             (get_or-map (λ (m : Member). m.ends.items) ms a m [] l ∙ ap (λ (m : Member). m.ends.items) (here m))
             (ap (λ (d : Dispatcher). ends_of time d) d_is)
 
+        -- and its reports
         reports_then : get_or (cluster_of ms).reports a [] ++ reports_now g w (dispatcher_at (cluster_of ms) a) time
             ≡ m.reports.items ++ reports_of g w.scenario w.lengths time m.node.dispatcher
         reports_then = ap₂ (λ (xs ys : List (ℕ × Ended)). xs ++ ys)
             (get_or-map (λ (m : Member). m.reports.items) ms a m [] l ∙ ap (λ (m : Member). m.reports.items) (here m))
             (ap (λ (d : Dispatcher). reports_now g w d time) at_is)
 
+        -- there is room for the acts of the turn
         pub acts_fit : length (m.acts.items
             ++ acts_of_turn (ready g w.scenario w.lengths time m.node.dispatcher) time [] fs) ≤ vec_capacity m.acts
         acts_fit = omega (
@@ -205,9 +239,11 @@ module _ (g : Graph) (w : World) (ms : List Member) (p : IsPlaying (play_of g w 
               (omega (arith, l, length-map ms (λ (m : Member). m.acts.items))) ∙ acts_then),
         )
 
+        -- its table has each process of the node once
         own_length : length m.node.dispatcher.table.own ≡ length (processes_on g a)
         own_length = ap (λ (l : List Own). length l) own_is ∙ length-map (processes_on g a) (own_process g)
 
+        -- there is room for the ends of the turn
         pub ends_fit : length (m.ends.items ++ ends_of time (ready g w.scenario w.lengths time m.node.dispatcher))
             ≤ vec_capacity m.ends
         ends_fit = omega (
@@ -221,6 +257,7 @@ module _ (g : Graph) (w : World) (ms : List Member) (p : IsPlaying (play_of g w 
               (omega (arith, l, length-map ms (λ (m : Member). m.ends.items))) ∙ ends_then),
         )
 
+        -- there is room for the reports before the turn
         pub reports_fit : length (m.reports.items ++ reports_of g w.scenario w.lengths time m.node.dispatcher)
             ≤ vec_capacity m.reports
         reports_fit = omega (
@@ -234,7 +271,10 @@ module _ (g : Graph) (w : World) (ms : List Member) (p : IsPlaying (play_of g w 
               (omega (arith, l, length-map ms (λ (m : Member). m.reports.items))) ∙ reports_then),
         )
 
-        -- the members after the turn
+        -- The members after the turn.
+        -- n is the member after its turn: its dispatcher, acts, notes, ends and reports are those of the turn
+        -- (`node`, `acts`, `noted`, `ends`, `reports`); what it doesn't change is kept, and so are its capacities
+        -- (`kept`, `room`).
         module _ (n : Member)
             (node : n.node.dispatcher ≡ turn (ready g w.scenario w.lengths time m.node.dispatcher) time [] fs)
             (acts : n.acts.items ≡ m.acts.items
@@ -246,6 +286,7 @@ module _ (g : Graph) (w : World) (ms : List Member) (p : IsPlaying (play_of g w 
             (kept : (n.senders ≡ m.senders) × (n.slot ≡ m.slot) × (n.arrivals ≡ m.arrivals))
             (room : (vec_capacity n.acts ≡ vec_capacity m.acts) × (vec_capacity n.ends ≡ vec_capacity m.ends) ×
             (vec_capacity n.reports ≡ vec_capacity m.reports)) where
+          -- the state of the members with n is the state after the turn
           cluster_then : cluster_of (set ms a n) ≡ take_turn g w (cluster_of ms) a time
           cluster_then = λ i. record {
             nodes = (map-set (λ (m : Member). m.node.dispatcher) ms a n
@@ -258,18 +299,22 @@ module _ (g : Graph) (w : World) (ms : List Member) (p : IsPlaying (play_of g w 
                 ∙ ap (set (cluster_of ms).reports a) (reports ∙ sym reports_then)) i;
           }
 
+          -- n has the table of m
           table_then : n.node.dispatcher.table ≡ m.node.dispatcher.table
           table_then = ap (λ (d : Dispatcher). d.table) node ∙ table_finished m.node.dispatcher
               (map (λ (q : ℕ × Ended). q.1) (reports_of g w.scenario w.lengths time m.node.dispatcher))
 
+          -- so the tables are as before
           tables_then : tables_of (set ms a n) ≡ tables_of ms
           tables_then = map-set_same (λ (m : Member). m.node.dispatcher.table) ms a n m
               (table_then ∙ ap (λ (m : Member). m.node.dispatcher.table) (sym (here m)))
 
+          -- the play is then the one after the node is asked
           pub play_then : play_of g w (set ms a n) ≡ stepped (play_of g w ms) a
           play_then =
               λ i. record { graph = g; tables = tables_then i; world = w; cluster = (cluster_then ∙ sym step_is) i }
 
+          -- it is a play of valid tables still
           pub playing_then : IsPlaying (play_of g w (set ms a n))
           playing_then = subst IsPlaying (sym play_then)
               (record {
@@ -304,6 +349,7 @@ module _ (g : Graph) (w : World) (ms : List Member) (p : IsPlaying (play_of g w 
             reports = omega (arith, fit.reports, room.2, ap (λ (t : NodeTable). length t.own) table_then);
           }
 
+          -- each member still keeps what it should
           pub fits_then : AllFit g (set ms a n)
           fits_then i d h = elim (cases_eq i a) [
             | inl e ↦ subst (λ i. Fits g i (get_or (set ms a n) i d)) (sym e)
@@ -312,6 +358,7 @@ module _ (g : Graph) (w : World) (ms : List Member) (p : IsPlaying (play_of g w 
                 subst (Fits g i) (sym (get_or-set_other ms a i n d ne)) (fits i d (omega (arith, h, length-set ms a n)))
           ]
 
+          -- no member then hears more rows than before
           pub heard_then : (most : ℕ) → All (λ (m : Member). length m.node.dispatcher.table.hears ≤ most) ms →
               All (λ (m : Member). length m.node.dispatcher.table.hears ≤ most) (set ms a n)
           heard_then most h = All-set (λ (m : Member). length m.node.dispatcher.table.hears ≤ most) ms a n

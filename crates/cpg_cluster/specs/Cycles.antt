@@ -35,10 +35,12 @@ pub record IsCycle (g : Graph) (tables : List NodeTable) (time : ℕ) : Type 0 w
 abbrev pub least_cycle : Graph → List NodeTable → ℕ
 least_cycle g tables = div_ceil (max (max g.deadline (last_arrival tables)) 1) (cycle_step g) * cycle_step g
 
+-- it is such a time, and no other is less
 pub record IsLeastCycle (g : Graph) (tables : List NodeTable) (time : ℕ) : Type 0 where
   pub is : IsCycle g tables time
   pub least : (other : ℕ) → IsCycle g tables other → time ≤ other
 
+-- `least_cycle` is the least such time
 abbrev pub LeastCyclesAreLeast : Type 0
 LeastCyclesAreLeast = (g : Graph) (tables : List NodeTable) → IsLeastCycle g tables (least_cycle g tables)
 
@@ -69,6 +71,7 @@ pub record HasSlotsAt (g : Graph) (node begin : ℕ) : Type 0 where
   pub later : (time : ℕ) → IsOccurrence g node time → IsOccurrence g node (begin + time)
   pub earlier : (time : ℕ) → IsOccurrence g node (begin + time) → IsOccurrence g node time
 
+-- the slots of a node have the same places in every cycle, if the node has a slot
 abbrev pub CyclesHaveTheSameSlots : Type 0
 CyclesHaveTheSameSlots =
     (g : Graph) (tables : List NodeTable) (time cycle node : ℕ) → WellFormed g → IsCycle g tables time →

@@ -32,6 +32,7 @@ chosen g w c a Took rest = record { cluster = step g w c a; waits = 0; took = tr
 chosen g w c a (Waits b) rest = waited rest
 chosen g w c a Done rest = rest
 
+-- the choice among these nodes, in their order
 abbrev pub choose : Graph → World → Cluster → List ℕ → Choice
 choose g w c [] = record { cluster = c; waits = 0; took = false }
 choose g w c (a ∷ rest) = chosen g w c a (answer g c a) (choose g w c rest)

@@ -21,11 +21,11 @@ abbrev pub waits_until : ℕ → Option ℕ → ℕ → ℕ → Bool
 waits_until time comes slot arrival =
     nat_le arrival time && list_any (λ u. nat_le (u + slot) arrival) (option_to_list comes)
 
--- whether a column's frame may
+-- whether the frame of a column may still be sent and arrives by this time
 abbrev pub waits_for : ℕ → Option ℕ → ℕ → Column → Bool
 waits_for time comes slot col = waits_until time comes slot col.time
 
--- whether a row of the sender has such a column
+-- whether a row is of this sender and has such a column
 abbrev pub waits_by : ℕ → ℕ → Option ℕ → ℕ → Row → ℕ → Bool
 waits_by other time comes slot row sender = (sender == other) && list_any (waits_for time comes slot) row.columns
 
@@ -53,6 +53,7 @@ frames_by g values members time rows senders =
 abbrev pub times_by : ℕ → Row → ℕ → List ℕ
 times_by other row sender = cond (sender == other) (map {A = Column} {B = ℕ} (λ c. c.time) row.columns) []
 
+-- the arrival times of the columns of one sender in all rows
 abbrev pub arrival_times : ℕ → List Row → List ℕ → List ℕ
 arrival_times other rows senders = flat_map (λ ts. ts) (zip_with (times_by other) rows senders)
 

@@ -25,6 +25,7 @@ playing_of n = record {
   cluster = cluster_of n.members.items;
 }
 
+-- it is a play of valid tables of few nodes, each of which keeps what it should, and the frames of a turn have room
 pub record IsKept (n : Inside) : Type 0 where
   pub playing : IsPlaying (playing_of n)
   pub few : length n.members.items ≤ 16

@@ -44,10 +44,11 @@ AllFinish d (e ∷ es) = MayFinish d e.0 e.1 × AllFinish (finished d e.1) es
 abbrev pub all_finished : Dispatcher → List (ℕ × Ended) → Dispatcher
 all_finished d es = fold finished d (map {A = ℕ × Ended} {B = Ended} (λ e. e.1) es)
 
--- the reports that a node takes before its turn at the time, and the planned ends of that turn
+-- the reports that a node takes before its turn at the time
 abbrev pub reports_of : Graph → Scenario → List ℕ → ℕ → Dispatcher → List (ℕ × Ended)
 reports_of g s lengths time d = reports_by g (record { scenario = s; lengths = lengths }) time d.table.own d.running
 
+-- the planned ends of the dispatcher at the time
 abbrev pub ends_of : ℕ → Dispatcher → List (ℕ × Ended)
 ends_of time d = ends_by time d.table.own d.running
 

@@ -1,4 +1,4 @@
--- A play that came to its end.
+-- What a play has done when it came to its end.
 use Rattle.std.specs.Prelude.{ℕ, ◌<◌, List, [], get_or, length}
 use Rattle.std.specs.List.{flat_map}
 use Rattle.cpg_base.specs.Graph.{Graph}

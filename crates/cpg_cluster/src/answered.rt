@@ -5,11 +5,11 @@
 pub enum AskStep {
     /// The node took the turn of its next instant.
     Took,
-    /// It would go past the arrival of a frame that another node may still send; nothing changed.
+    /// Its turn would go past the arrival of a frame that another node may still send. Nothing changed.
     Waits {
         /// The least node that it waits on.
         on: u32,
     },
-    /// It has no next instant; nothing changed.
+    /// It has no next instant. Nothing changed.
     Done,
 }

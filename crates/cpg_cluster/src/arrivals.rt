@@ -1,4 +1,4 @@
-//! When frames arrive that a node hears, by the node that sends them.
+//! When the frames that a node hears arrive, by the node that sends them.
 ghost use Rattle.std.specs.Prelude.{◌≡◌, ◌<◌, ◌≤◌, ◌++◌, IfOk, IsPermutation, OnOk, ℕ, get_or, length};
 ghost use Rattle.std.specs.List.Sorted.{IsNonDecreasingBy};
 ghost use Rattle.cpg_cluster.specs.Keeping.{arrival_times, AreIndexed};
@@ -8,7 +8,7 @@ use cpg_node::add_times;
 use cpg_table::Row;
 use std::alloc::Global;
 
-/// Adds the times of the rows of a sender.
+/// Adds the arrival times of the rows of a sender.
 fn add_times_of(
     times: &mut Vec<u64>,
     rows: &[Row],

@@ -53,7 +53,8 @@ impl Model for Cluster {
     ghost invariant = { IsKept };
 }
 
-/// Adds the frames of the acts of an item of a sender, if there is one. The sender has noted the one act of the item.
+/// Adds the frames of a sender's acts of an item, if there is such a sender. The sender has noted its one act of the
+/// item.
 fn add_sender_frames(
     members: &[Member],
     sender: u32,
@@ -101,7 +102,8 @@ fn gather_frames(
 }
 
 impl Cluster {
-    /// All nodes before their first turns, each execution as long as planned. It takes all room that a play needs.
+    /// All nodes before their first turns, with each execution as long as planned. Reserves all the room that a play
+    /// needs.
     pub fn new(
         alloc: Global,
         admitted: &Admitted,
@@ -122,8 +124,8 @@ impl Cluster {
         Ok(cluster)
     }
 
-    /// All nodes before their first turns, each execution with its length, which is at most the planned one. It takes all
-    /// room that a play needs.
+    /// All nodes before their first turns. Each execution has its given length, which is at most the planned one.
+    /// Reserves all the room that a play needs.
     pub fn with_lengths(
         alloc: Global,
         admitted: &Admitted,
@@ -168,7 +170,7 @@ impl Cluster {
         self.members[node as usize].acts.as_slice()
     }
 
-    /// The planned ends that a node has reached so far, each with its time, in the order of reaching.
+    /// The planned ends that a node has reached so far, each with its time, in the order in which it reached them.
     pub fn ends(&self, node: u32) -> &[(u64, Ended)]
         requires { node < length self.now.graph.nodes }
         ensures { result.now ≡ get_or self.now.cluster.ends node [] }
@@ -176,7 +178,7 @@ impl Cluster {
         self.members[node as usize].ends.as_slice()
     }
 
-    /// The actual ends that a node has been told so far, each with its time, in the order of telling.
+    /// The actual ends that a node has been told so far, each with its time, in the order in which it was told.
     pub fn reports(&self, node: u32) -> &[(u64, Ended)]
         requires { node < length self.now.graph.nodes }
         ensures { result.now ≡ get_or self.now.cluster.reports node [] }
@@ -192,8 +194,8 @@ impl Cluster {
         &self.lengths
     }
 
-    /// Asks a node. It takes the turn of its next instant, unless that would go past the arrival of a frame that another
-    /// node may still send, or it has none; then nothing changes.
+    /// Asks a node. It takes the turn of its next instant, unless it has none, or that would go past the arrival of a
+    /// frame that another node may still send. In these two cases nothing changes.
     pub fn step(&mut self, node: u32) -> AskStep
         requires { node < length self.old.graph.nodes }
         ensures answer { answer_of result ≡ answer self.old.graph self.old.cluster node }
@@ -203,12 +205,15 @@ impl Cluster {
         ensures nearer { answer self.old.graph self.old.cluster node ≡ Took → remaining self.new.cluster < remaining self.old.cluster }
     {
         let member = &self.members[node as usize];
+        // the node has no next instant
         let Some(time) = member.node.next() else {
             return AskStep::Done;
         };
+        // another node may still send a frame that arrives by then
         if let Some(on) = waited_on(self.members.as_slice(), member, time) {
             return AskStep::Waits { on };
         }
+        // the frames of the turn are known: it is taken
         gather_frames(
             &self.problem,
             &self.scenario,
@@ -230,7 +235,7 @@ impl Cluster {
         AskStep::Took
     }
 
-    /// Asks the nodes from one on, round the circle, until one takes its turn; answers how many of them waited.
+    /// Asks the nodes from the given one on, round the circle, until one takes its turn. Returns how many of them waited.
     fn choose(&mut self, first: u32) -> u64
         requires { first < length self.old.graph.nodes }
         ensures state { self.new ≡ record self.old {
@@ -244,6 +249,7 @@ impl Cluster {
         let nodes = self.members.len() as u32;
         let mut waits: u64 = 0;
         let mut asked: u32 = 0;
+        // each node once at most, from `first` on round the circle
         while asked < nodes {
             let node = (first + asked) % nodes;
             match self.step(node) {
@@ -257,7 +263,7 @@ impl Cluster {
     }
 
     /// Asks nodes until every node is done. Each choice begins with a node that comes from the next of the numbers that
-    /// follow this one, and goes on round the circle until one takes its turn. Answers how often a node waited.
+    /// follow this one, and goes on round the circle until one takes its turn. Returns how often a node waited.
     pub fn drive(&mut self, number: u64) -> u64
         ensures driven { IsDriven self.old.graph self.old.world number self.old.cluster self.new.cluster result }
         ensures same { self.new ≡ record self.old { cluster = self.new.cluster } }
@@ -267,6 +273,7 @@ impl Cluster {
         let mut drawn = number;
         let mut waits: u64 = 0;
         while is_any_left(self.members.as_slice()) {
+            // the high bits of the number choose the node that is asked first
             drawn = next_number(drawn);
             let first = (drawn >> 33) % nodes;
             waits += self.choose(first as u32);

@@ -24,9 +24,9 @@ use std::alloc::Global;
 pub struct Member {
     /// The dispatcher.
     pub node: Node,
-    /// Who sends what it hears, by hear row.
+    /// The sender of each hear row.
     pub senders: Vec<u32>,
-    /// When frames arrive that it hears, in order, by the node that sends them.
+    /// When the frames that it hears arrive, in order, by the node that sends them.
     pub arrivals: Vec<Vec<u64>>,
     /// How long its slot lasts, in time units.
     pub slot: u64,
@@ -40,7 +40,7 @@ pub struct Member {
     pub reports: Vec<(u64, Ended)>,
 }
 
-/// A node before its first turn, with all room for a play.
+/// A node before its first turn, with all the room that it needs for a play.
 pub fn open_member(
     alloc: Global,
     problem: &Problem,
@@ -74,7 +74,7 @@ pub fn open_member(
     })
 }
 
-/// A node notes what is over by its next instant, and takes its turn with these frames.
+/// A node takes the reports of the executions that are over by its next instant, and then its turn with these frames.
 pub fn take_turn(
     problem: &Problem,
     scenario: &Scenario,
@@ -106,6 +106,7 @@ pub fn take_turn(
     ensures room { (vec_capacity member.new.acts ≡ vec_capacity member.old.acts) ×
         (vec_capacity member.new.ends ≡ vec_capacity member.old.ends) × (vec_capacity member.new.reports ≡ vec_capacity member.old.reports) }
 {
+    // the reports from here on are those of this turn
     let first = member.reports.len();
     let own = member.node.table().own();
     let running = member.node.executions();
@@ -121,6 +122,7 @@ pub fn take_turn(
     finish_all(&mut member.node, &member.reports[first..]);
     let own = member.node.table().own();
     let running = member.node.executions();
+    // the executions as they are after the reports
     gather_ends(own, running, time, &mut member.ends);
     member.node.turn(&[], frames);
     append_acts(&mut member.acts, member.node.acts());
@@ -145,7 +147,7 @@ pub fn open_members(
     Ok(members)
 }
 
-/// How many rows a node hears at most.
+/// The greatest number of hear rows of any node.
 pub fn most_heard(members: &[Member]) -> usize
     ensures { All (λ m. length m.node.dispatcher.table.hears ≤ result) members.now }
 {

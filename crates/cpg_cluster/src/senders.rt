@@ -1,4 +1,4 @@
-//! Who sends what, and with which value.
+//! Which node sends an item, and with which value.
 ghost use Rattle.std.specs.Prelude.{◌≡◌, ◌<◌, ◌&&◌, IfOk, All, false, get_or, is_some, map, unwrap_or};
 ghost use Rattle.cpg_base.specs.Graph.{home, item_at, item_count};
 ghost use Rattle.cpg_base.specs.Scenario.{IsScenario};
@@ -8,7 +8,7 @@ use cpg_base::{Item, OutOfMemory, Problem, Scenario};
 use cpg_table::Row;
 use std::alloc::Global;
 
-/// The senders of rows, row by row.
+/// The sender of each row.
 pub fn senders_of(alloc: Global, problem: &Problem, rows: &[Row]) -> Result<Vec<u32>, OutOfMemory>
     requires { All (λ row. row.item < item_count problem.now) rows.now }
     ensures { IfOk result (λ senders. senders.items ≡ map (λ row. home problem.now row.item) rows.now) }

@@ -1,4 +1,4 @@
-//! What a node is told in a turn, and what it tells.
+//! The frames and reports that a node takes in a turn, and what it does.
 ghost use Rattle.std.specs.Prelude.{◌≡◌, ◌≤◌, ◌<◌, ◌+◌, ◌++◌, ◌∷◌, [], ◌==◌, ◌&&◌, ℕ, All, None, fold, get_or, nat_le, option_to_list, length, map};
 ghost use Rattle.std.specs.Vec.{vec_len, vec_capacity};
 ghost use Rattle.cpg_base.specs.Scenario.{IsScenario};
@@ -100,11 +100,14 @@ fn report_of(
     requires lengths { length lengths.now ≡ process_count problem.now }
     ensures { option_to_list result ≡ report_of problem.now (record { scenario = scenario.now; lengths = lengths.now }) time own.now running }
 {
+    // nothing of the process runs
     let running = running?;
+    // the report came at an earlier turn
     if running.report.is_some() {
         return None;
     }
     let length = lengths.of(own.process);
+    // the execution goes on past the time
     if !is_over(running.start, length, time) {
         return None;
     }
@@ -157,6 +160,7 @@ pub fn gather_reports(
 fn planned_end(own: &Own, running: Option<Running>, time: u64) -> Option<Ended>
     ensures { option_to_list result ≡ due_reports_of time own.now running }
 {
+    // without an execution, or without its report, nothing ends
     let running = running?;
     let ended = running.report?;
     let duration = own
@@ -165,6 +169,7 @@ fn planned_end(own: &Own, running: Option<Running>, time: u64) -> Option<Ended>
         .get(ended.faults as usize)
         .copied()
         .unwrap_or(0);
+    // an execution that starts later doesn't end now
     if time < running.start {
         return None;
     }
@@ -204,7 +209,7 @@ fn add_end(time: u64, end: Option<Ended>, ends: &mut Vec<(u64, Ended)>)
     }
 }
 
-/// The node notes executions that are over, one after another.
+/// Gives the node the reports of executions that are over, one after another.
 pub fn finish_all(node: &mut Node, ended: &[(u64, Ended)])
     requires { AllFinish node.old.dispatcher ended.now }
     ensures { node.new ≡ record node.old { dispatcher = all_finished node.old.dispatcher ended.now } }
@@ -220,6 +225,7 @@ fn note_act(noted: &mut Vec<Option<Act>>, act: Act)
     ensures { noted.new.items ≡ note noted.old.items act }
 {
     let item = act.item as usize;
+    // an item that isn't there has no place for its note
     if item < noted.len() {
         noted[item] = Some(act);
     }

@@ -1,4 +1,4 @@
-//! Whether a node may not take its next instant before another has gone on.
+//! Whether a node has to wait for another node before it takes its next instant.
 ghost use Rattle.std.specs.Prelude.{◌≡◌, ◌<◌, ◌≤◌, ◌+◌, length, map, filter, get_or, nat_le, option_to_list};
 ghost use Rattle.std.specs.List.{list_any};
 ghost use Rattle.cpg_base.specs.Numbers.{numbers_below};
@@ -9,7 +9,7 @@ ghost use Rattle.cpg_cluster.specs.Keeping.{AreIndexed, waits_until, waits_betwe
 use crate::arrivals::first_after;
 use crate::member::Member;
 
-/// Whether a node with this next instant may still send what arrives at a time.
+/// Whether a node with this next instant may still send a frame that arrives at a time.
 fn may_still_send(next: Option<u64>, slot: u64, arrival: u64) -> bool
     ensures { result ≡ list_any (λ u. nat_le (u + slot) arrival) (option_to_list next) }
 {
@@ -19,18 +19,22 @@ fn may_still_send(next: Option<u64>, slot: u64, arrival: u64) -> bool
     }
 }
 
-/// Whether a sender may still send what arrives by the time: then so it may what arrives last.
+/// Whether a sender may still send one of the frames that arrive by the time. If it may, it may still send the last of
+/// them.
 fn waits_on(times: &[u64], time: u64, next: Option<u64>, slot: u64) -> bool
     requires { IsNonDecreasingBy (λ t. t) times.now }
     ensures { result ≡ list_any (waits_until time next slot) times.now }
 {
+    // a frame that it sends now arrives after the time
     if !may_still_send(next, slot, time) {
         return false;
     }
     let after = first_after(times, time);
+    // no frame arrives by the time
     if after == 0 {
         return false;
     }
+    // the last frame that arrives by the time stands for all of them
     let arrival = times[after - 1];
     may_still_send(next, slot, arrival)
 }

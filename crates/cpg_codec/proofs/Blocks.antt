@@ -9,11 +9,12 @@ use Rattle.cpg_base.specs.Numbers.{numbers_below}
 use Rattle.cpg_cube.specs.declared.literal.Literal.{Literal}
 use Rattle.cpg_codec.specs.Spelling.{literal_bytes}
 
+-- a list of known length is the list of its elements by number
 pub elements : {X : Type 0} (xs : List X) (n : ℕ) (d : X) → length xs ≡ n →
     xs ≡ map (λ k. get_or xs k d) (numbers_below n)
 elements xs n d e = fill_by_all (λ k. get_or xs k d) xs n d e (λ k l. refl)
 
--- a block moved from what is left to what is there
+-- a block is moved from the elements that are left to those that are there
 pub block_moved : {X A : Type 0} (f : X → List A) (all old new : List A) (left rest : List X) (n : ℕ) →
     all ≡ old ++ flat_map f left → new ≡ old ++ flat_map f (take n left) →
     rest ≡ drop n left →
@@ -24,14 +25,16 @@ block_moved f all old new left rest n e is r =
     ∙ sym (append_assoc old (flat_map f (take n left)) (flat_map f (drop n left)))
     ∙ sym (ap (λ bs. bs ++ flat_map f rest) is ∙ ap (λ ls. (old ++ flat_map f (take n left)) ++ flat_map f ls) r)
 
--- a piece that was added
+-- if the call succeeded, the piece was added at the end
 pub appended : (old new piece : List ℕ) (b : Bool) → new ≡ cond b (old ++ piece) old → b ≡ true → new ≡ old ++ piece
 appended old new piece b e on = e ∙ ap (λ c. cond c (old ++ piece) old) on
 
+-- eight literals, taken by their numbers, have the same bytes as their list
 pub eight_bytes : (ls : List Literal) (d : Literal) → length ls ≡ 8 →
     flat_map literal_bytes (map (λ k. get_or ls k d) (numbers_below 8)) ≡ flat_map literal_bytes ls
 eight_bytes ls d e = ap (flat_map literal_bytes) (sym (elements ls 8 d e))
 
+-- four literals, taken by their numbers, have the same bytes as their list
 pub four_bytes : (ls : List Literal) (d : Literal) → length ls ≡ 4 →
     flat_map literal_bytes (map (λ k. get_or ls k d) (numbers_below 4)) ≡ flat_map literal_bytes ls
 four_bytes ls d e = ap (flat_map literal_bytes) (sym (elements ls 4 d e))

@@ -30,6 +30,7 @@ abbrev pub IsRange : Bool → VariableSpace → ℕ → ℕ → Type 0
 IsRange true s low high = (low ≤ high) × (high ≤ s.faults) × (high ≡ s.faults → 0 < low)
 IsRange false s low high = (low ≡ high) × (high ≤ 1)
 
+-- a literal on a variable of the space, with a lawful range for it
 pub record IsLiteral (s : VariableSpace) (l : Literal) : Type 0 where
   pub allowed : is_variable s l.variable ≡ true
   pub range : IsRange (ltb l.variable 128) s l.low l.high
@@ -39,11 +40,13 @@ abbrev pub AreLiterals : VariableSpace → ℕ → List Literal → Type 0
 AreLiterals s least [] = Unit {0}
 AreLiterals s least (l ∷ ls) = (least ≤ l.variable) × IsLiteral s l × AreLiterals s (suc l.variable) ls
 
+-- a space has at most 128 fault variables
 pub few_fault : (s : VariableSpace) → IsSpace s → fault_end s ≤ 128
 few_fault s i = let a = limit_most s.faults s.processes in omega (arith, a, i.processes)
 
 -- ---- variables
 
+-- an allowed variable is a fault count or a value
 is_variable_cases : (s : VariableSpace) (v : ℕ) → is_variable s v ≡ true →
     (v < fault_end s) ⊎ ((128 ≤ v) × (v < 128 + s.conditions))
 is_variable_cases s v h = elim (or_cases (ltb v (fault_end s)) (leb 128 v && ltb v (128 + s.conditions)) h) [
@@ -52,23 +55,27 @@ is_variable_cases s v h = elim (or_cases (ltb v (fault_end s)) (leb 128 v && ltb
       inr (leb-true 128 v p.0, ltb-true v (128 + s.conditions) p.1)
 ]
 
+-- a variable below the end of the fault counts is allowed
 is_fault_variable : (s : VariableSpace) (v : ℕ) → v < fault_end s → is_variable s v ≡ true
 is_fault_variable s v h =
     or_left (ltb v (fault_end s)) (leb 128 v && ltb v (128 + s.conditions)) (lt-ltb v (fault_end s) h)
 
+-- a variable of a condition's value is allowed
 is_value_variable : (s : VariableSpace) (v : ℕ) → 128 ≤ v → v < 128 + s.conditions → is_variable s v ≡ true
 is_value_variable s v a b = or_right (ltb v (fault_end s)) (leb 128 v && ltb v (128 + s.conditions))
     (and_from (leb 128 v) (ltb v (128 + s.conditions)) (le-leb 128 v a) (lt-ltb v (128 + s.conditions) b))
 
+-- the arithmetic of `room_step` for a count of faults (e ends the counts, c is how many conditions there are)
 step_fault : (e c least v : ℕ) → e ≤ 128 → least ≤ v → v < e →
     suc ((e - suc v) + ((128 + c) - max 128 (suc v))) ≤ (e - least) + ((128 + c) - max 128 least)
 step_fault e c least v few le h = omega arith
 
+-- and for a value of a condition
 step_value : (e c least v : ℕ) → e ≤ 128 → least ≤ v → 128 ≤ v → v < 128 + c →
     suc ((e - suc v) + ((128 + c) - max 128 (suc v))) ≤ (e - least) + ((128 + c) - max 128 least)
 step_value e c least v few le a b = omega arith
 
--- each allowed variable takes room
+-- after an allowed variable there is room for one literal less
 pub room_step : (s : VariableSpace) (least v : ℕ) → fault_end s ≤ 128 → least ≤ v → is_variable s v ≡ true →
     suc (variable_count_from s (suc v)) ≤ variable_count_from s least
 room_step s least v few le h = elim (is_variable_cases s v h) [
@@ -76,19 +83,22 @@ room_step s least v few le h = elim (is_variable_cases s v h) [
   | inr a ↦ step_value (fault_end s) s.conditions least v few le a.0 a.1
 ]
 
+-- the arithmetic of `room_some` if the least variable is a count of faults
 some_fault : (e c least : ℕ) → e ≤ 128 → least < e →
     (e - least) + ((128 + c) - max 128 least) ≤ suc ((e - suc least) + ((128 + c) - max 128 (suc least)))
 some_fault e c least few h = omega arith
 
+-- and if it is past all counts
 some_value : (e c least : ℕ) → e ≤ 128 → e ≤ least →
     (e - least) + ((128 + c) - max 128 least)
     ≤ suc ((e - suc (max 128 least)) + ((128 + c) - max 128 (suc (max 128 least))))
 some_value e c least few h = omega arith
 
+-- past all counts, there is room only if a value is left
 some_there : (e c least : ℕ) → e ≤ least → 0 < (e - least) + ((128 + c) - max 128 least) → max 128 least < 128 + c
 some_there e c least h some = omega arith
 
--- if there is room, there is a variable that takes no more than its own
+-- if there is room for a literal, there is an allowed variable that leaves room for all but one
 room_some : (s : VariableSpace) (least : ℕ) → fault_end s ≤ 128 → 0 < variable_count_from s least →
     (v : ℕ) × (least ≤ v) × (is_variable s v ≡ true) ×
     (variable_count_from s least ≤ suc (variable_count_from s (suc v)))
@@ -102,6 +112,7 @@ room_some s least few some = elim (cases_lt least (fault_end s)) [
   )
 ]
 
+-- lawful literals are no more than the variables from the least one on
 pub literals_room : (s : VariableSpace) (least : ℕ) (ls : List Literal) → fault_end s ≤ 128 → AreLiterals s least ls →
     length ls ≤ variable_count_from s least
 literals_room s least [] few h = omega arith
@@ -112,35 +123,43 @@ literals_room s least (l ∷ ls) few h =
 
 -- ---- literals
 
+-- a fault variable is allowed only if there may be faults
 pub fault_some : (s : VariableSpace) (v : ℕ) → is_variable s v ≡ true → ltb v 128 ≡ true → 0 < s.faults
 fault_some s v h lt = elim (is_variable_cases s v h) [
   | inl a ↦ limit_some s.faults s.processes (suc v) a (omega arith)
   | inr a ↦ absurd (let b : v < 128 = ltb-true v 128 lt in omega (arith, a.0))
 ]
 
+-- the greatest low that the reader takes: the bound on faults k for a count, and 1 for a value
 abbrev low_top : Bool → ℕ → ℕ
 low_top t k = cond t k 1
 
+-- the greatest high: for a count k, or k - 1 from low 0 on, as the range isn't whole; for a value the low itself
 abbrev high_top : Bool → ℕ → ℕ → ℕ
 high_top t k low = cond t (cond (eqb low 0) (k - 1) k) low
 
+-- a greatest low is a byte
 low_small : (t : Bool) (k : ℕ) → k ≤ 8 → low_top t k < 256
 low_small true k h = omega arith
 low_small false k h = omega arith
 
+-- from a positive low on, the greatest high is k
 top_suc : (k low : ℕ) → high_top true k (suc low) ≡ k
 top_suc k low = let e : eqb (suc low) 0 ≡ false = ne_eqb (suc low) 0 (λ q. omega arith) in rw e refl
 
+-- a low that passes leaves a high
 high_there : (t : Bool) (k low : ℕ) → low ≤ low_top t k → low ≤ high_top t k low
 high_there true k zero h = omega arith
 high_there true k (suc low) h = rw top_suc h
 high_there false k low h = omega arith
 
+-- a greatest high is a byte
 high_small : (t : Bool) (k low : ℕ) → k ≤ 8 → low ≤ low_top t k → high_top t k low < 256
 high_small true k zero le h = omega arith
 high_small true k (suc low) le h = rw top_suc (omega arith)
 high_small false k low le h = omega arith
 
+-- a range that passes the tests of the reader is a lawful range
 pub range_to : (t : Bool) (s : VariableSpace) (low high : ℕ) → (t ≡ true → 0 < s.faults) → low ≤ low_top t s.faults →
     low ≤ high → high ≤ high_top t s.faults low →
     IsRange t s low high
@@ -148,9 +167,11 @@ range_to true s zero high some a b c = let k = some refl in (b, omega arith, λ 
 range_to true s (suc low) high some a b c = (b, subst (λ (x : ℕ). high ≤ x) (top_suc s.faults low) c, λ e. omega arith)
 range_to false s low high some a b c = (omega arith, omega arith)
 
+-- a lawful range passes the tests of the reader
 range_from : (t : Bool) (s : VariableSpace) (low high : ℕ) → IsRange t s low high →
     (low ≤ low_top t s.faults) × (low ≤ high) × (high ≤ high_top t s.faults low)
 range_from true s zero high r = (omega arith, r.0, not_whole s.faults high r.1 r.2) where
+  -- a range from 0 on that isn't whole ends below k
   not_whole : (k h : ℕ) → h ≤ k → (h ≡ k → 0 < 0) → h ≤ k - 1
   not_whole k h le e = elim (cases_lt h k) [
     | inl lt ↦ omega arith
@@ -159,18 +180,20 @@ range_from true s zero high r = (omega arith, r.0, not_whole s.faults high r.1 r
 range_from true s (suc low) high r = (omega (arith, r.0, r.1), r.0, rw top_suc r.1)
 range_from false s low high r = (omega (arith, r.0, r.1), omega (arith, r.0), omega (arith, r.0))
 
--- a literal with `left` more behind it
+-- a literal with `left` more after it
 pub record FitsLiteral (s : VariableSpace) (left least : ℕ) (l : Literal) : Type 0 where
   pub rises : least ≤ l.variable
   pub lawful : IsLiteral s l
   pub leaves : left ≤ variable_count_from s (suc l.variable)
 
+-- an allowed variable from the least on passes, if there is room for the literals after it
 may_from : (s : VariableSpace) (least left v : ℕ) → least ≤ v → is_variable s v ≡ true →
     left ≤ variable_count_from s (suc v) →
     variable_may s least left v ≡ true
 may_from s least left v a b c = and_from (leb least v && is_variable s v) (leb left (variable_count_from s (suc v)))
     (and_from (leb least v) (is_variable s v) (le-leb least v a) b) (le-leb left (variable_count_from s (suc v)) c)
 
+-- a variable that passes is allowed, is no lower than the least, and leaves room for the literals after it
 pub may_to : (s : VariableSpace) (least left v : ℕ) → variable_may s least left v ≡ true →
     (least ≤ v) × (is_variable s v ≡ true) × (left ≤ variable_count_from s (suc v))
 may_to s least left v h =
@@ -178,6 +201,8 @@ may_to s least left v h =
     let q = and_parts (leb least v) (is_variable s v) p.0 in
     (leb-true least v q.0, q.1, leb-true left (variable_count_from s (suc v)) p.1)
 
+-- The reader of a literal reads exactly the bytes of a lawful literal with room for the ones after it.
+-- The variable is read first, then the low with a bound from the variable, then the high with a bound from both.
 pub literal_reads : (s : VariableSpace) (left least : ℕ) → IsSpace s → left < variable_count_from s least →
     Reads (FitsLiteral s left least) literal_bytes (read_literal s left least)
 unfolding read_literal
@@ -210,17 +235,23 @@ literal_reads s left least i there =
 
 -- ---- columns
 
+-- the first label of a countdown is how many come after it
 down_head : (l : ℕ) (ls : List ℕ) → l ∷ ls ≡ down (suc (length ls)) → (l ≡ length ls) × (ls ≡ down (length ls))
 unfolding down
 down_head l ls e = (cc, cc)
 
+-- a countdown is that of its own length
 down_self : (n : ℕ) → down n ≡ down (length (down n))
 down_self n = ap down (sym (down_is n))
 
+-- this many lawful literals
 pub record LiteralsFor (s : VariableSpace) (count least : ℕ) (ls : List Literal) : Type 0 where
   pub count_is : length ls ≡ count
   pub lawful : AreLiterals s least ls
 
+-- The reader of literals reads exactly the bytes of that many lawful literals.
+-- `each_reads` walks through the literals with the least variable that the next one may have; there is always room
+-- for those that are still to come.
 pub literals_reads : (s : VariableSpace) (count : ℕ) → IsSpace s → count ≤ variable_count_from s 0 →
     Reads (LiteralsFor s count 0) (flat_map literal_bytes) (read_literals s count)
 unfolding read_literals
@@ -249,10 +280,12 @@ literals_reads s count i le =
 
 -- ---- the same in the words of tables
 
+-- if there may be faults, each process has a count of faults
 limit_up : (k p v : ℕ) → 0 < k → v < p → v < limit k p
 limit_up zero p v some lt = absurd (omega arith)
 limit_up (suc k) p v some lt = lt
 
+-- a literal that the reader takes is lawful
 literal_to : (s : VariableSpace) (l : Literal) → IsSpace s → IsLiteral s l → IsLawfulLiteral s l
 literal_to s l i h = elim (is_variable_cases s l.variable h.allowed) [
   | inl a ↦
@@ -267,10 +300,12 @@ literal_to s l i h = elim (is_variable_cases s l.variable h.allowed) [
       inr (record { value = a.0; known = a.1; one = r.0; within = r.1 })
 ]
 
+-- a range that isn't whole leaves room for a fault
 some_faults : (k low high : ℕ) → low ≤ high → high ≤ k → (high ≡ k → 0 < low) → 0 < k
 some_faults zero low high a b c = let h : 0 < low = c (omega arith) in absurd (omega arith)
 some_faults (suc k) low high a b c = omega arith
 
+-- a lawful literal is one that the reader takes
 literal_from : (s : VariableSpace) (l : Literal) → IsSpace s → IsLawfulLiteral s l → IsLiteral s l
 literal_from s l i (inl h) = record {
   allowed = is_fault_variable s l.variable
@@ -283,6 +318,7 @@ literal_from s l i (inr h) = record {
   range = subst (λ (t : Bool). IsRange t s l.low l.high) (sym (le-ltb l.variable 128 h.value)) (h.one, h.within);
 }
 
+-- literals from the least variable on are lawful, and their variables rise
 literals_to : (s : VariableSpace) (least : ℕ) (ls : List Literal) → IsSpace s → AreLiterals s least ls →
     AllByRecursion (IsLawfulLiteral s) ls × (rises_from least ls ≡ true)
 literals_to s least [] i h = (tt, refl)
@@ -294,6 +330,7 @@ literals_to s least (l ∷ ls) i h =
           (subst (λ (n : ℕ). rises_from n ls ≡ true) e r.1),
     )
 
+-- lawful literals with rising variables are literals from the least variable on
 literals_from : (s : VariableSpace) (least : ℕ) (ls : List Literal) → IsSpace s →
     AllByRecursion (IsLawfulLiteral s) ls → rises_from least ls ≡ true →
     AreLiterals s least ls
@@ -306,16 +343,20 @@ literals_from s least (l ∷ ls) i h r =
       literals_from s (suc l.variable) ls i h.1 (subst (λ (n : ℕ). rises_from n ls ≡ true) e p.1),
     )
 
+-- the literals of a lawful column are lawful, and their variables rise
 pub column_literals : (s : VariableSpace) (c : Column) → IsSpace s → IsLawfulColumn s c → AreLiterals s 0 c.cube
 column_literals s c i h = literals_from s 0 c.cube i (recursion_from_All (IsLawfulLiteral s) c.cube h.literals)
     (rises_by 0 c.cube h.rising (λ l q. omega arith))
 
+-- three pieces, one behind the other, however they are grouped
 regroup_3 : (a b c : List ℕ) → a ++ (b ++ (c ++ [])) ≡ a ++ b ++ c
 regroup_3 a b c = simp (append_assoc, append-nil)
 
+-- a space has fewer than 256 variables
 room_small : (e c : ℕ) → e ≤ 128 → c ≤ 32 → (e - 0) + ((128 + c) - max 128 0) < 256
 room_small e c a b = omega arith
 
+-- the reader of a column's front reads exactly the bytes of a time and a count of literals
 pub front_reads : (s : VariableSpace) → IsSpace s →
     Reads (λ (f : ℕ × ℕ). (f.0 < 2 ^ 60) × (f.1 ≤ variable_count_from s 0))
     (λ (f : ℕ × ℕ). to_be_bytes w64 f.0 ++ byte f.1) (read_front s)
@@ -332,6 +373,7 @@ front_reads s i =
     (λ f h. (h.0, ((omega arith, h.1), refl)))
     (λ f h. refl)
 
+-- the reader of a column reads exactly the bytes of a lawful column
 pub column_reads : (s : VariableSpace) → IsSpace s → Reads (IsLawfulColumn s) column_bytes (read_column s)
 unfolding read_column
 column_reads s i =
@@ -350,7 +392,7 @@ column_reads s i =
     ((h.time, literals_room s 0 c.cube (few_fault s i) l), (record { count_is = refl; lawful = l }, refl)))
     (λ c h. regroup_3 (to_be_bytes w64 c.time) (byte (length c.cube)) (flat_map literal_bytes c.cube))
 
--- literals that were read rise
+-- the variables of literals that were read rise
 pub literals_rise : (s : VariableSpace) (count : ℕ) (bytes : List ℕ) (ls : List Literal) (rest : List ℕ) → IsSpace s →
     count ≤ variable_count_from s 0 → read_literals s count bytes ≡ Ok (ls, rest) → IsRising ls
 literals_rise s count bytes ls rest i le e =

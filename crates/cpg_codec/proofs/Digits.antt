@@ -13,6 +13,7 @@ use Rattle.cpg_codec.proofs.Numbers.{field_reads}
 
 -- ---- one digit
 
+-- a digit with which the number may still lie between low and high is read
 digit_good : (low high w n b : ℕ) (rest : List ℕ) → b < 256 → low < (n * 256 + b + 1) * 256 ^ w →
     (n * 256 + b) * 256 ^ w ≤ high →
     read_digits (within low high) (suc w) n (b ∷ rest) ≡ read_digits (within low high) w (n * 256 + b) rest
@@ -24,6 +25,7 @@ digit_good low high w n b rest lt lo le =
     (lt-ltb low ((n * 256 + b + 1) * 256 ^ w) lo) (le-leb ((n * 256 + b) * 256 ^ w) high le)) in
     rw t refl
 
+-- a digit that leaves the number too small is refused
 digit_under : (low high w n b : ℕ) (rest : List ℕ) → (n * 256 + b + 1) * 256 ^ w ≤ low →
     read_digits (within low high) (suc w) n (b ∷ rest) ≡ Err (suc (length rest))
 unfolding read_digits
@@ -34,6 +36,7 @@ digit_under low high w n b rest le =
     (le-ltb low ((n * 256 + b + 1) * 256 ^ w) le)) in
     rw t refl
 
+-- a digit that makes the number too great is refused
 digit_bad : (low high w n b : ℕ) (rest : List ℕ) → high < (n * 256 + b) * 256 ^ w →
     read_digits (within low high) (suc w) n (b ∷ rest) ≡ Err (suc (length rest))
 unfolding read_digits
@@ -46,6 +49,7 @@ digit_bad low high w n b rest lt =
 
 -- ---- the same at a slice, if k digits are left
 
+-- one digit is read, and the number may still lie between low and high
 pub digit_goes_on : (low high k w n : ℕ) (bytes : List ℕ) → k ≡ suc w → 1 ≤ length bytes → get_or bytes 0 0 < 256 →
     low < (n * 256 + get_or bytes 0 0 + 1) * 256 ^ w →
     (n * 256 + get_or bytes 0 0) * 256 ^ w ≤ high
@@ -58,35 +62,41 @@ digit_goes_on low high k w n (b ∷ rest) e some lt lo le =
       take_rest : (rest : List ℕ) → take (suc (length rest) - 1) rest ≡ rest
       take_rest rest = let e : suc (length rest) - 1 ≡ length rest = omega arith in rw e (take-length rest)
 
+-- a digit that makes the number too great is the first bad byte
 pub digit_stops : (low high k w n : ℕ) (bytes : List ℕ) → k ≡ suc w → 1 ≤ length bytes →
     high < (n * 256 + get_or bytes 0 0) * 256 ^ w →
     read_digits (within low high) k n bytes ≡ Err (length bytes)
 digit_stops low high k w n [] e some lt = absurd (omega arith)
 digit_stops low high k w n (b ∷ rest) e some lt = rw e (digit_bad low high w n b rest lt)
 
+-- a digit that leaves the number too small is the first bad byte
 pub digit_falls_short : (low high k w n : ℕ) (bytes : List ℕ) → k ≡ suc w → 1 ≤ length bytes →
     (n * 256 + get_or bytes 0 0 + 1) * 256 ^ w ≤ low →
     read_digits (within low high) k n bytes ≡ Err (length bytes)
 digit_falls_short low high k w n [] e some le = absurd (omega arith)
 digit_falls_short low high k w n (b ∷ rest) e some le = rw e (digit_under low high w n b rest le)
 
+-- without a byte the number ends too early
 pub digit_none : (low high k w n : ℕ) (bytes : List ℕ) → k ≡ suc w → length bytes < 1 →
     read_digits (within low high) k n bytes ≡ Err 0
 unfolding read_digits
 digit_none low high k w n [] e none = rw e refl
 digit_none low high k w n (b ∷ rest) e none = absurd (omega arith)
 
+-- no digit is left, and the number is read
 pub digit_done : (low high k n : ℕ) (bytes : List ℕ) → k ≡ 0 → read_digits (within low high) k n bytes ≡ Ok (n, bytes)
 unfolding read_digits
 digit_done low high k n bytes e = rw e refl
 
 -- ---- the test by a shift
 
+-- w bytes have 8 * w bits
 pub pow_bytes : (w : ℕ) → 2 ^ (8 * w) ≡ 256 ^ w
 pow_bytes zero = refl
 pow_bytes (suc w) = let e : 8 * suc w ≡ 8 * w + 8 = omega arith in
     rw (e, pow-add 2 (8 * w) 8, pow_bytes w) (sym (pow-suc 256 w))
 
+-- digits above those of a bound, which code finds by shifting it, begin only numbers above the bound
 pub above_shift : (high w m : ℕ) → high / 2 ^ (8 * w) < m → high < m * 256 ^ w
 above_shift high w m h =
     let p : 1 ≤ 256 ^ w = one-le-pow w 256 (omega arith) in
@@ -96,6 +106,7 @@ above_shift high w m h =
     mul-le (high / 256 ^ w + 1) (256 ^ w) m (256 ^ w) (omega arith) (omega arith) in
     omega (arith, r, s)
 
+-- digits that are not above those of a bound may begin a number up to the bound
 pub within_shift : (high w m : ℕ) → m ≤ high / 2 ^ (8 * w) → m * 256 ^ w ≤ high
 within_shift high w m h =
     let q : m ≤ high / 256 ^ w = rw (← pow_bytes w) h in
@@ -103,13 +114,15 @@ within_shift high w m h =
     let s : m * 256 ^ w ≤ high / 256 ^ w * 256 ^ w = mul-le m (256 ^ w) (high / 256 ^ w) (256 ^ w) q (omega arith) in
     omega (arith, r, s)
 
+-- digits below those of a bound begin only numbers below the bound
 pub under_shift : (low w m : ℕ) → m < low / 2 ^ (8 * w) → (m + 1) * 256 ^ w ≤ low
 under_shift low w m h = within_shift low w (m + 1) (omega arith)
 
+-- digits that reach those of a bound may begin a number from the bound on
 pub reaches_shift : (low w m : ℕ) → low / 2 ^ (8 * w) ≤ m → low < (m + 1) * 256 ^ w
 reaches_shift low w m h = above_shift low w (m + 1) (omega arith)
 
--- there is room for one more byte
+-- a number up to a bound of 64 bits still fits 64 bits with one more byte
 pub fits_more : (high k w n : ℕ) → k ≡ suc w → n * 256 ^ k ≤ high → high < 2 ^ 64 → n * 256 + 255 < 2 ^ 64
 fits_more high k w n e le lt =
     let p : 1 ≤ 256 ^ w = one-le-pow w 256 (omega arith) in
@@ -141,6 +154,7 @@ eight (a ∷ b ∷ c ∷ d ∷ e ∷ []) le = absurd (omega arith)
 eight (a ∷ b ∷ c ∷ d ∷ e ∷ f ∷ []) le = absurd (omega arith)
 eight (a ∷ b ∷ c ∷ d ∷ e ∷ f ∷ g ∷ []) le = absurd (omega arith)
 
+-- the first eight of some bytes are bytes
 pub first_fits : (bytes : List ℕ) → IsBytes bytes → IsBytes (first_8 bytes)
 first_fits bytes fits zero = fits 0
 first_fits bytes fits (suc zero) = fits 1
@@ -152,6 +166,7 @@ first_fits bytes fits (suc (suc (suc (suc (suc (suc zero)))))) = fits 6
 first_fits bytes fits (suc (suc (suc (suc (suc (suc (suc zero))))))) = fits 7
 first_fits bytes fits (suc (suc (suc (suc (suc (suc (suc (suc i)))))))) = omega arith
 
+-- eight bytes whose number lies between low and high are read as that number
 pub long_found : (low high n : ℕ) (bytes : List ℕ) → low ≤ high → high < 2 ^ 64 → 8 ≤ length bytes → IsBytes bytes →
     n ≡ from_be_bytes w64 (first_8 bytes) →
     (low ≤ n) × (n ≤ high)
@@ -164,12 +179,13 @@ long_found low high n bytes some top long fits e le =
     ap (read_number 8 (within low high)) p ∙ r.again n (drop 8 bytes) le
     ∙ ap (λ (t : List ℕ). Ok (n, t)) (sym (rest_of 8 bytes))
 
+-- a number that was read lies between low and high
 pub number_only : (w low high : ℕ) (bytes : List ℕ) (n : ℕ) (rest : List ℕ) → low ≤ high → high < 256 ^ w →
     read_number w (within low high) bytes ≡ Ok (n, rest) →
     (low ≤ n) × (n ≤ high)
 number_only w low high bytes n rest some top e = ((field_reads w low high some top).takes bytes n rest e).0
 
--- the field's number is that of std
+-- the number of eight bytes in a field is their big-endian number
 pub field_is_long : (a b c d e f g h : ℕ) →
     field 0 8 (a ∷ b ∷ c ∷ d ∷ e ∷ f ∷ g ∷ h ∷ []) ≡ from_be_bytes w64 (a ∷ b ∷ c ∷ d ∷ e ∷ f ∷ g ∷ h ∷ [])
 field_is_long a b c d e f g h = omega arith

@@ -27,10 +27,15 @@ use Rattle.cpg_codec.proofs.WrittenHeads.{limit_most, processes_limit, edges_lim
 
 -- ---- names
 
+-- bytes written one by one are the bytes
 singles : (bs : List ℕ) → flat_map (λ (b : ℕ). b ∷ []) bs ≡ bs
 singles [] = refl
 singles (b ∷ bs) = ap (λ (t : List ℕ). b ∷ t) (singles bs)
 
+-- The reader of a name reads exactly the bytes of a well-formed name; each lemma of a reader below says the same.
+-- The lemmas have one form. `seq` joins the readers of the parts, each with the function that takes its part from a
+-- value. `adapt` then gets four facts: what the parts read is lawful, what is lawful the parts read, and their bytes
+-- are the bytes of the value.
 pub name_reads : Reads IsName name_bytes read_name
 unfolding read_name
 name_reads =
@@ -46,17 +51,21 @@ name_reads =
 
 -- ---- numbers of eight bytes
 
+-- the reader of a time reads exactly the bytes of a time below 2^60
 pub time_reads : Reads (λ t. t < 2 ^ 60) (to_be_bytes w64) read_time
 unfolding read_time
 time_reads = adapt (field_reads 8 0 1152921504606846975 (omega arith) (omega arith)) (λ t h. omega (arith, h.1))
     (λ t h. (omega arith, omega arith)) (λ t h. refl)
 
+-- a deadline is none, or at most 10^9
 abbrev pub IsOwn : Option ℕ → Type 0
 IsOwn o = IfSome o (λ (d : ℕ). d ≤ 1000000000)
 
+-- the number of a deadline: at most 10^9, or 2^64 - 1 for none
 IsDeadlineNumber : ℕ → Type 0
 IsDeadlineNumber n = ((0 ≤ n) × (n ≤ 1000000000)) ⊎ ((18446744073709551615 ≤ n) × (n ≤ 18446744073709551615))
 
+-- byte for byte, the test of the reader is passed just by the bytes of such numbers
 deadline_chooses : IsChoice IsDeadlineNumber deadline_may
 unfolding IsDeadlineNumber
 deadline_chooses = record {
@@ -75,20 +84,24 @@ deadline_chooses = record {
   ];
 }
 
+-- such a number has eight bytes
 deadline_fits : (n : ℕ) → IsDeadlineNumber n → n < 256 ^ 8
 unfolding IsDeadlineNumber
 deadline_fits n (inl h) = omega (arith, h.1)
 deadline_fits n (inr h) = omega (arith, h.1)
 
+-- the deadline of a number
 abbrev chosen : ℕ → Option ℕ
 chosen n = cond (eqb n 18446744073709551615) None (Some n)
 
+-- the deadline of a number has this number
 chosen_back : (n : ℕ) → deadline_number (chosen n) ≡ n
 chosen_back n = elim (cases_Bool (eqb n 18446744073709551615)) [
   | inl h ↦ rw h (sym (eqb-true n 18446744073709551615 h))
   | inr h ↦ rw h refl
 ]
 
+-- a deadline that is read from such a number is none or lawful
 deadline_to : (o : Option ℕ) → IsDeadlineNumber (deadline_number o) → o ≡ chosen (deadline_number o) → IsOwn o
 unfolding IsDeadlineNumber
 deadline_to None h e = tt
@@ -96,6 +109,7 @@ deadline_to (Some d) (inl h) e = h.1
 deadline_to (Some d) (inr h) e = let k : d ≡ 18446744073709551615 = omega (arith, h.0, h.1) in
     absurd (let q : Some d ≡ None = e ∙ rw k refl in cc)
 
+-- a lawful deadline has such a number, and is read from it
 deadline_from : (o : Option ℕ) → IsOwn o → IsDeadlineNumber (deadline_number o) × (o ≡ chosen (deadline_number o))
 unfolding IsDeadlineNumber
 deadline_from None h = (inr (omega arith, omega arith), refl)
@@ -104,10 +118,12 @@ deadline_from (Some d) h = (
   let k : eqb d 18446744073709551615 ≡ false = ne_eqb d 18446744073709551615 (λ e. omega arith) in rw k refl,
 )
 
+-- 0 is such a number
 deadline_zero : IsDeadlineNumber 0
 unfolding IsDeadlineNumber
 deadline_zero = inl (omega arith, omega arith)
 
+-- the reader of an own deadline reads exactly the bytes of a deadline, or of none
 pub deadline_reads : Reads IsOwn (λ o. to_be_bytes w64 (deadline_number o)) read_deadline
 unfolding read_deadline
 deadline_reads =
@@ -118,37 +134,45 @@ deadline_reads =
 
 -- ---- what version 2 adds
 
+-- the release of an extra, and 0 without one
 abbrev release_of : Option Extra → ℕ
 release_of None = 0
 release_of (Some e) = e.release
 
+-- the deadline of an extra, and none without one
 abbrev deadline_of : Option Extra → Option ℕ
 deadline_of None = None
 deadline_of (Some e) = e.deadline
 
+-- the extra of its two parts
 abbrev make_extra : ℕ → Option ℕ → Option Extra
 make_extra r d = Some (record { release = r; deadline = d })
 
+-- an extra of lawful parts is lawful in version 2
 extra_some_to : (x : Option Extra) → ((0 ≤ release_of x) × (release_of x ≤ 1000000000)) ×
     (IsOwn (deadline_of x) × (x ≡ make_extra (release_of x) (deadline_of x))) → IsExtraOf 2 x
 extra_some_to None h = absurd (let e : None ≡ make_extra 0 None = h.1.1 in cc)
 extra_some_to (Some e) h = (refl, record { release = h.0.1; deadline = h.1.0 })
 
+-- a lawful extra of version 2 has lawful parts
 extra_some_from : (x : Option Extra) → IsExtraOf 2 x →
     ((0 ≤ release_of x) × (release_of x ≤ 1000000000)) ×
     (IsOwn (deadline_of x) × (x ≡ make_extra (release_of x) (deadline_of x)))
 extra_some_from None h = absurd (omega (arith, h))
 extra_some_from (Some e) h = ((omega arith, h.1.release), (h.1.deadline, refl))
 
+-- the bytes of its parts are the bytes of the extra
 extra_some_spell : (x : Option Extra) → IsExtraOf 2 x →
     to_be_bytes w64 (release_of x) ++ (to_be_bytes w64 (deadline_number (deadline_of x)) ++ []) ≡ extra_bytes x
 extra_some_spell None h = absurd (omega (arith, h))
 extra_some_spell (Some e) h =
     ap (λ (t : List ℕ). to_be_bytes w64 e.release ++ t) (append-nil (to_be_bytes w64 (deadline_number e.deadline)))
 
+-- no extra is lawful in version 1
 extra_none_to : (x : Option Extra) → x ≡ None → IsExtraOf 1 x
 extra_none_to x e = rw e refl
 
+-- in version 2 the reader reads a release and a deadline
 extra_two : Reads (IsExtraOf 2) extra_bytes (read_extra 2)
 unfolding read_extra
 extra_two =
@@ -158,10 +182,12 @@ extra_two =
     (λ r x fr h. ap release_of h.1))
     extra_some_to extra_some_from extra_some_spell
 
+-- in version 1 the reader reads nothing
 extra_one : Reads (IsExtraOf 1) extra_bytes (read_extra 1)
 unfolding read_extra
 extra_one = adapt (pure_reads None) extra_none_to none_of (λ x h. ap extra_bytes (sym (none_of x h)))
 
+-- the reader of what version 2 adds reads exactly its bytes
 pub extra_reads : (version : ℕ) → 1 ≤ version → version ≤ 2 → Reads (IsExtraOf version) extra_bytes (read_extra version)
 extra_reads zero a b = absurd (omega arith)
 extra_reads (suc zero) a b = extra_one
@@ -170,47 +196,58 @@ extra_reads (suc (suc (suc n))) a b = absurd (omega arith)
 
 -- ---- processes
 
+-- five pieces, one behind the other, however they are grouped
 regroup_5 : (a b c d e : List ℕ) → a ++ (b ++ (c ++ (d ++ (e ++ [])))) ≡ a ++ b ++ c ++ d ++ e
 regroup_5 a b c d e = simp (append_assoc, append-nil)
 
+-- nine pieces, likewise
 regroup_9 : (a b c d e f g h i : List ℕ) →
     a ++ (b ++ (c ++ (d ++ (e ++ (f ++ (g ++ (h ++ (i ++ [])))))))) ≡ a ++ b ++ c ++ d ++ e ++ f ++ g ++ h ++ i
 regroup_9 a b c d e f g h i = simp (append_assoc, append-nil)
 
+-- a flag is 1 if and only if it is set
 flag_is : (b : Bool) → eqb (bit b) 1 ≡ b
 flag_is true = refl
 flag_is false = refl
 
+-- a number that passes the test of a flag is the number of a flag
 flag_back : (n m : ℕ) → n ≤ cond (ltb m 32) 1 0 → bit (eqb n 1) ≡ n
 flag_back zero m h = refl
 flag_back (suc zero) m h = refl
 flag_back (suc (suc n)) m h = absurd (flag_below (ltb m 32) n h) where
+  -- a number from 2 on is above each bound of a flag
   flag_below : (t : Bool) (n : ℕ) → suc (suc n) ≤ cond t 1 0 → ⊥
   flag_below true n h = omega arith
   flag_below false n h = omega arith
 
+-- a flag passes if and only if there are at most 32 conditions with it
 flag_limit : (ones : ℕ) (b : Bool) → ones ≤ 32 → (bit b ≤ cond (ltb ones 32) 1 0) ↔ (ones + bit b ≤ 32)
 flag_limit ones b le = elim (cases_Bool (ltb ones 32)) [
   | inl h ↦ let k = ltb-true ones 32 h in rw h (λ _. flag_sum b k, λ _. flag_one b)
   | inr h ↦ let k = ltb-false ones 32 h in rw h (λ z. omega arith, λ z. omega arith)
 ] where
+  -- with fewer than 32 conditions there is room for one more
   flag_sum : (b : Bool) → ones < 32 → ones + bit b ≤ 32
   flag_sum true k = omega arith
   flag_sum false k = omega arith
 
+  -- a flag is at most 1
   flag_one : (b : Bool) → bit b ≤ 1
   flag_one true = omega arith
   flag_one false = omega arith
 
+-- the bound of a flag is a byte
 flag_end : (ones : ℕ) → cond (ltb ones 32) 1 0 < 256
 flag_end ones = elim (cases_Bool (ltb ones 32)) [
   | inl h ↦ rw h (omega arith)
   | inr h ↦ rw h (omega arith)
 ]
 
+-- a process of its fields, as they are read
 abbrev make_process : List ℕ → ℕ → ℕ → List ℕ → Option Extra → Written
 make_process n a c ts e = record { process = record { name = n; node = a; condition = eqb c 1; times = ts }; extra = e }
 
+-- a process is the one of its fields
 same_process : (w : Written) →
     w ≡ make_process w.process.name w.process.node (bit w.process.condition) w.process.times w.extra
 same_process w = ap (λ (c : Bool). record {
@@ -219,10 +256,11 @@ same_process w = ap (λ (c : Bool). record {
 })
     (sym (flag_is w.process.condition))
 
--- a process behind `ones` processes with a condition
+-- a process after `ones` processes with a condition
 abbrev pub FitsBehind : ℕ → ℕ → ℕ → ℕ → Written → Type 0
 FitsBehind version faults nodes ones w = IsWritten version faults nodes w × (ones + bit w.process.condition ≤ 32)
 
+-- the reader of a process's place reads exactly a node and a flag, which is 0 if there are 32 conditions already
 pub place_reads : (nodes ones : ℕ) → 0 < nodes → nodes ≤ 256 →
     Reads (λ (p : ℕ × ℕ). (p.0 ≤ nodes - 1) × (p.1 ≤ cond (ltb ones 32) 1 0)) (λ (p : ℕ × ℕ). byte p.0 ++ byte p.1)
     (read_place nodes ones)
@@ -238,6 +276,7 @@ place_reads nodes ones some few =
     (λ p h. ((omega arith, h.0), ((omega arith, h.1), refl)))
     (λ p h. refl)
 
+-- the reader of a process reads exactly the bytes of a process that may stand at its place
 pub process_reads : (version faults nodes ones : ℕ) → 1 ≤ version → version ≤ 2 → 0 < nodes → nodes ≤ 16 → ones ≤ 32 →
     Reads (FitsBehind version faults nodes ones) process_bytes (read_process version faults nodes ones)
 unfolding read_process
@@ -281,6 +320,8 @@ process_reads version faults nodes ones v1 v2 some few le =
     (λ w h. regroup_5 (name_bytes w.process.name) (byte w.process.node) (byte (bit w.process.condition))
     (flat_map (to_be_bytes w64) w.process.times) (extra_bytes w.extra))
 
+-- The reader of the processes reads exactly the bytes of that many processes, with at most 32 conditions.
+-- `each_reads` walks through the processes with the number of conditions so far, which stays at most 32.
 pub processes_reads : (version faults nodes count : ℕ) → 1 ≤ version → version ≤ 2 → nodes ≤ 16 →
     count ≤ limit nodes 128 →
     Reads (AreProcesses version faults nodes count 0) (flat_map process_bytes)
@@ -310,6 +351,7 @@ processes_reads version faults nodes count v1 v2 few le =
 
 -- ---- edges
 
+-- the reader of an edge reads exactly the bytes of an edge between two of the processes
 pub edge_reads : (processes : ℕ) → 0 < processes → processes ≤ 256 →
     Reads (IsHeadEdge processes) edge_bytes (read_edge processes)
 unfolding read_edge
@@ -326,6 +368,7 @@ edge_reads processes some few =
 
 -- ---- the head
 
+-- the parts of a head, one after another, are the bytes of the head
 head_spell : (h : Head) → to_be_bytes w32 magic ++
     (byte (version_of h) ++ (byte h.faults ++
     (byte (length h.nodes) ++ (flat_map name_bytes h.nodes ++
@@ -347,6 +390,7 @@ record Parts (h : Head) : Type 0 where
   edges : AllByRecursion (IsHeadEdge (length h.processes)) h.edges
   same : h ≡ head_from (version_of h) h.faults h.nodes (written h) h.edges
 
+-- a head with these parts is lawful
 from_parts : (h : Head) → Parts h → IsPackHead h
 from_parts h p =
     let n = written_length h in
@@ -357,6 +401,7 @@ from_parts h p =
     (omega (arith, p.few_edges, limit_most (length h.processes) 256))
     (subst (λ (c : ℕ). AllByRecursion (IsHeadEdge c) h.edges) (sym n) p.edges))
 
+-- a lawful head has these parts
 parts_of : (h : Head) → IsPackHead h → Parts h
 parts_of h q = record {
   version = version_within h;
@@ -370,6 +415,9 @@ parts_of h q = record {
   same = head_again h q.within;
 }
 
+-- The reader of a head reads exactly the bytes of a lawful head.
+-- The nine fields are read in the order of `Parts`, and each later reader takes bounds from what was read before: the
+-- number of processes from that of the nodes, and the edges from that of the processes.
 pub head_reads : Reads IsPackHead head_bytes read_head
 unfolding read_head
 head_reads =

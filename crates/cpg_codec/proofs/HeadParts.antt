@@ -9,6 +9,7 @@ use Rattle.cpg_codec.specs.Spelling.{edge_bytes, head_bytes}
 five : (a b c d e : List ℕ) → a ++ b ++ c ++ d ++ e ≡ a ++ ((b ++ c) ++ (d ++ e))
 five a b c d e = simp append_assoc
 
+-- the bytes of a process are its name, its node and flag, its times, and what version 2 adds
 pub process_parts : (w : Written) → process_bytes w ≡ name_bytes w.process.name ++
     ((byte w.process.node ++ byte (bit w.process.condition))
     ++ (flat_map (to_be_bytes w64) w.process.times ++ extra_bytes w.extra))
@@ -19,6 +20,7 @@ nine : (a b c d e f g h i : List ℕ) →
     a ++ b ++ c ++ d ++ e ++ f ++ g ++ h ++ i ≡ (a ++ (b ++ (c ++ d))) ++ (e ++ (f ++ (g ++ (h ++ i))))
 nine a b c d e f g h i = simp append_assoc
 
+-- the bytes of a head are its first numbers, the names of the nodes, the processes and the edges
 pub head_parts : (h : Head)
     → head_bytes h ≡ (to_be_bytes w32 magic ++ (byte (version_of h) ++ (byte h.faults ++ byte (length h.nodes)))) ++
     (flat_map name_bytes h.nodes ++ (byte (length h.processes)

@@ -3,7 +3,7 @@ use Rattle.std.proofs.Common.{◌≡◌, ℕ, suc, Bool, true, false, cond, List
 use Rattle.std.proofs.Common.{sym, ap, subst, ◌∙◌, append_assoc, inl, inr, ◌⊎◌}
 use Rattle.cpg_codec.specs.Reading.{Reader, pure, onward, ◌>>=◌, byte_by}
 
--- where a reader stops: behind the good bytes, which some value's spelling begins with; the byte after them stops it
+-- where a reader stops: after the good bytes, which some value's spelling begins with; the byte after them stops it
 -- whatever follows
 pub record Stop {A : Type 0} (Fits : A → Type 0) (spell : A → List ℕ) (read : Reader A) (bytes : List ℕ)
     (left : ℕ) : Type 0 where
@@ -25,11 +25,13 @@ pub record Reads {A : Type 0} (Fits : A → Type 0) (spell : A → List ℕ) (re
   pub again : (x : A) (rest : List ℕ) → Fits x → read (spell x ++ rest) ≡ Ok (x, rest)
   pub stops : (bytes : List ℕ) (left : ℕ) → read bytes ≡ Err left → Stop Fits spell read bytes left
 
+-- if a reader followed by another succeeds, both do
 pub onward_ok : {A B : Type 0} (f : A → Reader B) (r : Result (A × List ℕ) ℕ) (y : B × List ℕ) → onward f r ≡ Ok y →
     (x : A × List ℕ) × (r ≡ Ok x) × (f x.0 x.1 ≡ Ok y)
 onward_ok f (Ok x) y e = (x, refl, e)
 onward_ok f (Err d) y e = absurd cc
 
+-- if a reader followed by another fails, one of them does
 pub onward_err : {A B : Type 0} (f : A → Reader B) (r : Result (A × List ℕ) ℕ) (left : ℕ) → onward f r ≡ Err left →
     (r ≡ Err left) ⊎ ((x : A × List ℕ) × (r ≡ Ok x) × (f x.0 x.1 ≡ Err left))
 onward_err f (Ok x) left e = inr (x, refl, e)
@@ -38,9 +40,11 @@ onward_err f (Err d) left e = inl cc
 abbrev done : {A : Type 0} → A → Result A ℕ
 done x = Ok x
 
+-- equal successes have equal values
 pub ok_is : {A : Type 0} (x y : A) → done x ≡ done y → x ≡ y
 ok_is x y e = cc
 
+-- the reader that reads no bytes reads exactly its value
 pub pure_reads : {A : Type 0} (x : A) → Reads (λ y. y ≡ x) (λ y. []) (pure x)
 pure_reads x = record {
   some = x;
@@ -51,6 +55,7 @@ pure_reads x = record {
   stops = λ bytes left e. absurd cc;
 }
 
+-- given two readers, of which the second depends on the value of the first, and a value that holds both values
 module _ {A X : Type 0} (F1 : A → Type 0) (s1 : A → List ℕ) (r1 : Reader A) (F2 : A → X → Type 0) (s2 : A → X → List ℕ)
     (r2 : A → Reader X) (first : X → A)
     (one : Reads F1 s1 r1) (two : (a : A) → F1 a → Reads (F2 a) (s2 a) (r2 a))
@@ -83,6 +88,7 @@ module _ {A X : Type 0} (F1 : A → Type 0) (s1 : A → List ℕ) (r1 : Reader A
         stays = λ b tail after e. ap (onward r2) (s.stays b tail after e);
       }
 
+  -- a stop of the second reader is one of both readers
   stop_second : (bytes : List ℕ) (left : ℕ) (a : A) (rest : List ℕ) → F1 a → bytes ≡ s1 a ++ rest →
       Stop (F2 a) (s2 a) (r2 a) rest left →
       Stop Both both (r1 >>= r2) bytes left
@@ -101,6 +107,7 @@ module _ {A X : Type 0} (F1 : A → Type 0) (s1 : A → List ℕ) (r1 : Reader A
             ∙ ap (onward r2) (one.again a (s.good ++ b ∷ after) fa) ∙ s.stays b tail after e;
       }
 
+  -- two readers, one after the other, read exactly both spellings
   pub then_reads : Reads Both both (r1 >>= r2)
   then_reads = record {
     some = (two one.some one.some_fits).some;
@@ -125,14 +132,14 @@ module _ {A X : Type 0} (F1 : A → Type 0) (s1 : A → List ℕ) (r1 : Reader A
     ];
   }
 
--- the same, where antt finds what the parts are
+-- two readers, one after the other, with parts that antt finds by itself
 pub seq : {A X : Type 0} {F1 : A → Type 0} {s1 : A → List ℕ} {r1 : Reader A} {F2 : A → X → Type 0} {s2 : A → X → List ℕ}
     {r2 : A → Reader X} (first : X → A)
     → Reads F1 s1 r1 → ((a : A) → F1 a → Reads (F2 a) (s2 a) (r2 a)) → ((a : A) (x : X) → F1 a → F2 a x → first x ≡ a)
     → Reads (λ x. F1 (first x) × F2 (first x) x) (λ x. s1 (first x) ++ s2 (first x) x) (r1 >>= r2)
 seq {A} {X} {F1} {s1} {r1} {F2} {s2} {r2} first one two same = then_reads F1 s1 r1 F2 s2 r2 first one two same
 
--- the same reader by other words
+-- a reader reads exactly the spellings of the same values, if these are described in another way
 pub adapt : {A : Type 0} {F G : A → Type 0} {s t : A → List ℕ} {r : Reader A} → Reads F s r → ((x : A) → F x → G x) →
     ((x : A) → G x → F x) → ((x : A) → G x → s x ≡ t x) → Reads G t r
 adapt {A} {F} {G} {s} {t} {r} l to from same = record {
@@ -154,13 +161,15 @@ adapt {A} {F} {G} {s} {t} {r} l to from same = record {
   };
 }
 
--- one byte that passes
+-- a byte that passes is read
 byte_step : (ok : ℕ → Bool) (b : ℕ) (bytes : List ℕ) → ok b ≡ true → byte_by ok (b ∷ bytes) ≡ Ok (b, bytes)
 byte_step ok b bytes h = rw h refl
 
+-- a byte that fails the test isn't read
 byte_stop : (ok : ℕ → Bool) (b : ℕ) (bytes : List ℕ) → ok b ≡ false → byte_by ok (b ∷ bytes) ≡ Err (suc (length bytes))
 byte_stop ok b bytes h = rw h refl
 
+-- if a byte is read, it passes the test, and the other bytes are left
 byte_took : (ok : ℕ → Bool) (b : ℕ) (bytes : List ℕ) (c : ℕ) (rest : List ℕ) (t : Bool) → t ≡ ok b →
     cond {A = Result (ℕ × List ℕ) ℕ} t (Ok (b, bytes)) (Err (suc (length bytes))) ≡ done (c, rest) →
     (ok c ≡ true) × (b ∷ bytes ≡ c ∷ rest)
@@ -168,6 +177,7 @@ byte_took ok b bytes c rest true h e = let k = ok_is (b, bytes) (c, rest) e in
     (subst (λ (x : ℕ). ok x ≡ true) (ap (λ (p : ℕ × List ℕ). p.0) k) (sym h), ap (λ (p : ℕ × List ℕ). p.0 ∷ p.1) k)
 byte_took ok b bytes c rest false h e = absurd cc
 
+-- if a byte isn't read, it fails the test, and all bytes are left
 byte_not : (ok : ℕ → Bool) (b : ℕ) (bytes : List ℕ) (left : ℕ) (t : Bool) → t ≡ ok b →
     cond {A = Result (ℕ × List ℕ) ℕ} t (Ok (b, bytes)) (Err (suc (length bytes))) ≡ Err left →
     (ok b ≡ false) ×
@@ -175,11 +185,13 @@ byte_not : (ok : ℕ → Bool) (b : ℕ) (bytes : List ℕ) (left : ℕ) (t : Bo
 byte_not ok b bytes left true h e = absurd cc
 byte_not ok b bytes left false h e = (sym h, cc)
 
+-- a byte that was read passes the test
 byte_takes : (ok : ℕ → Bool) (bytes : List ℕ) (c : ℕ) (rest : List ℕ) → byte_by ok bytes ≡ Ok (c, rest) →
     (ok c ≡ true) × (bytes ≡ c ∷ rest)
 byte_takes ok [] c rest e = absurd cc
 byte_takes ok (b ∷ bytes) c rest e = byte_took ok b bytes c rest (ok b) refl e
 
+-- if the next byte doesn't pass, the reader stops
 byte_stops : (ok : ℕ → Bool) (some : ℕ) (fits : ok some ≡ true) (bytes : List ℕ) (left : ℕ) →
     byte_by ok bytes ≡ Err left →
     Stop (λ b. ok b ≡ true) (λ b. b ∷ []) (byte_by ok) bytes left
@@ -209,6 +221,7 @@ byte_stops ok some fits (b ∷ bytes) left e =
           λ c tail after h. byte_stop ok c after (let q : b ≡ c = cc in subst (λ (x : ℕ). ok x ≡ false) q n.0);
     }
 
+-- the reader of one byte reads exactly the bytes that pass its test, if there is one
 pub byte_reads : (ok : ℕ → Bool) (some : ℕ) → ok some ≡ true → Reads (λ b. ok b ≡ true) (λ b. b ∷ []) (byte_by ok)
 byte_reads ok some fits = record {
   some = some;

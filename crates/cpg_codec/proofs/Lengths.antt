@@ -31,7 +31,7 @@ use Rattle.cpg_codec.proofs.ColumnFields.{few_fault, literals_room, column_liter
 
 -- ---- pieces
 
--- pieces of at most so many bytes each
+-- pieces that each have at most some number of bytes
 pieces : {X : Type 0} (f : X → List ℕ) (most : ℕ) (xs : List X) → AllByRecursion (λ x. length (f x) ≤ most) xs →
     length (flat_map f xs) ≤ length xs * most
 pieces f most [] h = omega arith
@@ -93,6 +93,7 @@ column_long s i c h =
     let room = column_room s c i h in
     omega (arith, parts, literals, room)
 
+-- a bound on the bytes of a row, by its columns
 row_long : (s : VariableSpace) → IsSpace s → (r : Row) → IsLawfulRow s r →
     length (row_bytes r) ≤ length r.columns * 489 + 2
 row_long s i r h =
@@ -100,6 +101,7 @@ row_long s i r h =
     let columns = all_pieces (IsLawfulColumn s) column_bytes 489 r.columns (column_long s i) h.columns in
     omega (arith, parts, columns)
 
+-- a bound on the bytes of rows, by their columns and number
 rows_long : (s : VariableSpace) → IsSpace s → (rows : List Row) → AllByRecursion (IsLawfulRow s) rows →
     length (flat_map row_bytes rows) ≤ column_count rows * 489 + length rows * 2
 rows_long s i [] h = omega arith
@@ -168,6 +170,7 @@ module _ (h : Head) (q : IsHead h) (node : ℕ) where
       let inner = length-append t.sends t.hears in
       omega (arith, starts, sends, hears, outer, inner, starts_few, sends_few, hears_few)
 
+-- a bound on the bytes of a node's table, by its columns
 table_long : (h : Head) → IsHead h → (node : ℕ) (t : NodeTable) → IsTableOf h node t →
     length (table_bytes t) ≤ column_count (rows_of t) * 489 + 1792
 table_long h q node t of =
@@ -178,6 +181,7 @@ table_long h q node t of =
 abbrev IsLong : NodeTable → Type 0
 IsLong t = length (table_bytes t) ≤ column_count (rows_of t) * 489 + 1792
 
+-- a bound on the bytes of all tables, by their columns and number
 tables_long : (ts : List NodeTable) → AllByRecursion IsLong ts →
     length (flat_map table_bytes ts) ≤ sum_by (λ t. column_count (rows_of t)) ts * 489 + length ts * 1792
 tables_long [] h = omega arith
@@ -212,6 +216,7 @@ record IsNamed (p : HeadProcess) : Type 0 where
   name : IsName p.name
   times : length p.times ≤ 9
 
+-- the bytes of a process are at most 123
 process_long : (p : HeadProcess) (o : Option Extra) → IsNamed p →
     length (process_bytes (record { process = p; extra = o })) ≤ 123
 process_long p o n =
@@ -222,6 +227,7 @@ process_long p o n =
     let extra = extra_long o in
     omega (arith, parts, name, times, extra, n.times)
 
+-- a bound on the bytes of processes, by their number
 processes_long : (ps : List HeadProcess) (es : List Extra) → AllByRecursion IsNamed ps →
     length (flat_map process_bytes (written_by ps es)) ≤ length ps * 123
 processes_long [] es h = omega arith
@@ -250,6 +256,7 @@ edges_long es = pieces edge_bytes 2 es (each es) where
   each [] = tt
   each (e ∷ es) = (omega arith, each es)
 
+-- the lawful processes of a head that have names are named processes
 named : (k n : ℕ) (ps : List HeadProcess) → k ≤ 8 → AllByRecursion (IsHeadProcess k n) ps →
     AllByRecursion (λ p. IsName p.name) ps →
     AllByRecursion IsNamed ps
@@ -272,6 +279,7 @@ head_long h q =
 
 -- ---- the whole
 
+-- no pack is longer than 268,435,456 bytes
 pub all_short : AllShort
 all_short t a =
     let head = head_long t.head a.head in

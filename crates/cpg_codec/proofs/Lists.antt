@@ -13,6 +13,8 @@ abbrev tail_of : {A : Type 0} → List A → List A
 tail_of [] = []
 tail_of (x ∷ xs) = xs
 
+-- given a reader for each label and state, an invariant of the labels that are left and the state, and what is said
+-- of the whole list of values
 module _ {L S A : Type 0} (step : S → A → S) (one : L → S → Reader A)
     (Inv : List L → S → Type 0) (Fits : L → List L → S → A → Type 0) (spell : A → List ℕ)
     (G : List L → S → List A → Type 0)
@@ -57,6 +59,7 @@ module _ {L S A : Type 0} (step : S → A → S) (one : L → S → Reader A)
   nil_spell : (s : S) (ys : List A) → G [] s ys → [] ≡ flat_map spell ys
   nil_spell s ys g = ap (flat_map spell) (sym (nil_from s ys g))
 
+  -- the readers of all labels, one after another, read exactly the spellings of their values
   pub each_reads : (ls : List L) (s : S) → Inv ls s → Reads (G ls s) (flat_map spell) (read_each step one ls s)
   unfolding Parts
   each_reads [] s inv = adapt (pure_reads []) (nil_to s inv) (nil_from s) (nil_spell s)
@@ -77,11 +80,13 @@ module _ {L S A : Type 0} (step : S → A → S) (one : L → S → Reader A)
 abbrev pub AreAll : {A : Type 0} → (A → Type 0) → ℕ → List A → Type 0
 AreAll P n xs = (length xs ≡ n) × AllByRecursion P xs
 
+-- counting down from n has n steps
 pub down_is : (n : ℕ) → length (down n) ≡ n
 unfolding down
 down_is zero = refl
 down_is (suc n) = ap suc (down_is n)
 
+-- a reader that is repeated n times reads exactly n spellings
 pub times_reads : {A : Type 0} (Fits : A → Type 0) (spell : A → List ℕ) (r : Reader A) (n : ℕ) →
     (0 < n → Reads Fits spell r) →
     Reads (AreAll Fits n) (flat_map spell) (read_repeated r n)

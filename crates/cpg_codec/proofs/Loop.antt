@@ -11,16 +11,20 @@ abbrev pub with_front : {A : Type 0} → List A → Result (List A × List ℕ) 
 with_front front (Ok x) = Ok (front ++ x.0, x.1)
 with_front front (Err n) = Err n
 
+-- with no values in front, a result stays as it is
 pub nothing_in_front : {A : Type 0} (r : Result (List A × List ℕ) ℕ) → with_front [] r ≡ r
 nothing_in_front (Ok x) = refl
 nothing_in_front (Err n) = refl
 
+-- given a reader for each label and state, and the step that each value takes to the next state
 module _ {L S A : Type 0} (step : S → A → S) (one : L → S → Reader A) where
+  -- a value that was read moves from the result to the values in front
   regroup : (front : List A) (x : A) (r : Result (List A × List ℕ) ℕ) →
       with_front front (onward (λ (xs : List A). pure (x ∷ xs)) r) ≡ with_front (front ++ x ∷ []) r
   regroup front x (Ok y) = ap (λ (xs : List A). Ok (xs, y.1)) (sym (append_assoc front (x ∷ []) y.0))
   regroup front x (Err n) = refl
 
+  -- a loop that reads one more value still has the same total
   pub goes_on : (front : List A) (labels : List L) (l : L) (ls : List L) (s : S) (bytes : List ℕ) (x : A)
       (after : List ℕ) (total : Result (List A × List ℕ) ℕ) →
       labels ≡ l ∷ ls →
@@ -33,6 +37,7 @@ module _ {L S A : Type 0} (step : S → A → S) (one : L → S → Reader A) wh
       ap (λ (r : Result (A × List ℕ) ℕ).
       with_front front (onward (λ (y : A). read_each step one ls (step s y) >>= λ ys. pure (y ∷ ys)) r)) h) ∙ so_far
 
+  -- if reading a value fails, the whole loop fails in the same way
   pub ends : (error : ReadError) (front : List A) (labels : List L) (l : L) (ls : List L) (s : S) (bytes : List ℕ)
       (total : Result (List A × List ℕ) ℕ) → labels ≡ l ∷ ls →
       Fails error (one l s bytes)
@@ -43,6 +48,7 @@ module _ {L S A : Type 0} (step : S → A → S) (one : L → S → Reader A) wh
       ap (λ (r : Result (A × List ℕ) ℕ).
       with_front front (onward (λ (y : A). read_each step one ls (step s y) >>= λ ys. pure (y ∷ ys)) r)) h
 
+  -- without labels left, the loop has read all its values
   pub is_done : (front : List A) (labels : List L) (s : S) (bytes : List ℕ) (total : Result (List A × List ℕ) ℕ) →
       labels ≡ [] →
       with_front front (read_each step one labels s bytes) ≡ total →
@@ -51,21 +57,23 @@ module _ {L S A : Type 0} (step : S → A → S) (one : L → S → Reader A) wh
       sym so_far ∙ ap (λ (ms : List L). with_front front (read_each step one ms s bytes)) e
       ∙ ap (λ (xs : List A). Ok (xs, bytes)) (append-nil front)
 
--- the labels of a counted loop
+-- the labels that are left after i values begin with the next one
 pub down_more : (count i : ℕ) → i < count → down (count - i) ≡ (count - (i + 1)) ∷ down (count - (i + 1))
 unfolding down
 down_more count i lt = let k : count - i ≡ suc (count - (i + 1)) = omega arith in ap down k
 
+-- after all values no label is left
 pub down_none : (count i : ℕ) → count ≤ i → down (count - i) ≡ []
 unfolding down
 down_none count i le = let k : count - i ≡ 0 = omega arith in ap down k
 
 -- ---- a loop over a count
 
--- what is left to read of `count` values after i
+-- the reader of the rest of `count` values, after the first i
 abbrev pub left_of : {A : Type 0} → Reader A → ℕ → ℕ → Reader (List A)
 left_of one count i = read_each (λ (s : ℕ) x. s) (λ (l : ℕ) s. one) (down (count - i)) 0
 
+-- a loop for `count` values of one kind that reads one more still has the same total
 pub times_on : {A : Type 0} (one : Reader A) (front : List A) (count i : ℕ) (bytes : List ℕ) (x : A) (after : List ℕ)
     (total : Result (List A × List ℕ) ℕ) → i < count →
     one bytes ≡ Ok (x, after)
@@ -75,6 +83,7 @@ times_on one front count i bytes x after total lt h so_far =
     goes_on (λ (s : ℕ) x. s) (λ (l : ℕ) s. one) front (down (count - i)) (count - (i + 1))
     (down (count - (i + 1))) 0 bytes x after total (down_more count i lt) h so_far
 
+-- if reading a value of such a loop fails, the whole loop fails in the same way
 pub times_end : {A : Type 0} (one : Reader A) (error : ReadError) (front : List A) (count i : ℕ) (bytes : List ℕ)
     (total : Result (List A × List ℕ) ℕ) → i < count →
     Fails error (one bytes)
@@ -83,6 +92,7 @@ times_end one error front count i bytes total lt h so_far =
     ends (λ (s : ℕ) x. s) (λ (l : ℕ) s. one) error front (down (count - i)) (count - (i + 1))
     (down (count - (i + 1))) 0 bytes total (down_more count i lt) h so_far
 
+-- after `count` values such a loop has read all its values
 pub times_done : {A : Type 0} (one : Reader A) (front : List A) (count i : ℕ) (bytes : List ℕ)
     (total : Result (List A × List ℕ) ℕ) → count ≤ i
     → with_front front (left_of one count i bytes) ≡ total → total ≡ Ok (front, bytes)

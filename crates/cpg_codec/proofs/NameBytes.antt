@@ -21,5 +21,6 @@ name_is_ascii text h i = elim (cases_lt i (length text)) [
   | inr le ↦ subst (λ (b : ℕ). b < 128) (sym (get_or_past text i le)) (omega arith)
 ]
 
+-- the bytes of a name are a text in UTF-8
 pub name_is_utf8 : (text : List ℕ) → IsName text → IsUtf8 text
 name_is_utf8 text h = IsUtf8-from_ascii text (name_is_ascii text h)

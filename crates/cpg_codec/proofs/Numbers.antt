@@ -8,11 +8,12 @@ use Rattle.std.proofs.Math.Nat.{pow-suc, one-le-pow, div-mul-le_self, lt-div-mul
 use Rattle.cpg_codec.specs.Reading.{byte_by, digit_may, read_digits, read_number, within}
 use Rattle.cpg_codec.proofs.Laws.{Reads, pure_reads, then_reads, adapt, byte_reads}
 
--- `may` tells whether a lawful number stands between two
+-- `may` says whether a lawful number stands between two
 pub record IsChoice (lawful : ℕ → Type 0) (may : ℕ → ℕ → Bool) : Type 0 where
   pub found : (from below : ℕ) → from < below → may from below ≡ true → (n : ℕ) × (from ≤ n) × (n < below) × lawful n
   pub all : (from below n : ℕ) → from ≤ n → n < below → lawful n → may from below ≡ true
 
+-- the test of a range says whether a number from low to high stands between two numbers
 pub within_chooses : (low high : ℕ) → low ≤ high → IsChoice (λ n. (low ≤ n) × (n ≤ high)) (within low high)
 within_chooses low high h = record {
   found = λ from below lt e. let p = and_parts (ltb low below) (leb from high) e in
@@ -33,7 +34,7 @@ power w = omega (arith, pow-suc 256 w)
 digit_span : (w n : ℕ) → n * 256 ^ suc w < (n + 1) * 256 ^ suc w
 digit_span w n = let h : 1 ≤ 256 ^ suc w = one-le-pow (suc w) 256 (omega arith) in omega arith
 
--- the digit of m after n
+-- a number that begins with the digits n has a next digit
 digit_of : (T t m n : ℕ) → T ≡ 256 * t → 0 < t → n * T ≤ m → m < (n + 1) * T →
     (b : ℕ) × (b < 256) × ((n * 256 + b) * t ≤ m) × (m < (n * 256 + b + 1) * t)
 digit_of T t m n e pos lo hi =
@@ -67,6 +68,7 @@ digit_high T t m n b e lt hi =
     let k : (b + 1) * t ≤ 256 * t = mul-le (b + 1) t 256 t (omega arith) (omega arith) in
     subst (λ (x : ℕ). m < (n + 1) * x) (sym e) (omega arith)
 
+-- given a test that says whether a lawful number stands between two
 module _ (Lawful : ℕ → Type 0) (may : ℕ → ℕ → Bool) (choice : IsChoice Lawful may) where
   -- m begins with the digits n and has w more
   pub record Continues (w n m : ℕ) : Type 0 where
@@ -118,6 +120,7 @@ module _ (Lawful : ℕ → Type 0) (may : ℕ → ℕ → Bool) (choice : IsChoi
   last_back : (n m : ℕ) → Continues 0 n m → m ≡ n
   last_back n m c = omega (arith, c.low, c.high)
 
+  -- the reader of w more digits reads exactly the digits with which a lawful number can go on
   pub digits_reads : (w n : ℕ) → may (n * 256 ^ w) ((n + 1) * 256 ^ w) ≡ true →
       Reads (Continues w n) (bytes_high_first w) (read_digits may w n)
   unfolding read_digits
@@ -135,7 +138,7 @@ module _ (Lawful : ℕ → Type 0) (may : ℕ → ℕ → Bool) (choice : IsChoi
       (λ m c. digit_fits w n m c)
       (λ m c. refl)
 
-  -- a number of w bytes, if each lawful one has so many and one is there
+  -- the reader of a number of w bytes, if there is a lawful number and each one fits w bytes
   pub number_reads : (w some : ℕ) → Lawful some → ((m : ℕ) → Lawful m → m < 256 ^ w) →
       Reads Lawful (bytes_high_first w) (read_number w may)
   number_reads w some lawful fit =
@@ -143,14 +146,14 @@ module _ (Lawful : ℕ → Type 0) (may : ℕ → ℕ → Bool) (choice : IsChoi
       (choice.all (0 * 256 ^ w) ((0 + 1) * 256 ^ w) some (omega arith) (omega (arith, fit some lawful)) lawful))
       (λ m c. c.lawful) (λ m l. record { lawful = l; low = omega arith; high = omega (arith, fit m l) }) (λ m l. refl)
 
--- a number of w bytes from low to high
+-- the reader of a number of w bytes reads exactly the numbers from low to high
 pub field_reads : (w low high : ℕ) → low ≤ high → high < 256 ^ w →
     Reads (λ n. (low ≤ n) × (n ≤ high)) (bytes_high_first w) (read_number w (within low high))
 field_reads w low high le fit =
     number_reads (λ n. (low ≤ n) × (n ≤ high)) (within low high) (within_chooses low high le) w low (omega arith, le)
     (λ m l. omega (arith, l.1, fit))
 
--- a byte from low to high
+-- the reader of a byte reads exactly the bytes from low to high
 pub small_reads : (low high : ℕ) → low ≤ high → high < 256 →
     Reads (λ n. (low ≤ n) × (n ≤ high)) (λ n. n ∷ []) (read_number 1 (within low high))
 small_reads low high le fit =

@@ -1,4 +1,4 @@
--- An own deadline is eight bytes ff or a number up to 10^9, as the first byte tells.
+-- An own deadline is eight bytes ff or a number up to 10^9; the first byte says which.
 use Rattle.std.proofs.Common.{◌≡◌, ℕ, zero, suc, ◌+◌, ◌*◌, ◌^◌, ◌<◌, ◌≤◌, Bool, true, false, cond, ltb, leb, ◌&&◌, ◌||◌}
 use Rattle.std.proofs.Common.{List, [], ◌∷◌, length, get_or, Result, Ok, Err, refl, sym, ap, subst, ◌∙◌}
 use Rattle.std.proofs.Common.{arith, inl, inr}
@@ -8,10 +8,12 @@ use Rattle.std.proofs.Math.Nat.{pow-suc}
 use Rattle.cpg_codec.specs.Reading.{onward, digit_may, read_digits, read_number, within}
 use Rattle.cpg_codec.specs.Grammar.{deadline_may}
 
+-- two tests agree on all numbers that begin with the digits n
 pub Same : (ℕ → ℕ → Bool) → (ℕ → ℕ → Bool) → ℕ → ℕ → Type 0
 Same may other w n =
     (from below : ℕ) → n * 256 ^ w ≤ from → below ≤ (n + 1) * 256 ^ w → may from below ≡ other from below
 
+-- two tests go on alike after a digit, whether the digit is read or not
 go_same : (may other : ℕ → ℕ → Bool) (w n b : ℕ) (rest : List ℕ) (t : Bool) →
     read_digits may w (n * 256 + b) rest ≡ read_digits other w (n * 256 + b) rest
     → onward (read_digits may w) (cond {A = Result (ℕ × List ℕ) ℕ} t (Ok (n * 256 + b, rest)) (Err (suc (length rest))))
@@ -20,6 +22,7 @@ go_same : (may other : ℕ → ℕ → Bool) (w n b : ℕ) (rest : List ℕ) (t 
 go_same may other w n b rest true h = h
 go_same may other w n b rest false h = refl
 
+-- reading a digit and going on is going on with the digit added to the number
 fold_go : (may : ℕ → ℕ → Bool) (w n b : ℕ) (rest : List ℕ) (t : Bool)
     → onward (λ (d : ℕ). read_digits may w (n * 256 + d))
     (cond {A = Result (ℕ × List ℕ) ℕ} t (Ok (b, rest)) (Err (suc (length rest)))) ≡ onward (read_digits may w)
@@ -33,6 +36,7 @@ unfolding Same
 tests_same may other w n b h = ap (λ (t : Bool). ltb b 256 && t)
     (h ((n * 256 + b) * 256 ^ w) ((n * 256 + b + 1) * 256 ^ w) (omega arith) (omega arith))
 
+-- two tests that agree after a digit read the digit and the others alike
 step_same : (may other : ℕ → ℕ → Bool) (w n b : ℕ) (rest : List ℕ) → Same may other w (n * 256 + b) →
     read_digits may w (n * 256 + b) rest ≡ read_digits other w (n * 256 + b) rest
     → read_digits may (suc w) n (b ∷ rest) ≡ read_digits other (suc w) n (b ∷ rest)
@@ -59,6 +63,7 @@ narrower may other w n b lt h from below lo hi =
     h from below (subst (λ (x : ℕ). n * x ≤ from) (sym p) (omega arith))
     (subst (λ (x : ℕ). below ≤ (n + 1) * x) (sym p) (omega arith))
 
+-- two tests that agree on a number's first digits make the same reader of the others
 pub digits_same : (may other : ℕ → ℕ → Bool) (w n : ℕ) (bytes : List ℕ) → Same may other w n →
     read_digits may w n bytes ≡ read_digits other w n bytes
 unfolding read_digits
@@ -88,6 +93,7 @@ some_same b lt from below lo hi =
     (and_left (ltb 18446744073709551615 below) (leb from 18446744073709551615)
     (le-ltb 18446744073709551615 below (omega arith)))
 
+-- with ff as the first byte a deadline is read as eight bytes ff
 pub deadline_none : (bytes : List ℕ) → get_or bytes 0 0 ≡ 255 →
     read_number 8 deadline_may bytes ≡ read_number 8 (within 18446744073709551615 18446744073709551615) bytes
 deadline_none [] e = absurd (omega arith)
@@ -100,6 +106,7 @@ deadline_end : read_number 8 deadline_may [] ≡ read_number 8 (within 0 1000000
 unfolding read_digits
 deadline_end = refl
 
+-- with another first byte a deadline is read as a number up to 10^9
 pub deadline_some : (bytes : List ℕ) → get_or bytes 0 0 < 256 → (get_or bytes 0 0 ≡ 255 → ⊥) →
     read_number 8 deadline_may bytes ≡ read_number 8 (within 0 1000000000) bytes
 deadline_some [] lt e = deadline_end

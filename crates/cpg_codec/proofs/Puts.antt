@@ -10,6 +10,7 @@ use Rattle.cpg_io.specs.Sink.{Took, TookPrefix}
 use Rattle.cpg_io.proofs.Writes.{Took-none, Took-trans}
 use Rattle.cpg_codec.specs.Writing.{IsPut, Puts}
 
+-- nothing is put, and the buffer stays as it is
 pub IsPut-none : (a h : List ℕ) → IsPut a a h h []
 IsPut-none a h = record { written = []; taken = Took-none a; same = append-nil h }
 
@@ -17,6 +18,7 @@ join : (h x y w v l m : List ℕ) → h ++ x ≡ w ++ l → l ++ y ≡ v ++ m �
 join h x y w v l m e f = sym (append_assoc h x y) ∙ ap (λ (t : List ℕ). t ++ y) e ∙ append_assoc w l y
     ∙ ap (λ (t : List ℕ). w ++ t) f ∙ sym (append_assoc w v m)
 
+-- two pieces that are put one after the other are put as one piece
 pub IsPut-then : (a b c h l m x y : List ℕ) → IsPut a b h l x → IsPut b c l m y → IsPut a c h m (x ++ y)
 IsPut-then a b c h l m x y p q = record {
   written = p.written ++ q.written;
@@ -24,7 +26,7 @@ IsPut-then a b c h l m x y p q = record {
   same = join h x y p.written q.written l m p.same q.same;
 }
 
--- a proper front of the first pieces is one of all
+-- if a proper front of the first piece was taken, it is one of both pieces
 pub fails_first : (a b h x y : List ℕ) → TookPrefix a b (h ++ x) → TookPrefix a b (h ++ (x ++ y))
 fails_first a b h x y p =
     let e : h ++ (x ++ y) ≡ (h ++ x) ++ y = sym (append_assoc h x y) in
@@ -34,7 +36,7 @@ fails_first a b h x y p =
     ap (take p.0) e ∙ take-append-le p.0 (h ++ x) y (omega (arith, p.1)) in
     (p.0, omega (arith, l, m, p.1), subst (Took a b) (sym t) p.2)
 
--- a proper front of what was held and the second piece, after the first
+-- if the first piece was put and a proper front of the second was taken, a proper front of both was taken
 pub fails_second : (a b c h l x y : List ℕ) → IsPut a b h l x → TookPrefix b c (l ++ y) → TookPrefix a c (h ++ (x ++ y))
 fails_second a b c h l x y p q =
     let e : h ++ (x ++ y) ≡ p.written ++ (l ++ y) =
@@ -48,12 +50,13 @@ fails_second a b c h l x y p q =
       subst (Took a c) (sym t) (Took-trans a b c p.written (take q.0 (l ++ y)) p.taken q.2),
     )
 
--- the second call's result is that of both
+-- if the first piece was put, the result for the second piece is that for both
 pub Puts-then : {E : Type 0} (a b c h l m x y : List ℕ) (r : Result Unit E) → IsPut a b h l x → Puts b c l m r y →
     Puts a c h m r (x ++ y)
 Puts-then a b c h l m x y (Ok u) p q = IsPut-then a b c h l m x y p q
 Puts-then a b c h l m x y (Err e) p q = fails_second a b c h l x y p q
 
+-- if the first of two pieces fails, both together fail
 pub Puts-first : {E : Type 0} (a b h m x y : List ℕ) (r : Result Unit E) (e : E) → r ≡ Err e → TookPrefix a b (h ++ x) →
     Puts a b h m r (x ++ y)
 Puts-first a b h m x y r e is p = rw is (fails_first a b h x y p)
@@ -61,17 +64,20 @@ Puts-first a b h m x y r e is p = rw is (fails_first a b h x y p)
 -- ---- a loop over a list
 
 module _ {X : Type 0} (f : X → List ℕ) where
+  -- the bytes of one element more are those of the elements before it, and its own
   one_more : (xs : List X) (i : ℕ) (d : X) → i < length xs →
       flat_map f (take (i + 1) xs) ≡ flat_map f (take i xs) ++ f (get_or xs i d)
   one_more xs i d lt = ap (flat_map f) (take_more xs i d lt) ∙ flat_map-append f (take i xs) (get_or xs i d ∷ [])
       ∙ ap (λ (t : List ℕ). flat_map f (take i xs) ++ t) (append-nil (f (get_or xs i d)))
 
+  -- the bytes up to an element, and those after it, are the bytes of all
   rest_after : (xs : List X) (i : ℕ) (d : X) → i < length xs →
       (flat_map f (take i xs) ++ f (get_or xs i d)) ++ flat_map f (drop (i + 1) xs) ≡ flat_map f xs
   rest_after xs i d lt =
       ap (λ (t : List ℕ). t ++ flat_map f (drop (i + 1) xs)) (sym (one_more xs i d lt))
       ∙ sym (flat_map-append f (take (i + 1) xs) (drop (i + 1) xs)) ∙ ap (flat_map f) (take-append-drop (i + 1) xs)
 
+  -- one more element of a list is put
   pub puts_more : (a b c h l m : List ℕ) (xs : List X) (i : ℕ) (d : X) → i < length xs →
       IsPut a b h l (flat_map f (take i xs)) →
       IsPut b c l m (f (get_or xs i d)) →
@@ -79,6 +85,7 @@ module _ {X : Type 0} (f : X → List ℕ) where
   puts_more a b c h l m xs i d lt p q = subst (IsPut a c h m) (sym (one_more xs i d lt))
       (IsPut-then a b c h l m (flat_map f (take i xs)) (f (get_or xs i d)) p q)
 
+  -- if the next element of a list fails, the whole list fails
   pub puts_fail : (a b c h l : List ℕ) (xs : List X) (i : ℕ) (d : X) → i < length xs →
       IsPut a b h l (flat_map f (take i xs)) →
       TookPrefix b c (l ++ f (get_or xs i d)) →
@@ -88,16 +95,19 @@ module _ {X : Type 0} (f : X → List ℕ) where
       (fails_first a c h (flat_map f (take i xs) ++ f (get_or xs i d)) (flat_map f (drop (i + 1) xs))
       (fails_second a b c h l (flat_map f (take i xs)) (f (get_or xs i d)) p q))
 
+  -- when all elements are put, the whole list is
   pub puts_all : (a b h l : List ℕ) (xs : List X) (i : ℕ) → length xs ≤ i → IsPut a b h l (flat_map f (take i xs)) →
       IsPut a b h l (flat_map f xs)
   puts_all a b h l xs i le p = subst (IsPut a b h l) (ap (flat_map f) (take_all i xs le)) p
 
+-- a failed call took a proper front of what was to be put
 pub Puts-failed : {E : Type 0} (a b h m x : List ℕ) (r : Result Unit E) (e : E) → r ≡ Err e → TookPrefix a b (h ++ x) →
     Puts a b h m r x
 Puts-failed a b h m x r e is p = rw is p
 
 -- one element more is put, if the element has a name of its own
 module _ {X : Type 0} (f : X → List ℕ) where
+  -- one more element of a list is put
   pub item_more : (a b c h l m : List ℕ) (xs : List X) (i : ℕ) (x : X) → x ≡ get_or xs i x → i < length xs →
       IsPut a b h l (flat_map f (take i xs)) →
       IsPut b c l m (f x) →
@@ -105,6 +115,7 @@ module _ {X : Type 0} (f : X → List ℕ) where
   item_more a b c h l m xs i x is lt p q =
       puts_more f a b c h l m xs i x lt p (subst (λ (y : X). IsPut b c l m (f y)) is q)
 
+  -- if this element of a list fails, the whole list fails
   pub item_fails : (a b c h l : List ℕ) (xs : List X) (i : ℕ) (x : X) → x ≡ get_or xs i x → i < length xs →
       IsPut a b h l (flat_map f (take i xs)) →
       TookPrefix b c (l ++ f x) →
@@ -112,7 +123,7 @@ module _ {X : Type 0} (f : X → List ℕ) where
   item_fails a b c h l xs i x is lt p q =
       puts_fail f a b c h l xs i x lt p (subst (λ (y : X). TookPrefix b c (l ++ f y)) is q)
 
--- what is left in the buffer is written at the end
+-- the rest of the buffer is written at the end
 pub rest_fails : {E : Type 0} (a b c h l x : List ℕ) (r : Result Unit E) → h ≡ [] → IsPut a b h l x →
     OnErr r (TookPrefix b c l) →
     OnErr r (TookPrefix a c x)

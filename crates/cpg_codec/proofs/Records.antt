@@ -48,6 +48,7 @@ second_of_3 a b c = omega arith
 third_of_3 : (a b c : ℕ) → field 2 1 (a ∷ b ∷ c ∷ []) ≡ c
 third_of_3 a b c = omega arith
 
+-- two bytes, read at once, are an edge if both are numbers of processes
 pub edge_found : (processes : ℕ) (bytes fields : List ℕ) (from to : ℕ) → 0 < processes → processes ≤ 256 →
     2 ≤ length bytes → fields ≡ two bytes → from ≡ field 0 1 fields →
     to ≡ field 1 1 fields →
@@ -62,6 +63,7 @@ edge_found processes (a ∷ b ∷ rest) fields from to some few long ef e0 e1 lf
     ∙ (edge_reads processes some few).again (from, to) rest (record { from = lf; to = lt }) ∙
     ap (λ (t : List ℕ). Ok ((from, to), t)) (sym (rest_2 a b rest))
 
+-- two bytes, read at once, are a node and a flag if both are in range
 pub place_found : (nodes ones : ℕ) (bytes fields : List ℕ) (node flag : ℕ) → 0 < nodes → nodes ≤ 256 →
     2 ≤ length bytes → fields ≡ two bytes → node ≡ field 0 1 fields →
     flag ≡ field 1 1 fields →
@@ -76,6 +78,7 @@ place_found nodes ones (a ∷ b ∷ rest) fields node flag some few long ef e0 e
     ∙ (place_reads nodes ones some few).again (node, flag) rest (omega arith, l1) ∙
     ap (λ (t : List ℕ). Ok ((node, flag), t)) (sym (rest_2 a b rest))
 
+-- three bytes, read at once, are a literal if its variable may stand here and its range is lawful
 pub literal_found : (s : VariableSpace) (left least : ℕ) (bytes fields : List ℕ) (variable low high : ℕ) → IsSpace s →
     3 ≤ length bytes → fields ≡ three bytes →
     variable ≡ field 0 1 fields →
@@ -107,6 +110,7 @@ column_long a b c d e f g h i = omega arith
 column_last : (a b c d e f g h i : ℕ) → field 8 1 (a ∷ b ∷ c ∷ d ∷ e ∷ f ∷ g ∷ h ∷ i ∷ []) ≡ i
 column_last a b c d e f g h i = omega arith
 
+-- nine bytes are read as a column's time and count of literals, if both are in range
 front_here : (s : VariableSpace) (a b c d e f g h i : ℕ) (rest fields : List ℕ) (time count : ℕ) → IsSpace s →
     IsBytes (a ∷ b ∷ c ∷ d ∷ e ∷ f ∷ g ∷ h ∷ []) →
     fields ≡ a ∷ b ∷ c ∷ d ∷ e ∷ f ∷ g ∷ h ∷ i ∷ [] → time ≡ field 0 8 fields → count ≡ field 8 1 fields
@@ -121,6 +125,7 @@ front_here s a b c d e f g h i rest fields time count k fits ef e0 e1 lt le =
     ap₂ (λ (xs : List ℕ) (m : ℕ). read_front s ((xs ++ byte m) ++ rest)) (sym q) n
     ∙ (front_reads s k).again (time, count) rest (lt, le)
 
+-- nine bytes, read at once, are a column's time and count of literals if both are in range
 pub front_found : (s : VariableSpace) (bytes fields : List ℕ) (time count : ℕ) → IsSpace s → 9 ≤ length bytes →
     IsBytes bytes → fields ≡ nine bytes →
     time ≡ field 0 8 fields →

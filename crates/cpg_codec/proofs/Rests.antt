@@ -11,10 +11,12 @@ last_part bytes front rest e =
     ap₂ (λ (n : ℕ) (bs : List ℕ). drop n bs) n e ∙ drop-append_seam front rest
 
 module _ {A : Type 0} {Fits : A → Type 0} {spell : A → List ℕ} {read : Reader A} (reads : Reads Fits spell read) where
+  -- a reader leaves no more bytes than there were
   pub left_within : (bytes : List ℕ) (x : A) (rest : List ℕ) → read bytes ≡ Ok (x, rest) → length rest ≤ length bytes
   left_within bytes x rest e = let p = (reads.takes bytes x rest e).1 in
       omega (arith, ap length p, length-append (spell x) rest)
 
+  -- the bytes that a reader leaves are the last ones of those there were
   pub left_is : (bytes : List ℕ) (x : A) (rest : List ℕ) → read bytes ≡ Ok (x, rest) →
       read bytes ≡ Ok (x, drop (length bytes - length rest) bytes)
   left_is bytes x rest e =

@@ -9,6 +9,7 @@ use Rattle.cpg_codec.specs.Grammar.{read_small}
 take_rest : (rest : List ℕ) → take (suc (length rest) - 1) rest ≡ rest
 take_rest rest = let e : suc (length rest) - 1 ≡ length rest = omega arith in rw e (take-length rest)
 
+-- a byte from low to high is read
 pub small_good : (low high b : ℕ) (rest : List ℕ) → b < 256 → low ≤ b → b ≤ high →
     read_small low high (b ∷ rest) ≡ Ok (b, rest)
 unfolding read_digits
@@ -21,6 +22,7 @@ small_good low high b rest lt lo hi =
       first_digit : (b : ℕ) → 0 * 256 + b ≡ b
       first_digit b = omega arith
 
+-- a byte below low is the first bad byte
 pub small_low : (low high b : ℕ) (rest : List ℕ) → b < low → read_small low high (b ∷ rest) ≡ Err (suc (length rest))
 unfolding read_digits
 small_low low high b rest lt =
@@ -30,6 +32,7 @@ small_low low high b rest lt =
     (le-ltb low _ (omega arith))) in
     rw t refl
 
+-- a byte above high is the first bad byte
 pub small_high : (low high b : ℕ) (rest : List ℕ) → high < b → read_small low high (b ∷ rest) ≡ Err (suc (length rest))
 unfolding read_digits
 small_high low high b rest lt =
@@ -39,6 +42,7 @@ small_high low high b rest lt =
     (lt-leb ((0 * 256 + b) * 256 ^ 0) high (omega arith))) in
     rw t refl
 
+-- without a byte the input ends too early
 pub small_end : (low high : ℕ) → read_small low high [] ≡ Err 0
 unfolding read_digits
 small_end low high = refl
@@ -51,16 +55,19 @@ small_gives low high [] some lt lo hi = absurd (omega arith)
 small_gives low high (b ∷ rest) some lt lo hi =
     small_good low high b rest lt lo hi ∙ ap (λ (t : List ℕ). Ok (b, t)) (sym (take_rest rest))
 
+-- a first byte below low is the first bad byte, as code sees it
 pub small_under : (low high : ℕ) (bytes : List ℕ) → 1 ≤ length bytes → get_or bytes 0 0 < low →
     read_small low high bytes ≡ Err (length bytes)
 small_under low high [] some lt = absurd (omega arith)
 small_under low high (b ∷ rest) some lt = small_low low high b rest lt
 
+-- a first byte above high is the first bad byte, as code sees it
 pub small_over : (low high : ℕ) (bytes : List ℕ) → 1 ≤ length bytes → high < get_or bytes 0 0 →
     read_small low high bytes ≡ Err (length bytes)
 small_over low high [] some lt = absurd (omega arith)
 small_over low high (b ∷ rest) some lt = small_high low high b rest lt
 
+-- without a byte the input ends too early, as code sees it
 pub small_none : (low high : ℕ) (bytes : List ℕ) → length bytes < 1 → read_small low high bytes ≡ Err 0
 small_none low high [] none = small_end low high
 small_none low high (b ∷ rest) none = absurd (omega arith)

@@ -7,7 +7,7 @@ use Rattle.cpg_codec.specs.Spelling.{row_bytes}
 use Rattle.cpg_codec.specs.Grammar.{IsSpace, most, read_row}
 use Rattle.cpg_codec.proofs.TableFields.{row_reads}
 
--- lawful ones are what the grammar reads
+-- a lawful row that was taken from bytes is what the grammar reads
 pub row_taken : (s : VariableSpace) (item before : ℕ) (r : Row) (bytes rest : List ℕ) → IsSpace s → before ≤ most →
     r.item ≡ item → IsLawfulRow s r →
     before + length r.columns ≤ most →

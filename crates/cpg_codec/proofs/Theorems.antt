@@ -18,19 +18,21 @@ whole_ok size (Err left) t e = absurd cc
 abbrev Trails : ℕ → Result (Tables × List ℕ) ℕ → ℕ → Type 0
 Trails size r n = (t : Tables) × (b : ℕ) × (rest : List ℕ) × (r ≡ Ok (t, b ∷ rest)) × (n ≡ size - suc (length rest))
 
+-- a refusal of all bytes comes from a refusal of the reader, or from bytes after the tables
 whole_err : (size : ℕ) (r : Result (Tables × List ℕ) ℕ) (n : ℕ) → whole size r ≡ Err n →
     ((left : ℕ) × (r ≡ Err left) × (n ≡ size - left)) ⊎ Trails size r n
 whole_err size (Ok (u, [])) n e = absurd cc
 whole_err size (Ok (u, b ∷ rest)) n e = inr (u, b, rest, refl, cc)
 whole_err size (Err left) n e = inl (left, refl, cc)
 
--- what is read is spelled so
+-- tables that are read from bytes are lawful, and the bytes are their spelling
 pub read_is_spelled : (bytes : List ℕ) (t : Tables) → read bytes ≡ Ok t → AreLawful t × (bytes ≡ spelling t)
 unfolding read
 read_is_spelled bytes t e =
     let k = tables_reads.takes bytes t [] (whole_ok (length bytes) (read_tables bytes) t e) in
     (k.0, k.1 ∙ append-nil (spelling t))
 
+-- bytes that begin with a spelling are read as its tables, and the rest is left
 read_front : (t : Tables) (rest bytes : List ℕ) → AreLawful t → bytes ≡ spelling t ++ rest →
     read_tables bytes ≡ Ok (t, rest)
 read_front t rest bytes h e = ap read_tables e ∙ tables_reads.again t rest h
@@ -38,7 +40,7 @@ read_front t rest bytes h e = ap read_tables e ∙ tables_reads.again t rest h
 read_all : (t : Tables) (bytes : List ℕ) → AreLawful t → bytes ≡ spelling t → read_tables bytes ≡ Ok (t, [])
 read_all t bytes h e = read_front t [] bytes h (e ∙ sym (append-nil (spelling t)))
 
--- what is spelled so is read
+-- the spelling of lawful tables is read as these tables
 pub spelled_is_read : (t : Tables) → AreLawful t → read (spelling t) ≡ Ok t
 unfolding read
 spelled_is_read t h = ap (whole (length (spelling t))) (read_all t (spelling t) h refl)
@@ -57,9 +59,11 @@ one_spelling t u rest ht hu e =
     let k = ok_parts t u [] rest (sym (read_all t (spelling t) ht refl) ∙ read_front u rest (spelling t) hu e) in
     (k.0, sym k.1)
 
+-- tables with the same spelling are equal
 pub one_value : OneValue
 one_value t u ht hu e = (one_spelling t u [] ht hu (e ∙ sym (append-nil (spelling u)))).0
 
+-- no spelling of tables is a proper prefix of another
 pub no_proper_prefix : NoProperPrefix
 no_proper_prefix t u rest ht hu e = (one_spelling t u rest ht hu e).1
 
@@ -113,6 +117,7 @@ take_again (suc n) zero bytes le = absurd (omega arith)
 take_again (suc n) (suc m) [] le = refl
 take_again (suc n) (suc m) (x ∷ xs) le = ap (λ (t : List ℕ). x ∷ t) (take_again n m xs (omega arith))
 
+-- no pack begins with one byte more than the good ones, if no pack goes on after these
 cut_ends : (bytes : List ℕ) (n : ℕ) (good bad : List ℕ) → bytes ≡ good ++ bad → n ≡ length good
     → ((b : ℕ) (tail : List ℕ) → bad ≡ b ∷ tail → (t : Tables) (rest : List ℕ) → AreLawful t →
     spelling t ≡ good ++ b ∷ rest → ⊥)

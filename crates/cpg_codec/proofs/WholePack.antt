@@ -10,6 +10,7 @@ use Rattle.cpg_codec.specs.declared.fault.PackFault.{PackFault}
 use Rattle.cpg_codec.specs.declared.fault.PackFault.TheVariants as faults
 use Rattle.cpg_codec.proofs.Theorems.{read_is_spelled, spelled_is_read, refused_is_bad}
 
+-- tables that are read are lawful, and the bytes are their spelling
 pub found : (bytes : List ℕ) (r : Result Tables PackFault) → Answers r (read bytes) →
     IfOk r (λ t. AreLawful t × (bytes ≡ spelling t))
 found bytes (Ok t) a = read_is_spelled bytes t a
@@ -21,6 +22,7 @@ same t u r e f = cc
 not_both : (t : Tables) (n : ℕ) (r : Result Tables ℕ) → r ≡ Err n → r ≡ Ok t → ⊥
 not_both t n r e f = cc
 
+-- bytes that spell tables are read as these tables, unless memory runs out
 pub only : (bytes : List ℕ) (r : Result Tables PackFault) → Answers r (read bytes) → (t : Tables) → AreLawful t →
     bytes ≡ spelling t →
     UnlessMemory r (λ u. u ≡ t)
@@ -28,6 +30,7 @@ only bytes (Ok u) a t h e = same t u (read bytes) a (ap read e ∙ spelled_is_re
 only bytes (Err (faults.BadPack n)) a t h e = not_both t n (read bytes) a (ap read e ∙ spelled_is_read t h)
 only bytes (Err faults.OutOfMemory) a t h e = tt
 
+-- a refusal gives the length of the longest prefix that begins some pack
 pub bad : (bytes : List ℕ) (r : Result Tables PackFault) → Answers r (read bytes) → OnBadPack r (IsBadPack bytes)
 bad bytes (Ok t) a = tt
 bad bytes (Err (faults.BadPack n)) a = refused_is_bad bytes n a

@@ -36,6 +36,7 @@ abbrev pub conditions_of : List Written → ℕ
 conditions_of [] = 0
 conditions_of (w ∷ ws) = bit w.process.condition + conditions_of ws
 
+-- counting the conditions of written processes is counting those of the processes
 pub conditions_is : (ws : List Written) →
     conditions_of ws ≡ count_by (λ (p : HeadProcess). p.condition) (map process_of ws)
 conditions_is [] = refl
@@ -44,20 +45,24 @@ conditions_is (w ∷ ws) = ap (λ (n : ℕ). bit w.process.condition + n) (condi
 
 -- ---- from parts to a head
 
+-- processes written with their extras are the same processes
 pub written_back : (ps : List HeadProcess) (es : List Extra) → map process_of (written_by ps es) ≡ ps
 written_back [] es = refl
 written_back (p ∷ ps) [] = ap (λ (qs : List HeadProcess). p ∷ qs) (written_back ps [])
 written_back (p ∷ ps) (e ∷ es) = ap (λ (qs : List HeadProcess). p ∷ qs) (written_back ps es)
 
+-- there are as many written processes as processes
 pub written_count : (ps : List HeadProcess) (es : List Extra) → length (written_by ps es) ≡ length ps
 written_count [] es = refl
 written_count (p ∷ ps) [] = ap suc (written_count ps [])
 written_count (p ∷ ps) (e ∷ es) = ap suc (written_count ps es)
 
+-- in version 1 a process has no extras
 pub none_of : (o : Option Extra) → IsExtraOf 1 o → o ≡ None
 none_of None h = refl
 none_of (Some e) h = absurd (omega (arith, h.0))
 
+-- processes of version 1 are written without extras
 pub written_none : (k n : ℕ) (ws : List Written) → AllByRecursion (IsWritten 1 k n) ws →
     written_by (map process_of ws) [] ≡ ws
 written_none k n [] h = refl
@@ -66,11 +71,13 @@ written_none k n (w ∷ ws) h =
     ap₂ (λ (v : Written) (vs : List Written). v ∷ vs)
     (ap (λ (o : Option Extra). record { process = w.process; extra = o }) (sym e)) (written_none k n ws h.1)
 
+-- one more process of version 2 is written with its extras
 one_more : (p : HeadProcess) (o : Option Extra) (ps : List HeadProcess) (es : List Extra) → IsExtraOf 2 o →
     written_by (p ∷ ps) (listed o ++ es) ≡ record { process = p; extra = o } ∷ written_by ps es
 one_more p None ps es h = absurd (omega (arith, h))
 one_more p (Some e) ps es h = refl
 
+-- processes of version 2 are written with their extras, in the same order
 pub written_some : (k n : ℕ) (ws : List Written) → AllByRecursion (IsWritten 2 k n) ws →
     written_by (map process_of ws) (flat_map listed_of ws) ≡ ws
 written_some k n [] h = refl
@@ -78,6 +85,7 @@ written_some k n (w ∷ ws) h =
     one_more w.process w.extra (map process_of ws) (flat_map listed_of ws) h.0.extra
     ∙ ap (λ (vs : List Written). w ∷ vs) (written_some k n ws h.1)
 
+-- a head that is made for a version has that version
 pub version_made : (v k : ℕ) (ns : List (List ℕ)) (ws : List Written) (es : List (ℕ × ℕ)) → 1 ≤ v → v ≤ 2 →
     version_of (head_from v k ns ws es) ≡ v
 version_made zero k ns ws es a b = absurd (omega arith)
@@ -85,6 +93,7 @@ version_made (suc zero) k ns ws es a b = refl
 version_made (suc (suc zero)) k ns ws es a b = refl
 version_made (suc (suc (suc v))) k ns ws es a b = absurd (omega arith)
 
+-- the written processes of a head are those it was made of
 pub written_made : (v k n : ℕ) (ns : List (List ℕ)) (ws : List Written) (es : List (ℕ × ℕ)) → 1 ≤ v → v ≤ 2 →
     AllByRecursion (IsWritten v k n) ws →
     written (head_from v k ns ws es) ≡ ws
@@ -93,17 +102,20 @@ written_made (suc zero) k n ns ws es a b h = written_none k n ws h
 written_made (suc (suc zero)) k n ns ws es a b h = written_some k n ws h
 written_made (suc (suc (suc v))) k n ns ws es a b h = absurd (omega arith)
 
+-- the extras of one more process of version 2 are one more, and lawful
 one_extra : (o : Option Extra) (es : List Extra) (n : ℕ) → IsExtraOf 2 o → length es ≡ n → AllByRecursion IsExtra es →
     (length (listed o ++ es) ≡ suc n) × AllByRecursion IsExtra (listed o ++ es)
 one_extra None es n h q all = absurd (omega (arith, h))
 one_extra (Some e) es n h q all = (ap suc q, (h.1, all))
 
+-- the extras of written processes of version 2 are one for each, and lawful
 extras_are : (k n : ℕ) (ws : List Written) → AllByRecursion (IsWritten 2 k n) ws →
     (length (flat_map listed_of ws) ≡ length ws) × AllByRecursion IsExtra (flat_map listed_of ws)
 extras_are k n [] h = (refl, tt)
 extras_are k n (w ∷ ws) h = let r = extras_are k n ws h.1 in
     one_extra w.extra (flat_map listed_of ws) (length ws) h.0.extra r.0 r.1
 
+-- a head that is made of lawful processes has lawful extras, if it has any
 extras_made : (v k n : ℕ) (ns : List (List ℕ)) (ws : List Written) (es : List (ℕ × ℕ)) → v ≤ 2 →
     AllByRecursion (IsWritten v k n) ws →
     IfSome (head_from v k ns ws es).extras (AreExtras (length (map process_of ws)))
@@ -117,18 +129,20 @@ extras_made (suc (suc zero)) k n ns ws es b h =
     }
 extras_made (suc (suc (suc v))) k n ns ws es b h = absurd (omega arith)
 
+-- the processes of lawful written processes are lawful, and have names
 processes_made : (v k n : ℕ) (ws : List Written) → AllByRecursion (IsWritten v k n) ws →
     AllByRecursion (IsHeadProcess k n) (map process_of ws) ×
     AllByRecursion (λ (p : HeadProcess). IsName p.name) (map process_of ws)
 processes_made v k n [] h = (tt, tt)
 processes_made v k n (w ∷ ws) h = let r = processes_made v k n ws h.1 in ((h.0.process, r.0), (h.0.name, r.1))
 
--- the processes behind `ones` processes with a condition, one for each label
+-- the processes after `ones` processes with a condition, one for each label
 pub record AreProcesses (version faults nodes count ones : ℕ) (ws : List Written) : Type 0 where
   pub count_is : length ws ≡ count
   pub each : AllByRecursion (IsWritten version faults nodes) ws
   pub conditions : ones + conditions_of ws ≤ 32
 
+-- lawful parts make a lawful head
 pub made_lawful : (v k : ℕ) (ns : List (List ℕ)) (ws : List Written) (es : List (ℕ × ℕ)) → v ≤ 2 → k ≤ 8 →
     length ns ≤ 16 → AllByRecursion IsName ns →
     length ws ≤ 128 →
@@ -154,6 +168,7 @@ made_lawful v k ns ws es newest few nodes names processes each edges ends =
 
 -- ---- from a head to its parts
 
+-- the extras of processes written with them are these extras
 extras_back : (ps : List HeadProcess) (es : List Extra) → length es ≡ length ps →
     flat_map listed_of (written_by ps es) ≡ es
 extras_back [] [] e = refl
@@ -161,6 +176,7 @@ extras_back [] (x ∷ es) e = absurd (omega (arith, e))
 extras_back (p ∷ ps) [] e = absurd (omega (arith, e))
 extras_back (p ∷ ps) (x ∷ es) e = ap (λ (xs : List Extra). x ∷ xs) (extras_back ps es (omega (arith, e)))
 
+-- a head is made of its parts, with or without extras
 head_of_parts : (k : ℕ) (ns : List (List ℕ)) (ps : List HeadProcess) (es : List (ℕ × ℕ)) (o : Option (List Extra)) →
     IfSome o (AreExtras (length ps))
     → record {
@@ -182,15 +198,18 @@ head_of_parts k ns ps es (Some xs) h =
       extras = Some ys;
     }) (sym (written_back ps xs)) (sym (extras_back ps xs h.count))
 
+-- a head is the one that its parts make
 pub head_again : (h : Head) → IsHead h → h ≡ head_from (version_of h) h.faults h.nodes (written h) h.edges
 head_again h q = head_of_parts h.faults h.nodes h.processes h.edges h.extras q.extras
 
+-- processes written without extras are lawful for version 1
 each_none : (k n : ℕ) (ps : List HeadProcess) → AllByRecursion (IsHeadProcess k n) ps →
     AllByRecursion (λ (p : HeadProcess). IsName p.name) ps →
     AllByRecursion (IsWritten 1 k n) (written_by ps [])
 each_none k n [] h names = tt
 each_none k n (p ∷ ps) h names = (record { process = h.0; name = names.0; extra = refl }, each_none k n ps h.1 names.1)
 
+-- processes written with one lawful extra each are lawful for version 2
 each_some : (k n : ℕ) (ps : List HeadProcess) (es : List Extra) → length es ≡ length ps →
     AllByRecursion (IsHeadProcess k n) ps →
     AllByRecursion (λ (p : HeadProcess). IsName p.name) ps →
@@ -203,6 +222,7 @@ each_some k n (p ∷ ps) (x ∷ es) e h names all = (
   each_some k n ps es (omega (arith, e)) h.1 names.1 all.1,
 )
 
+-- processes written with the extras of a head are lawful for its version
 each_of : (k n : ℕ) (ps : List HeadProcess) (o : Option (List Extra)) → IfSome o (AreExtras (length ps)) →
     AllByRecursion (IsHeadProcess k n) ps →
     AllByRecursion (λ (p : HeadProcess). IsName p.name) ps
@@ -210,6 +230,7 @@ each_of : (k n : ℕ) (ps : List HeadProcess) (o : Option (List Extra)) → IfSo
 each_of k n ps None q h names = each_none k n ps h names
 each_of k n ps (Some es) q h names = each_some k n ps es q.count h names (recursion_from_All IsExtra es q.each)
 
+-- the written processes of a lawful head are lawful
 pub head_processes : (h : Head) → IsPackHead h →
     AreProcesses (version_of h) h.faults (length h.nodes) (length h.processes) 0 (written h)
 head_processes h q = record {
@@ -229,19 +250,23 @@ version_either : (b : Bool) → (1 ≤ cond b 2 1) × (cond b 2 1 ≤ 2)
 version_either true = (omega arith, omega arith)
 version_either false = (omega arith, omega arith)
 
+-- a version is 1 or 2
 pub version_within : (h : Head) → (1 ≤ version_of h) × (version_of h ≤ 2)
 version_within h = version_either (is_some h.extras)
 
 -- ---- counts that are 0 if there is none below
 
+-- a limit above 0 shows that there are things to refer to
 pub limit_some : (below most n : ℕ) → n ≤ limit below most → 0 < n → 0 < below
 limit_some zero most n le some = absurd (omega arith)
 limit_some (suc below) most n le some = omega arith
 
+-- a limit is at most the greatest number
 pub limit_most : (below most : ℕ) → limit below most ≤ most
 limit_most zero most = omega arith
 limit_most (suc below) most = omega arith
 
+-- a number is within the limit, if a number above 0 needs something to refer to
 pub limit_from : (below most n : ℕ) → n ≤ most → (0 < n → 0 < below) → n ≤ limit below most
 limit_from zero most zero le some = omega arith
 limit_from zero most (suc n) le some = absurd (let h : 0 < 0 = some (omega arith) in omega arith)
@@ -251,6 +276,7 @@ some_node : (k n : ℕ) (ps : List HeadProcess) → AllByRecursion (IsHeadProces
 some_node k n [] h lt = absurd (omega arith)
 some_node k n (p ∷ ps) h lt = omega (arith, h.0.node)
 
+-- the processes of a head are within their limit
 pub processes_limit : (h : Head) → IsHead h → length h.processes ≤ limit (length h.nodes) 128
 processes_limit h q = limit_from (length h.nodes) 128 (length h.processes) q.few_processes
     (some_node h.faults (length h.nodes) h.processes
@@ -260,18 +286,21 @@ some_process : (n : ℕ) (es : List (ℕ × ℕ)) → AllByRecursion (IsHeadEdge
 some_process n [] h lt = absurd (omega arith)
 some_process n (e ∷ es) h lt = omega (arith, h.0.from)
 
+-- the edges of a head are within their limit
 pub edges_limit : (h : Head) → IsHead h → length h.edges ≤ limit (length h.processes) 256
 edges_limit h q = limit_from (length h.processes) 256 (length h.edges) q.few_edges
     (some_process (length h.processes) h.edges (recursion_from_All (IsHeadEdge (length h.processes)) h.edges q.edges))
 
 -- ---- one process after another
 
+-- without extras the written process at a place has none
 at_none : (ps : List HeadProcess) (i : ℕ) (p : HeadProcess) (d : Written) → i < length ps → p ≡ get_or ps i p →
     record { process = p; extra = None } ≡ get_or (written_by ps []) i d
 at_none [] i p d lt e = absurd (omega arith)
 at_none (q ∷ ps) zero p d lt e = ap (λ (r : HeadProcess). record { process = r; extra = None }) e
 at_none (q ∷ ps) (suc i) p d lt e = at_none ps i p d (omega arith) e
 
+-- the written process at a place has the process and the extras of that place
 at_some : (ps : List HeadProcess) (es : List Extra) (i : ℕ) (p : HeadProcess) (o : Option Extra) (d : Written) →
     length es ≡ length ps → i < length ps → p ≡ get_or ps i p →
     o ≡ slice_get es i
@@ -282,6 +311,7 @@ at_some (q ∷ ps) (x ∷ es) zero p o d n lt e f =
     ap₂ (λ (r : HeadProcess) (s : Option Extra). record { process = r; extra = s }) e f
 at_some (q ∷ ps) (x ∷ es) (suc i) p o d n lt e f = at_some ps es i p o d (omega (arith, n)) (omega arith) e f
 
+-- the written process at a place has the extras of that place, if there are any
 at_either : (ps : List HeadProcess) (xs : Option (List Extra)) (i : ℕ) (p : HeadProcess) (o : Option Extra)
     (d : Written) → IfSome xs (AreExtras (length ps)) → i < length ps →
     p ≡ get_or ps i p →
@@ -291,22 +321,26 @@ at_either ps None i p o d q lt e f =
     ap (λ (s : Option Extra). record { process = p; extra = s }) f ∙ at_none ps i p d lt e
 at_either ps (Some es) i p o d q lt e f = at_some ps es i p o d q.count lt e f
 
+-- the written process at a place has the process and the extras of that place
 pub written_at : (h : Head) (i : ℕ) (p : HeadProcess) (o : Option Extra) → IsHead h → i < length h.processes →
     p ≡ get_or h.processes i p →
     o ≡ extra_at h i →
     record { process = p; extra = o } ≡ get_or (written h) i (record { process = p; extra = o })
 written_at h i p o q lt e f = at_either h.processes h.extras i p o (record { process = p; extra = o }) q.extras lt e f
 
+-- there are as many written processes as processes
 pub written_length : (h : Head) → length (written h) ≡ length h.processes
 written_length h = written_count h.processes (unwrap_or h.extras [])
 
 -- ---- processes and extras as they are read
 
+-- without extras one more process is one more written process
 push_none : (ps : List HeadProcess) (p : HeadProcess) →
     written_by (ps ++ p ∷ []) [] ≡ written_by ps [] ++ written_with p None ∷ []
 push_none [] p = refl
 push_none (q ∷ ps) p = ap (λ (ws : List Written). written_with q None ∷ ws) (push_none ps p)
 
+-- a process with extras at the end is one more written process
 push_some : (ps : List HeadProcess) (es : List Extra) (p : HeadProcess) (e : Extra) → length es ≡ length ps →
     written_by (ps ++ p ∷ []) (es ++ e ∷ []) ≡ written_by ps es ++ written_with p (Some e) ∷ []
 push_some [] [] p e n = refl
@@ -315,6 +349,7 @@ push_some (q ∷ ps) [] p e n = absurd (omega (arith, n))
 push_some (q ∷ ps) (x ∷ es) p e n =
     ap (λ (ws : List Written). written_with q (Some x) ∷ ws) (push_some ps es p e (omega (arith, n)))
 
+-- a process and its extras at the end are one more written process
 pub written_push : (b : Bool) (ps : List HeadProcess) (es : List Extra) (p : HeadProcess) (o : Option Extra) →
     is_some o ≡ b →
     length es ≡ cond b (length ps) 0 →
@@ -325,6 +360,7 @@ written_push false ps es p (Some e) k n = absurd cc
 written_push false ps [] p None k n = push_none ps p
 written_push false ps (x ∷ es) p None k n = absurd (omega (arith, n))
 
+-- with one more process there still are extras for all processes, or for none
 pub kept_push : (b : Bool) (ps : List HeadProcess) (es : List Extra) (p : HeadProcess) (o : Option Extra) →
     is_some o ≡ b →
     length es ≡ cond b (length ps) 0 →
@@ -338,6 +374,7 @@ kept_push false ps es p None k n = let a = length-append es (listed None) in ome
 
 -- ---- a head from its parts
 
+-- a head without extras that is made of lawful parts is within its limits
 pub plain_head : (v k : ℕ) (ns : List (List ℕ)) (ps : List HeadProcess) (xs : List Extra) (es : List (ℕ × ℕ)) →
     IsPackHead (head_from v k ns (written_by ps xs) es) →
     IsHead (record { faults = k; nodes = ns; processes = ps; edges = es; extras = None })
@@ -355,6 +392,7 @@ plain_head v k ns ps xs es q =
       extras = tt;
     })
 
+-- in version 2 the extras of lawful written processes are lawful
 two_extras : (k : ℕ) (ns : List (List ℕ)) (ps : List HeadProcess) (xs : List Extra) (es : List (ℕ × ℕ)) →
     length xs ≡ length ps →
     IsPackHead (head_from 2 k ns (written_by ps xs) es) →
@@ -366,6 +404,7 @@ two_extras k ns ps xs es n q =
     (subst (λ (qs : List HeadProcess). AreExtras (length qs) (flat_map listed_of (written_by ps xs)))
     (written_back ps xs) e)
 
+-- a head of version 2 that is made of lawful parts has lawful extras for its processes
 pub made_extras : (v k : ℕ) (ns : List (List ℕ)) (ps : List HeadProcess) (xs : List Extra) (es : List (ℕ × ℕ)) → v ≡ 2 →
     length xs ≡ cond (eqb v 2) (length ps) 0 →
     IsPackHead (head_from v k ns (written_by ps xs) es) → AreExtras (length ps) xs
@@ -373,6 +412,7 @@ made_extras v k ns ps xs es e n q =
     two_extras k ns ps xs es (subst (λ (u : ℕ). length xs ≡ cond (eqb u 2) (length ps) 0) e n)
     (subst (λ (u : ℕ). IsPackHead (head_from u k ns (written_by ps xs) es)) e q)
 
+-- the parts of a head of version 1 join to the head that is made of them
 pub joined_one : (v k : ℕ) (ns : List (List ℕ)) (ps : List HeadProcess) (xs : List Extra) (es : List (ℕ × ℕ)) →
     (v ≡ 2 → ⊥) →
     record {
@@ -393,6 +433,7 @@ joined_one v k ns ps xs es e =
     })
     (sym (written_back ps xs)) (sym f)
 
+-- the parts of a head of version 2 join to the head that is made of them
 joined_some : (k : ℕ) (ns : List (List ℕ)) (ps : List HeadProcess) (xs : List Extra) (es : List (ℕ × ℕ)) →
     length xs ≡ length ps →
     record {
@@ -411,6 +452,7 @@ joined_some k ns ps xs es n =
       extras = Some ys;
     }) (sym (written_back ps xs)) (sym (extras_back ps xs n))
 
+-- the parts of a head of version 2 join to the head that is made of them
 pub joined_two : (v k : ℕ) (ns : List (List ℕ)) (ps : List HeadProcess) (xs : List Extra) (es : List (ℕ × ℕ)) → v ≡ 2 →
     length xs ≡ cond (eqb v 2) (length ps) 0
     → record {

@@ -1,4 +1,4 @@
--- What comes in a head after the names of the nodes.
+-- The part of a head after the names of the nodes.
 use Rattle.std.specs.Prelude.{ℕ, List}
 use Rattle.cpg_base.specs.declared.limits.TheConstants.{MOST_PROCESSES, MOST_EDGES}
 use Rattle.cpg_head.specs.Head.{Head}

@@ -6,10 +6,12 @@ use Rattle.cpg_codec.specs.declared.fault.PackFault.TheVariants as faults
 use Rattle.cpg_codec.specs.declared.fault.ReadError.{ReadError}
 use Rattle.cpg_codec.specs.declared.fault.ReadError.TheVariants as errors
 
+-- a reader in code fails as the grammar does, or memory runs out
 abbrev pub Fails : {Y : Type 0} → ReadError → Result Y ℕ → Type 0
 Fails errors.Memory read = Unit {0}
 Fails (errors.Left n) read = read ≡ Err n
 
+-- a reader in code gives what the grammar gives, or fails as it does
 abbrev pub Gives : {X Y : Type 0} → (X → Y) → Result X ReadError → Result Y ℕ → Type 0
 Gives view (Ok x) read = read ≡ Ok (view x)
 Gives view (Err e) read = Fails e read

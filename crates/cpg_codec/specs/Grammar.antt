@@ -21,11 +21,13 @@ use Rattle.cpg_codec.specs.Spelling.{Written, magic, bit}
 abbrev pub read_small : ℕ → ℕ → Reader ℕ
 read_small low high = read_number 1 (within low high)
 
+-- a name: its length, and its letters
 unfoldable pub read_name : Reader (List ℕ)
 read_name = do
   count ← read_small 1 32
   read_repeated (byte_by is_name_byte) count
 
+-- a time below 2^60
 unfoldable pub read_time : Reader ℕ
 read_time = read_number 8 (within 0 1152921504606846975)
 
@@ -33,6 +35,7 @@ read_time = read_number 8 (within 0 1152921504606846975)
 abbrev pub deadline_may : ℕ → ℕ → Bool
 deadline_may low below = within 0 LONGEST low below || within 18446744073709551615 18446744073709551615 low below
 
+-- an own deadline, or none
 unfoldable pub read_deadline : Reader (Option ℕ)
 read_deadline = do
   number ← read_number 8 deadline_may
@@ -54,6 +57,7 @@ read_place nodes ones = do
   flag ← read_small 0 (if nat_lt ones MOST_CONDITIONS then 1 else 0)
   pure (node, flag)
 
+-- a process, if `ones` processes before it have a condition
 unfoldable pub read_process : ℕ → ℕ → ℕ → ℕ → Reader Written
 read_process version faults nodes ones = do
   name ← read_name
@@ -62,11 +66,13 @@ read_process version faults nodes ones = do
   extra ← read_extra version
   pure (record { process = record { name = name; node = place.0; condition = place.1 == 1; times = times }; extra = extra })
 
+-- this many processes
 unfoldable pub read_processes : ℕ → ℕ → ℕ → ℕ → Reader (List Written)
 read_processes version faults nodes count =
     read_each (λ (ones : ℕ) (w : Written). ones + bit w.process.condition)
     (λ (left : ℕ) ones. read_process version faults nodes ones) (down count) 0
 
+-- an edge between two of the processes
 unfoldable pub read_edge : ℕ → Reader (ℕ × ℕ)
 read_edge processes = do
   from ← read_small 0 (processes - 1)
@@ -93,6 +99,7 @@ head_from version faults nodes ws edges = record {
   extras = if version == 2 then Some (flat_map (λ (w : Written). listed w.extra) ws) else None;
 }
 
+-- the head of a pack
 unfoldable pub read_head : Reader Head
 read_head = do
   text ← read_number 4 (within magic magic)
@@ -116,6 +123,7 @@ pub record IsSpace (s : VariableSpace) : Type 0 where
 abbrev pub fault_end : VariableSpace → ℕ
 fault_end s = limit s.faults s.processes
 
+-- whether a literal may be on a variable
 abbrev pub is_variable : VariableSpace → ℕ → Bool
 is_variable s v = nat_lt v (fault_end s) || (nat_le 128 v && nat_lt v (128 + s.conditions))
 
@@ -135,6 +143,7 @@ low_end s v = top s.faults v
 abbrev pub high_end : VariableSpace → ℕ → ℕ → ℕ
 high_end s v low = if nat_lt v 128 then (if low == 0 then s.faults - 1 else s.faults) else low
 
+-- a literal on a variable from `least` on, with `left` more after it
 unfoldable pub read_literal : VariableSpace → ℕ → ℕ → Reader Literal
 read_literal s left least = do
   variable ← byte_by (variable_may s least left)
@@ -153,6 +162,7 @@ read_front s = do
   count ← read_small 0 (variable_count_from s 0)
   pure (time, count)
 
+-- a column: its front, and its literals
 unfoldable pub read_column : VariableSpace → Reader Column
 read_column s = do
   front ← read_front s
@@ -170,6 +180,7 @@ read_row s item before = do
   columns ← read_repeated (read_column s) count
   pure (record { item = item; columns = columns })
 
+-- the rows of these items, if `before` columns have been read
 unfoldable pub read_rows : VariableSpace → List ℕ → ℕ → Reader (List Row)
 read_rows s items before = read_each (λ (c : ℕ) (r : Row). c + length r.columns) (read_row s) items before
 
@@ -188,6 +199,7 @@ table_from h node rows = record {
   hears = drop (length (sends_of h node)) (drop (length (starts_of h node)) rows);
 }
 
+-- the table of a node, if `before` columns have been read
 unfoldable pub read_node_table : Head → ℕ → ℕ → Reader NodeTable
 read_node_table h node before = do
   rows ← read_rows (space_of h) (items_of_node h node) before
@@ -198,10 +210,12 @@ unfoldable pub numbers_from : ℕ → ℕ → List ℕ
 numbers_from i zero = []
 numbers_from i (suc n) = i ∷ numbers_from (suc i) n
 
+-- the tables of all nodes
 unfoldable pub read_nodes : Head → Reader (List NodeTable)
 read_nodes h = read_each (λ (c : ℕ) (t : NodeTable). c + column_count (rows_of t)) (read_node_table h)
     (numbers_from 0 (length h.nodes)) 0
 
+-- a whole pack, and the bytes after it
 unfoldable pub read_tables : Reader Tables
 read_tables = do
   head ← read_head
@@ -214,5 +228,6 @@ whole size (Ok (tables, [])) = Ok tables
 whole size (Ok (tables, b ∷ rest)) = Err (size - suc (length rest))
 whole size (Err left) = Err (size - left)
 
+-- what all of the bytes say
 unfoldable pub read : List ℕ → Result Tables ℕ
 read bytes = whole (length bytes) (read_tables bytes)

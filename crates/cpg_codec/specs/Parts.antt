@@ -4,5 +4,6 @@ use Rattle.cpg_codec.specs.Spelling.{written_by}
 use Rattle.cpg_codec.specs.Grammar.{head_from}
 use Rattle.cpg_codec.specs.declared.head_reading.HeadParts.{HeadParts}
 
+-- the head that parts in code stand for
 abbrev pub head_of_parts : HeadParts → Head
 head_of_parts p = head_from p.version p.faults p.nodes.items (written_by p.processes.items p.extras.items) p.edges.items

@@ -14,12 +14,15 @@ use Rattle.cpg_table.specs.Lawful.{Tables, rows_of}
 abbrev pub magic : ℕ
 magic = 0x43504754
 
+-- one byte
 abbrev pub byte : ℕ → List ℕ
 byte n = n ∷ []
 
+-- 1 if something holds, and 0 if not
 abbrev pub bit : Bool → ℕ
 bit b = if b then 1 else 0
 
+-- a name: its length, and its letters
 abbrev pub name_bytes : List ℕ → List ℕ
 name_bytes text = byte (length text) ++ text
 
@@ -28,6 +31,7 @@ abbrev pub deadline_number : Option ℕ → ℕ
 deadline_number None = 18446744073709551615
 deadline_number (Some d) = d
 
+-- what version 2 adds to a process
 abbrev pub extra_bytes : Option Extra → List ℕ
 extra_bytes None = []
 extra_bytes (Some e) = to_be_bytes w64 e.release ++ to_be_bytes w64 (deadline_number e.deadline)
@@ -37,6 +41,7 @@ pub record Written : Type 0 where
   pub process : HeadProcess
   pub extra : Option Extra
 
+-- a process with what version 2 adds to it, if it does
 abbrev pub written_with : HeadProcess → Option Extra → Written
 written_with p o = record { process = p; extra = o }
 
@@ -50,13 +55,16 @@ written_by (p ∷ ps) (e ∷ es) = record { process = p; extra = Some e } ∷ wr
 abbrev pub written : Head → List Written
 written h = written_by h.processes (unwrap_or h.extras [])
 
+-- a process: its name, its node, its condition flag, its times, and what version 2 adds
 abbrev pub process_bytes : Written → List ℕ
 process_bytes w = name_bytes w.process.name ++ byte w.process.node ++ byte (bit w.process.condition)
     ++ flat_map (to_be_bytes w64) w.process.times ++ extra_bytes w.extra
 
+-- an edge: the processes that it leads from and to
 abbrev pub edge_bytes : ℕ × ℕ → List ℕ
 edge_bytes e = byte e.0 ++ byte e.1
 
+-- a head: the version and counts, the nodes, the processes and the edges
 abbrev pub head_bytes : Head → List ℕ
 head_bytes h =
     to_be_bytes w32 magic ++ byte (version_of h) ++ byte h.faults
@@ -64,12 +72,15 @@ head_bytes h =
     ++ byte (length h.processes) ++ flat_map process_bytes (written h)
     ++ to_be_bytes w16 (length h.edges) ++ flat_map edge_bytes h.edges
 
+-- a literal: its variable, and the ends of its range
 abbrev pub literal_bytes : Literal → List ℕ
 literal_bytes l = byte l.variable ++ byte l.low ++ byte l.high
 
+-- a column: its time, how many literals it has, and these
 abbrev pub column_bytes : Column → List ℕ
 column_bytes c = to_be_bytes w64 c.time ++ byte (length c.cube) ++ flat_map literal_bytes c.cube
 
+-- a row: how many columns it has, and these
 abbrev pub row_bytes : Row → List ℕ
 row_bytes r = to_be_bytes w16 (length r.columns) ++ flat_map column_bytes r.columns
 
@@ -77,5 +88,6 @@ row_bytes r = to_be_bytes w16 (length r.columns) ++ flat_map column_bytes r.colu
 abbrev pub table_bytes : NodeTable → List ℕ
 table_bytes t = flat_map row_bytes (rows_of t)
 
+-- a pack: its head, and the tables of all nodes
 abbrev pub spelling : Tables → List ℕ
 spelling t = head_bytes t.head ++ flat_map table_bytes t.nodes

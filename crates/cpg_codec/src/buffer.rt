@@ -87,6 +87,7 @@ fn push_few(bytes: &mut Vec<u8>, literals: &[Literal])
     ensures len { vec_len bytes.new ≡ vec_len bytes.old + 3 * length literals.now }
     ensures capacity { vec_capacity bytes.old ≤ vec_capacity bytes.new }
 {
+    // fewer than four
     let Some((block, rest)) = literals.split_first_chunk::<4>() else {
         push_each(bytes, literals);
         return;
@@ -132,7 +133,7 @@ impl Buffer {
         Ok(Buffer { bytes })
     }
 
-    /// For how many bytes there is room.
+    /// How many more bytes the buffer has room for.
     pub fn room(&self) -> usize
         ensures { length self.now + result ≡ 65536 }
     {
@@ -178,6 +179,7 @@ impl Buffer {
         ensures cause { HasCause (O.state sink.old).faults (O.state sink.new).faults result }
     {
         let free = self.room();
+        // the buffer doesn't get full
         if piece.len() < free {
             self.hold(piece);
             return Ok(());
@@ -194,6 +196,7 @@ impl Buffer {
         ensures put { Puts (O.state sink.old).taken (O.state sink.new).taken self.old self.new result piece.now }
         ensures cause { HasCause (O.state sink.old).faults (O.state sink.new).faults result }
     {
+        // the buffer holds the piece, after one write at most
         if piece.len() <= SIZE {
             return self.put(sink, piece);
         }

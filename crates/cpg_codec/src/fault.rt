@@ -49,7 +49,7 @@ impl From<NoMemory> for WriteFault {
     }
 }
 
-/// Why no tables came of bytes.
+/// Why bytes weren't read as tables.
 #[derive(Clone, Copy, Debug, PartialEq, Eq, Error)]
 pub enum PackFault {
     /// They are no pack. The number is the length of the longest prefix of them that is a prefix of some pack, in bytes.
@@ -105,7 +105,7 @@ impl<T: Drop> From<AllocFailed<T>> for ReadError {
 /// Why rows weren't taken as they stand.
 #[derive(Clone, Copy, Debug)]
 pub enum Untaken {
-    /// They may be no rows of a pack: reading them field by field tells.
+    /// They may be no rows of a pack: reading them field by field shows whether they are.
     Odd,
     /// Out of memory.
     Memory,

@@ -1,4 +1,4 @@
-//! Fields, read.
+//! Reading fields.
 ghost use Rattle.std.specs.Prelude.{◌≡◌, ◌≤◌, ◌<◌, ◌+◌, ℕ, List, length, Ok, Err, IfOk, ◌^◌, IsTrue, slice_index_or, ◌↔◌, ◌==◌, is_some};
 ghost use Rattle.cpg_base.specs.Name.{IsName, is_name_byte};
 ghost use Rattle.cpg_codec.specs.Reading.{read_number, within, read_repeated, byte_by};
@@ -19,6 +19,7 @@ pub fn small_of(bytes: &[u8], low: u8, high: u8) -> Result<(u8, &[u8]), ReadErro
     match bytes {
         [] => Err(ReadError::Left(0)),
         [byte, rest @ ..] => {
+            // the byte stays unread if it is out of the range
             if *byte < low {
                 return Err(ReadError::Left(bytes.len()));
             }
@@ -40,6 +41,7 @@ pub fn number_of(bytes: &[u8], width: u32, low: u64, high: u64) -> Result<(u64, 
 {
     let mut number: u64 = 0;
     let mut rest = bytes;
+    // from the high byte on; the first byte that no number of the range goes on with stays unread
     for done in 0..width {
         let after = width - 1 - done;
         match rest {
@@ -60,6 +62,7 @@ pub fn number_of(bytes: &[u8], width: u32, low: u64, high: u64) -> Result<(u64, 
     Ok((number, rest))
 }
 
+/// Whether a number is in the range from low to high.
 fn is_within(number: u64, low: u64, high: u64) -> bool
     ensures { IsTrue result ↔ (low ≤ number) × (number ≤ high) }
 {
@@ -71,6 +74,7 @@ pub fn long_of(bytes: &[u8], low: u64, high: u64) -> Result<(u64, &[u8]), ReadEr
     requires { low ≤ high }
     ensures { Gives (λ x. (x.0, x.1.now)) result (read_number 8 (within low high) bytes.now) }
 {
+    // the eight bytes at once; if that fails, byte by byte up to the place of the fault
     if let [a, b, c, d, e, f, g, h, rest @ ..] = bytes {
         let number = long_number(&Fixed::new([*a, *b, *c, *d, *e, *f, *g, *h]));
         if is_within(number, low, high) {
@@ -88,7 +92,7 @@ pub fn time_of(bytes: &[u8]) -> Result<(u64, &[u8]), ReadError>
     long_of(bytes, 0, 1152921504606846975)
 }
 
-/// Reads `count` times, and gives them with the bytes behind them.
+/// Reads `count` times, and returns them with the bytes after them.
 pub fn times_of(alloc: Global, bytes: &[u8], count: u32) -> Result<(Vec<u64>, &[u8]), ReadError>
     ensures { Gives (λ x. (x.0.items, x.1.now)) result (read_repeated read_time count bytes.now) }
 {
@@ -116,6 +120,7 @@ fn named(alloc: Global, text: &[u8]) -> Result<Name, OutOfMemory>
     requires { IsName text.now }
     ensures { IfOk result (λ name. name ≡ text.now) }
 {
+    // the bytes of a name are letters, digits and a few signs, so neither case below happens
     let Ok(text) = str::from_utf8(text) else {
         unreachable!()
     };
@@ -134,7 +139,7 @@ pub fn name_of(alloc: Global, bytes: &[u8]) -> Result<(Name, &[u8]), ReadError>
     Ok((name, rest))
 }
 
-/// Reads `count` letters of a name, and gives them with the bytes behind them.
+/// Reads `count` letters of a name, and returns them with the bytes after them.
 fn letters_of(alloc: Global, bytes: &[u8], count: u32) -> Result<(Vec<u8>, &[u8]), ReadError>
     ensures { Gives (λ x. (x.0.items, x.1.now)) result (read_repeated (byte_by is_name_byte) count bytes.now) }
 {
@@ -148,6 +153,7 @@ fn letters_of(alloc: Global, bytes: &[u8], count: u32) -> Result<(Vec<u8>, &[u8]
     Ok((letters, rest))
 }
 
+/// Whether a byte may stand in a name.
 fn is_letter(byte: u8) -> bool
     ensures { result ≡ is_name_byte byte }
 {
@@ -157,6 +163,7 @@ fn is_letter(byte: u8) -> bool
     }
 }
 
+/// A letter of a name, and the bytes after it.
 fn letter_of(bytes: &[u8]) -> Result<(u8, &[u8]), ReadError>
     ensures { Gives (λ x. (x.0, x.1.now)) result (byte_by is_name_byte bytes.now) }
 {
@@ -171,12 +178,14 @@ fn letter_of(bytes: &[u8]) -> Result<(u8, &[u8]), ReadError>
     }
 }
 
+/// Whether the bytes begin with ff, as those of no deadline do.
 fn begins_none(bytes: &[u8]) -> bool
     ensures { IsTrue result ↔ (slice_index_or bytes.now 0 0 ≡ 255) }
 {
     !bytes.is_empty() && bytes[0] == 255
 }
 
+/// The number of an own deadline, which is `u64::MAX` if there is none.
 fn deadline_number_of(bytes: &[u8]) -> Result<(u64, &[u8]), ReadError>
     ensures { Gives (λ x. (x.0, x.1.now)) result (read_number 8 deadline_may bytes.now) }
 {
@@ -193,18 +202,20 @@ pub fn own_deadline_of(bytes: &[u8]) -> Result<(Option<u64>, &[u8]), ReadError>
     ensures { Gives (λ x. (x.0, x.1.now)) result (read_deadline bytes.now) }
 {
     let (number, rest) = deadline_number_of(bytes)?;
+    // this number stands for no deadline
     if number == u64::MAX {
         return Ok((None, rest));
     }
     Ok((Some(number), rest))
 }
 
-/// What version 2 adds.
+/// What version 2 adds to a process.
 #[tactic(auto, unfolding(crate::specs::Grammar::read_extra))]
 pub fn extra_of(bytes: &[u8], version: u8) -> Result<(Option<Extra>, &[u8]), ReadError>
     ensures gives { Gives (λ x. (x.0, x.1.now)) result (read_extra version bytes.now) }
     ensures kind { IfOk result (λ x. is_some x.0 ≡ (version == 2)) }
 {
+    // version 1 says nothing more of a process
     if version != 2 {
         return Ok((None, bytes));
     }

@@ -1,4 +1,4 @@
-//! The head of a pack, read.
+//! Reading the head of a pack.
 ghost use Rattle.std.specs.Prelude.{◌≡◌, ◌≤◌, ◌<◌, ◌+◌, ◌*◌, ◌^◌, ◌==◌, is_some, IfSome, ℕ, List, length, Ok, Err, IfOk, OnOk, IsTrue, ◌↔◌, ◌++◌, nat_lt, if◌then◌else◌};
 ghost use Rattle.cpg_head.specs.Head.{IsHead};
 ghost use Rattle.cpg_codec.specs.Reading.{read_number, within, read_repeated};
@@ -21,7 +21,7 @@ use std::alloc::{AllocError, Global};
 /// The text CPGT.
 const MAGIC: u64 = 0x43504754;
 
-/// The greatest condition flag behind `ones` processes with a condition.
+/// The greatest condition flag after `ones` processes with a condition.
 fn flag_end(ones: u32) -> u8
     ensures { result ≡ (if nat_lt ones MOST_CONDITIONS then 1 else 0) }
 {
@@ -43,6 +43,7 @@ fn place_by_fields(bytes: &[u8], nodes: u8, ones: u32) -> Result<(u8, u8, &[u8])
     Ok((node, flag, rest))
 }
 
+/// Whether a node and a condition flag are in range.
 fn are_within(node: u8, flag: u8, nodes: u8, ones: u32) -> bool
     ensures { IsTrue result ↔ (node < nodes) × (flag ≤ (if nat_lt ones MOST_CONDITIONS then 1 else 0)) }
 {
@@ -54,6 +55,7 @@ fn node_and_flag(bytes: &[u8], nodes: u8, ones: u32) -> Result<(u8, u8, &[u8]), 
     requires { 0 < nodes }
     ensures { Gives (λ x. ((x.0, x.1), x.2.now)) result (read_place nodes ones bytes.now) }
 {
+    // both bytes at once; if that fails, field by field up to the place of the fault
     if let [a, b, rest @ ..] = bytes {
         let place = Fixed::new([*a, *b]);
         let node = process_node(&place);
@@ -65,7 +67,7 @@ fn node_and_flag(bytes: &[u8], nodes: u8, ones: u32) -> Result<(u8, u8, &[u8]), 
     place_by_fields(bytes, nodes, ones)
 }
 
-/// A process behind `ones` with a condition, and what version 2 says of it.
+/// A process after `ones` processes with a condition, and what version 2 says of it.
 #[tactic(auto, unfolding(crate::specs::Grammar::read_process))]
 fn process_of(
     alloc: Global,
@@ -95,12 +97,14 @@ fn process_of(
     ))
 }
 
+/// 1 if a process has a condition, and 0 if it has none.
 fn bit_of(condition: bool) -> u32
     ensures { result ≡ bit condition }
 {
     if condition { 1 } else { 0 }
 }
 
+/// Adds what version 2 says of a process, if it says anything.
 fn push_extra(extras: &mut Vec<Extra>, extra: Option<Extra>) -> Result<(), AllocError>
     ensures { OnOk result (extras.new.items ≡ extras.old.items ++ listed extra) }
 {
@@ -110,7 +114,7 @@ fn push_extra(extras: &mut Vec<Extra>, extra: Option<Extra>) -> Result<(), Alloc
     Ok(())
 }
 
-/// Reads `count` processes and what version 2 says of them, and gives the bytes behind them.
+/// Reads `count` processes and what version 2 says of them, and returns them with the bytes after them.
 fn processes_of(
     alloc: Global,
     bytes: &[u8],
@@ -137,7 +141,7 @@ fn processes_of(
     Ok((processes, extras, rest))
 }
 
-/// Reads `count` names, and gives them with the bytes behind them.
+/// Reads `count` names, and returns them with the bytes after them.
 fn names_of(alloc: Global, bytes: &[u8], count: u8) -> Result<(Vec<Name>, &[u8]), ReadError>
     ensures { Gives (λ x. (x.0.items, x.1.now)) result (read_repeated read_name count bytes.now) }
 {
@@ -162,6 +166,7 @@ fn edge_by_fields(bytes: &[u8], processes: u8) -> Result<((u32, u32), &[u8]), Re
     Ok(((from as u32, to as u32), rest))
 }
 
+/// Whether both ends of an edge are numbers of processes.
 fn are_ends(from: u8, to: u8, processes: u8) -> bool
     ensures { IsTrue result ↔ (from < processes) × (to < processes) }
 {
@@ -173,6 +178,7 @@ fn edge_of(bytes: &[u8], processes: u8) -> Result<((u32, u32), &[u8]), ReadError
     requires { 0 < processes }
     ensures { Gives (λ x. (x.0, x.1.now)) result (read_edge processes bytes.now) }
 {
+    // both bytes at once; if that fails, field by field up to the place of the fault
     if let [a, b, rest @ ..] = bytes {
         let edge = Fixed::new([*a, *b]);
         let from = edge_from(&edge);
@@ -184,7 +190,7 @@ fn edge_of(bytes: &[u8], processes: u8) -> Result<((u32, u32), &[u8]), ReadError
     edge_by_fields(bytes, processes)
 }
 
-/// Reads `count` edges, and gives them with the bytes behind them.
+/// Reads `count` edges, and returns them with the bytes after them.
 fn edges_of(
     alloc: Global,
     bytes: &[u8],
@@ -204,6 +210,7 @@ fn edges_of(
     Ok((edges, rest))
 }
 
+/// The greatest count, or 0 if there is nothing to refer to.
 fn limit_of(below: u8, most: u64) -> u64
     ensures { result ≡ limit below most }
 {
@@ -221,7 +228,7 @@ pub struct HeadParts {
     edges: Vec<(u32, u32)>,
 }
 
-/// The parts of a head, from the processes on, behind its first numbers and the names of so many nodes.
+/// The parts of a head, read from the processes on. Its first numbers and the names of its nodes are given.
 #[tactic(auto, unfolding(crate::specs::Behind::behind_names))]
 fn parts_behind(
     alloc: Global,
@@ -251,6 +258,7 @@ fn parts_behind(
     ))
 }
 
+/// The parts of a head, and the bytes after it.
 #[tactic(auto, unfolding(crate::specs::Grammar::read_head, crate::specs::Behind::behind_names))]
 fn parts_of(alloc: Global, bytes: &[u8]) -> Result<(HeadParts, &[u8]), ReadError>
     ensures gives { Gives (λ x. (head_of_parts x.0, x.1.now)) result (read_head bytes.now) }
@@ -273,6 +281,7 @@ fn joined(parts: HeadParts) -> Head
     let Some(head) = Head::new(parts.faults, parts.nodes, parts.processes, parts.edges) else {
         unreachable!()
     };
+    // version 1 has no extras
     if parts.version != 2 {
         return head;
     }

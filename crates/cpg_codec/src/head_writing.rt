@@ -1,4 +1,4 @@
-//! The head of a pack, written.
+//! Writing the head of a pack.
 ghost use Rattle.std.specs.Prelude.{◌≡◌, ◌<◌, ◌≤◌, ◌++◌, All, length};
 ghost use Rattle.std.specs.List.{flat_map};
 ghost use Rattle.std.specs.Int.{w16, w64, to_be_bytes};
@@ -13,6 +13,7 @@ use cpg_base::Name;
 use cpg_head::{Extra, Head, HeadProcess};
 use cpg_io::{Failed, Sink};
 
+/// The bytes of a name, after how many there are.
 fn put_text<O: Sink>(buffer: &mut Buffer, sink: &mut O, text: &[u8]) -> Result<(), Failed>
     requires { length text.now ≤ 32 }
     ensures put { Puts (O.state sink.old).taken (O.state sink.new).taken buffer.old buffer.new result (name_bytes text.now) }
@@ -22,6 +23,7 @@ fn put_text<O: Sink>(buffer: &mut Buffer, sink: &mut O, text: &[u8]) -> Result<(
     buffer.put(sink, text)
 }
 
+/// A name.
 fn put_name<O: Sink>(buffer: &mut Buffer, sink: &mut O, name: &Name) -> Result<(), Failed>
     ensures put { Puts (O.state sink.old).taken (O.state sink.new).taken buffer.old buffer.new result (name_bytes name.now) }
     ensures cause { HasCause (O.state sink.old).faults (O.state sink.new).faults result }
@@ -29,6 +31,7 @@ fn put_name<O: Sink>(buffer: &mut Buffer, sink: &mut O, name: &Name) -> Result<(
     put_text(buffer, sink, name.as_str().as_bytes())
 }
 
+/// Names, one after another.
 fn put_names<O: Sink>(buffer: &mut Buffer, sink: &mut O, names: &[Name]) -> Result<(), Failed>
     ensures put { Puts (O.state sink.old).taken (O.state sink.new).taken buffer.old buffer.new result (flat_map name_bytes names.now) }
     ensures cause { HasCause (O.state sink.old).faults (O.state sink.new).faults result }
@@ -39,6 +42,7 @@ fn put_names<O: Sink>(buffer: &mut Buffer, sink: &mut O, names: &[Name]) -> Resu
     Ok(())
 }
 
+/// Times, one after another.
 fn put_times<O: Sink>(buffer: &mut Buffer, sink: &mut O, times: &[u64]) -> Result<(), Failed>
     ensures put { Puts (O.state sink.old).taken (O.state sink.new).taken buffer.old buffer.new result (flat_map (to_be_bytes w64) times.now) }
     ensures cause { HasCause (O.state sink.old).faults (O.state sink.new).faults result }
@@ -49,6 +53,7 @@ fn put_times<O: Sink>(buffer: &mut Buffer, sink: &mut O, times: &[u64]) -> Resul
     Ok(())
 }
 
+/// The number that stands for an own deadline, or for none.
 fn deadline_number(deadline: Option<u64>) -> u64
     ensures { result ≡ deadline_number deadline }
 {
@@ -58,6 +63,7 @@ fn deadline_number(deadline: Option<u64>) -> u64
     }
 }
 
+/// What version 2 adds to a process, if it adds anything.
 fn put_extra<O: Sink>(buffer: &mut Buffer, sink: &mut O, extra: Option<Extra>) -> Result<(), Failed>
     ensures put { Puts (O.state sink.old).taken (O.state sink.new).taken buffer.old buffer.new result (extra_bytes extra) }
     ensures cause { HasCause (O.state sink.old).faults (O.state sink.new).faults result }
@@ -69,13 +75,14 @@ fn put_extra<O: Sink>(buffer: &mut Buffer, sink: &mut O, extra: Option<Extra>) -
     put_long(buffer, sink, deadline_number(extra.deadline))
 }
 
+/// 1 if a process has a condition, and 0 if it has none.
 fn bit_of(condition: bool) -> u8
     ensures { result ≡ bit condition }
 {
     if condition { 1 } else { 0 }
 }
 
-/// How long the executions take, and what version 2 says beside.
+/// How long the executions take, and what version 2 adds.
 fn put_timing<O: Sink>(
     buffer: &mut Buffer,
     sink: &mut O,
@@ -90,6 +97,7 @@ fn put_timing<O: Sink>(
     put_extra(buffer, sink, extra)
 }
 
+/// A process, with what version 2 adds to it.
 fn put_process<O: Sink>(
     buffer: &mut Buffer,
     sink: &mut O,
@@ -119,6 +127,7 @@ fn extra_of(head: &Head, process: u32) -> Option<Extra>
     }
 }
 
+/// The processes of a head, one after another.
 fn put_processes<O: Sink>(buffer: &mut Buffer, sink: &mut O, head: &Head) -> Result<(), Failed>
     ensures put { Puts (O.state sink.old).taken (O.state sink.new).taken buffer.old buffer.new result (flat_map process_bytes (written head.now)) }
     ensures cause { HasCause (O.state sink.old).faults (O.state sink.new).faults result }
@@ -132,6 +141,7 @@ fn put_processes<O: Sink>(buffer: &mut Buffer, sink: &mut O, head: &Head) -> Res
     Ok(())
 }
 
+/// Edges, one after another.
 fn put_edges<O: Sink>(buffer: &mut Buffer, sink: &mut O, edges: &[(u32, u32)]) -> Result<(), Failed>
     requires { All IsShortEdge edges.now }
     ensures put { Puts (O.state sink.old).taken (O.state sink.new).taken buffer.old buffer.new result (flat_map edge_bytes edges.now) }

@@ -1,4 +1,4 @@
-//! Tables are those of a pack.
+//! The tables of this library are those of a pack.
 ghost use Rattle.std.specs.Prelude.{All};
 ghost use Rattle.cpg_base.specs.Name.{IsName};
 ghost use Rattle.cpg_codec.specs.Packs.{AreLawful};
@@ -7,7 +7,7 @@ use cpg_base::Name;
 use cpg_head::HeadProcess;
 use cpg_table::Tables;
 
-/// For its contract alone: these names are lawful.
+/// These names are lawful. This function is there for its contract alone.
 fn nodes_are_named(names: &[Name])
     ensures { All IsName names.now }
 {
@@ -17,7 +17,7 @@ fn nodes_are_named(names: &[Name])
     }
 }
 
-/// Processes have names.
+/// The names of these processes are lawful.
 fn processes_are_named(processes: &[HeadProcess])
     ensures { All (λ p. IsName p.name) processes.now }
 {
@@ -27,7 +27,7 @@ fn processes_are_named(processes: &[HeadProcess])
     }
 }
 
-/// That tables are lawful: their limits are those of their types, and so are those of the names, which are gone over.
+/// These tables are lawful: their types keep the limits, and the names are visited one by one.
 pub fn tables_are_lawful(tables: &Tables)
     ensures { AreLawful tables.now }
 {

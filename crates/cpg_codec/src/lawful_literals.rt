@@ -1,4 +1,4 @@
-//! The literals of a column, judged together.
+//! Checking the literals of a column together.
 ghost use Rattle.std.specs.Prelude.{◌≡◌, ◌<◌, IsTrue, All};
 ghost use Rattle.std.specs.Bool.{OnTrue};
 ghost use Rattle.cpg_cube.specs.Cube.{IsRising};
@@ -18,7 +18,7 @@ fn is_part(space: &VariableSpace, literal: Literal) -> bool
     within & part
 }
 
-/// Whether each range is such a part: without a way out before the last, as the compiler makes fast loops of such.
+/// Whether each range is such a part. The loop never ends early, as the compiler makes fast code of such loops.
 fn are_parts(space: &VariableSpace, literals: &[Literal]) -> bool
     ensures { OnTrue result (All (λ l. l.variable < space.now.processes → IsCountLiteral space.now l) literals.now) }
 {
@@ -29,7 +29,7 @@ fn are_parts(space: &VariableSpace, literals: &[Literal]) -> bool
     are
 }
 
-/// Whether the last variable is below this, and so all are.
+/// Whether the last variable is below this, so that all are.
 fn are_below(literals: &[Literal], end: u32) -> bool
     requires { IsRising literals.now }
     ensures { OnTrue result (All (λ l. l.variable < end) literals.now) }
@@ -51,7 +51,7 @@ fn are_counts(space: &VariableSpace, literals: &[Literal]) -> bool
     are_parts(space, literals)
 }
 
-/// Whether a literal is on a variable of the tables, and its range a lawful part of the numbers of that.
+/// Whether a literal is on a variable of the tables, and its range is a lawful part of the variable's numbers.
 fn is_lawful(space: &VariableSpace, literal: Literal) -> bool
     requires { IsSpace space.now }
     ensures { IsTrue result → IsLawfulLiteral space.now literal }
@@ -78,7 +78,7 @@ pub fn are_lawful(space: &VariableSpace, literals: &[Literal]) -> bool
     requires rising { IsRising literals.now }
     ensures { OnTrue result (All (IsLawfulLiteral space.now) literals.now) }
 {
-    // most cubes speak of fault counts alone
+    // most cubes have literals on fault counts alone
     if are_counts(space, literals) {
         return true;
     }

@@ -1,4 +1,4 @@
-//! Tables, read.
+//! Reading tables.
 ghost use Rattle.std.specs.Prelude.{◌≡◌, ◌≤◌, ◌<◌, ◌+◌, ℕ, List, length, Ok, Err, IfOk};
 ghost use Rattle.cpg_table.specs.Lawful.{Tables, space_of};
 ghost use Rattle.cpg_codec.specs.Spelling.{spelling};
@@ -39,7 +39,7 @@ fn nodes_of(
     Ok(nodes)
 }
 
-/// The head, which is read then.
+/// Reads the head.
 fn next_head(alloc: Global, unread: &mut Unread) -> Result<Head, ReadError>
     ensures { Gives (λ x. (x, unread.new)) result (read_head unread.old) }
 {
@@ -49,6 +49,7 @@ fn next_head(alloc: Global, unread: &mut Unread) -> Result<Head, ReadError>
     Ok(head)
 }
 
+/// The tables of a pack, read from their head on.
 #[tactic(auto, unfolding(crate::specs::Grammar::read_tables))]
 fn tables_of(alloc: Global, unread: &mut Unread) -> Result<Tables, ReadError>
     ensures { Gives (λ x. (x, unread.new)) result (read_tables unread.old) }
@@ -59,6 +60,7 @@ fn tables_of(alloc: Global, unread: &mut Unread) -> Result<Tables, ReadError>
     Ok(Tables::of(head, nodes))
 }
 
+/// The tables that all of the bytes spell, or why there are none.
 #[tactic(auto, unfolding(crate::specs::Grammar::read))]
 fn answer_of(alloc: Global, bytes: Vec<u8>) -> Result<Tables, PackFault>
     ensures { Answers result (read bytes.items) }
@@ -80,8 +82,8 @@ fn answer_of(alloc: Global, bytes: Vec<u8>) -> Result<Tables, PackFault>
 
 /// The tables that all of the bytes spell.
 ///
-/// `BadPack` exactly if they spell none, with the length of the longest prefix of them that is a prefix of some
-/// pack. The bytes are given back as they are read.
+/// `BadPack` is returned exactly if they spell none, with the length of the longest prefix of them that is a prefix
+/// of some pack. The bytes are given back as they are read.
 pub fn read_pack(alloc: Global, bytes: Vec<u8>) -> Result<Tables, PackFault>
     ensures found { IfOk result (λ t. AreLawful t × (bytes.items ≡ spelling t)) }
     ensures only { (t : Tables) → AreLawful t → bytes.items ≡ spelling t → UnlessMemory result (λ u. u ≡ t) }

@@ -1,4 +1,4 @@
-//! Rows and their columns, read.
+//! Reading rows and their columns.
 ghost use Rattle.std.specs.Prelude.{◌≡◌, ◌≤◌, ◌<◌, ◌+◌, ◌-◌, ◌*◌, ◌^◌, IsTrue, true, ℕ, suc, List, length, Ok, Err, IfOk, if◌then◌else◌, nat_lt};
 ghost use Rattle.cpg_cube.specs.declared.literal.Literal.{Literal};
 ghost use Rattle.cpg_cube.specs.Cube.{IsRising};
@@ -31,6 +31,7 @@ fn variable_may(space: &VariableSpace, least: u32, left: u32, variable: u8) -> b
         && left <= variable_count_from(space, variable + 1)
 }
 
+/// The variable of a literal, and the bytes after it.
 fn variable_of<'a>(
     bytes: &'a [u8],
     space: &VariableSpace,
@@ -51,7 +52,7 @@ fn variable_of<'a>(
     }
 }
 
-/// A literal with `left` more behind it, field by field.
+/// A literal with `left` more after it, field by field.
 #[tactic(auto, unfolding(crate::specs::Grammar::read_literal))]
 fn literal_by_fields<'a>(
     bytes: &'a [u8],
@@ -75,7 +76,7 @@ fn literal_by_fields<'a>(
     ))
 }
 
-/// Whether a literal may stand here, with `left` more behind it.
+/// Whether a literal may stand here, with `left` more after it.
 fn is_next(space: &VariableSpace, left: u32, least: u32, literal: Literal) -> bool
     requires { IsSpace space.now }
     ensures { IsTrue result → (variable_may space.now least left literal.variable ≡ true) ×
@@ -87,7 +88,7 @@ fn is_next(space: &VariableSpace, left: u32, least: u32, literal: Literal) -> bo
     is_range(space, literal)
 }
 
-/// A literal with `left` more behind it.
+/// A literal with `left` more after it.
 fn literal_of<'a>(
     bytes: &'a [u8],
     space: &VariableSpace,
@@ -97,6 +98,7 @@ fn literal_of<'a>(
     requires { IsSpace space.now }
     ensures { Gives (λ x. (x.0, x.1.now)) result (read_literal space.now left least bytes.now) }
 {
+    // the three bytes at once; if that fails, field by field up to the place of the fault
     if let [a, b, c, rest @ ..] = bytes {
         let fields = Fixed::new([*a, *b, *c]);
         let literal = Literal {
@@ -111,7 +113,7 @@ fn literal_of<'a>(
     literal_by_fields(bytes, space, left, least)
 }
 
-/// Reads `count` literals, and gives them with the bytes behind them.
+/// Reads `count` literals, and returns them with the bytes after them.
 fn literals_of<'a>(
     alloc: Global,
     bytes: &'a [u8],
@@ -159,6 +161,7 @@ fn front_by_fields<'a>(
     Ok((time, count, rest))
 }
 
+/// Whether a column's time and count of literals are in range.
 fn is_front(space: &VariableSpace, time: u64, count: u8) -> bool
     requires { IsSpace space.now }
     ensures { IsTrue result → (time < 2 ^ 60) × (count ≤ variable_count_from space.now 0) }
@@ -171,6 +174,7 @@ fn front_of<'a>(bytes: &'a [u8], space: &VariableSpace) -> Result<(u64, u8, &'a 
     requires { IsSpace space.now }
     ensures { Gives (λ x. ((x.0, x.1), x.2.now)) result (read_front space.now bytes.now) }
 {
+    // the nine bytes at once; if that fails, field by field up to the place of the fault
     if let [a, b, c, d, e, f, g, h, i, rest @ ..] = bytes {
         let front = Fixed::new([*a, *b, *c, *d, *e, *f, *g, *h, *i]);
         let time = column_time(&front);
@@ -198,7 +202,7 @@ fn column_of<'a>(
     Ok((Column { time, cube }, rest))
 }
 
-/// Reads `count` columns, and gives them with the bytes behind them.
+/// Reads `count` columns, and returns them with the bytes after them.
 fn columns_of<'a>(
     alloc: Global,
     bytes: &'a [u8],
@@ -256,11 +260,12 @@ fn row_of<'a>(
     match take_lawful(alloc, held, bytes, space, item, before) {
         Ok(taken) => Ok(taken),
         Err(Untaken::Memory) => Err(ReadError::Memory),
+        // the row isn't lawful: to read it field by field finds the place of the fault
         Err(Untaken::Odd) => row_by_fields(alloc, bytes, space, item, before),
     }
 }
 
-/// The next row, which is read then.
+/// Reads the next row.
 fn next_row(
     alloc: Global,
     held: &mut Vec<Literal>,

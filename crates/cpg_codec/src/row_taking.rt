@@ -1,5 +1,5 @@
-//! Rows taken from bytes as they stand: the literals of a column are judged together. Reading field by field tells where bytes
-//! that make no row go wrong.
+//! Rows taken from bytes as they stand: the literals of a column are checked together. If bytes make no row, reading
+//! them field by field shows where they go wrong.
 ghost use Rattle.std.specs.Prelude.{◌≡◌, ◌≤◌, ◌+◌, ◌++◌, ◌∷◌, All, length, Ok, IfOk};
 ghost use Rattle.std.specs.List.{flat_map};
 ghost use Rattle.std.specs.Int.{w64, to_be_bytes};
@@ -26,6 +26,7 @@ fn take_front(bytes: &[u8]) -> Result<(u64, u8, &[u8]), Untaken>
     Ok((time, *count, rest))
 }
 
+/// A literal on this variable with this range.
 fn literal_of(variable: u8, low: u8, high: u8) -> Literal
     ensures { result ≡ record { variable = variable; low = low; high = high } }
 {
@@ -64,7 +65,7 @@ fn four_of(bytes: [u8; 12]) -> [Literal; 4]
     ]
 }
 
-/// Appends the first `count` literals of `bytes` to `held`, and gives the bytes behind them.
+/// Appends the first `count` literals of `bytes` to `held`, and returns the bytes after them.
 fn take_each<'a>(held: &mut Vec<Literal>, bytes: &'a [u8], count: u8) -> Result<&'a [u8], Untaken>
     ensures taken { IfOk result (λ rest. flat_map literal_bytes held.old.items ++ bytes.now ≡ flat_map literal_bytes held.new.items ++ rest.now) }
     ensures count { IfOk result (λ rest. length held.new.items ≡ length held.old.items + count) }
@@ -84,12 +85,13 @@ fn take_each<'a>(held: &mut Vec<Literal>, bytes: &'a [u8], count: u8) -> Result<
     Ok(rest)
 }
 
-/// Appends the first `count` literals of `bytes` to `held`, and gives the bytes behind them. The first four are taken
+/// Appends the first `count` literals of `bytes` to `held`, and returns the bytes after them. The first four are taken
 /// at once if there are as many.
 fn take_few<'a>(held: &mut Vec<Literal>, bytes: &'a [u8], count: u8) -> Result<&'a [u8], Untaken>
     ensures taken { IfOk result (λ rest. flat_map literal_bytes held.old.items ++ bytes.now ≡ flat_map literal_bytes held.new.items ++ rest.now) }
     ensures count { IfOk result (λ rest. length held.new.items ≡ length held.old.items + count) }
 {
+    // too few for a block of four
     if count < 4 {
         return take_each(held, bytes, count);
     }
@@ -100,7 +102,7 @@ fn take_few<'a>(held: &mut Vec<Literal>, bytes: &'a [u8], count: u8) -> Result<&
     take_each(held, behind, count - 4)
 }
 
-/// Puts the first `count` literals of `bytes` in place of those that `held` had, and gives the bytes behind them.
+/// Puts the first `count` literals of `bytes` in place of those that `held` had, and returns the bytes after them.
 /// Eight are taken at a time, as most columns have many.
 fn take_literals<'a>(
     held: &mut Vec<Literal>,
@@ -124,7 +126,7 @@ fn take_literals<'a>(
     take_few(held, rest, left)
 }
 
-/// A lawful column. `held` is for its literals, which a cube has in memory of its own.
+/// A lawful column. `held` is for its literals, which a cube keeps in its own memory.
 fn take_column<'a>(
     alloc: Global,
     held: &mut Vec<Literal>,
@@ -136,6 +138,7 @@ fn take_column<'a>(
     ensures lawful { IfOk result (λ x. IsLawfulColumn space.now x.0) }
 {
     let (time, count, rest) = take_front(bytes)?;
+    // any of these cases is left to the reader by fields, which finds the place of the fault
     if time >= TIME_END {
         return Err(Untaken::Odd);
     }
@@ -149,7 +152,7 @@ fn take_column<'a>(
     Ok((Column { time, cube }, rest))
 }
 
-/// Takes `count` lawful columns from `bytes`, and gives them with the bytes behind them.
+/// Takes `count` lawful columns from `bytes`, and returns them with the bytes after them.
 fn take_columns<'a>(
     alloc: Global,
     held: &mut Vec<Literal>,

@@ -1,4 +1,4 @@
-//! Rows and their columns, written.
+//! Writing rows and their columns.
 ghost use Rattle.std.specs.Prelude.{◌≤◌, ◌++◌, All, length};
 ghost use Rattle.std.specs.List.{flat_map};
 ghost use Rattle.std.specs.Int.{w16, w64, to_be_bytes};
@@ -63,13 +63,14 @@ fn put_parts<O: Sink>(buffer: &mut Buffer, sink: &mut O, column: &Column) -> Res
     put_counted(buffer, sink, column.cube.literals())
 }
 
-/// A column, all at once if the buffer has room for it, as it mostly has.
+/// A column: all at once if the buffer has room for it, which it usually has.
 fn put_column<O: Sink>(buffer: &mut Buffer, sink: &mut O, column: &Column) -> Result<(), Failed>
     requires { length column.now.cube ≤ 255 }
     ensures put { Puts (O.state sink.old).taken (O.state sink.new).taken buffer.old buffer.new result (column_bytes column.now) }
     ensures cause { HasCause (O.state sink.old).faults (O.state sink.new).faults result }
 {
     let literals = column.cube.literals();
+    // eight bytes of the time, one of the count, and three for each literal
     if 9 + 3 * literals.len() <= buffer.room() {
         buffer.hold_column(column.time, literals);
         return Ok(());
@@ -77,6 +78,7 @@ fn put_column<O: Sink>(buffer: &mut Buffer, sink: &mut O, column: &Column) -> Re
     put_parts(buffer, sink, column)
 }
 
+/// Columns, one after another.
 fn put_columns<O: Sink>(buffer: &mut Buffer, sink: &mut O, columns: &[Column]) -> Result<(), Failed>
     requires { All (λ c. length c.cube ≤ 255) columns.now }
     ensures put { Puts (O.state sink.old).taken (O.state sink.new).taken buffer.old buffer.new result (flat_map column_bytes columns.now) }
@@ -88,6 +90,7 @@ fn put_columns<O: Sink>(buffer: &mut Buffer, sink: &mut O, columns: &[Column]) -
     Ok(())
 }
 
+/// How many columns a row has, and these.
 fn put_row<O: Sink>(buffer: &mut Buffer, sink: &mut O, row: &Row) -> Result<(), Failed>
     requires { IsShortRow row.now }
     ensures put { Puts (O.state sink.old).taken (O.state sink.new).taken buffer.old buffer.new result (row_bytes row.now) }
@@ -98,6 +101,7 @@ fn put_row<O: Sink>(buffer: &mut Buffer, sink: &mut O, row: &Row) -> Result<(), 
     put_columns(buffer, sink, columns)
 }
 
+/// Rows, one after another.
 fn put_rows<O: Sink>(buffer: &mut Buffer, sink: &mut O, rows: &[Row]) -> Result<(), Failed>
     requires { All IsShortRow rows.now }
     ensures put { Puts (O.state sink.old).taken (O.state sink.new).taken buffer.old buffer.new result (flat_map row_bytes rows.now) }

@@ -1,4 +1,4 @@
-//! Which variables literals may speak of, and with which ranges.
+//! Which variables literals may be on, and with which ranges.
 ghost use Rattle.std.specs.Prelude.{◌≡◌, ◌≤◌, IsTrue};
 ghost use Rattle.cpg_table.specs.Lawful.{space_of};
 ghost use Rattle.cpg_codec.specs.Grammar.{fault_end, is_variable, variable_count_from, IsSpace, low_end, high_end};

@@ -1,10 +1,10 @@
-//! Bytes that are read from the front on.
+//! Bytes that are read from front to back.
 ghost use Rattle.std.specs.Prelude.{◌≡◌, ◌-◌, ◌≤◌, length, drop};
 
 use std::marker::Model;
 
-/// Bytes whose front is read, seen as those behind it. The memory of the front is given back on the way, as the tables that
-/// are made of it take as much.
+/// Bytes whose front is read, seen as the bytes after it. The memory of the front is freed on the way, as the tables
+/// that are made of it take just as much.
 #[derive(Drop)]
 pub struct Unread {
     bytes: Vec<u8>,
@@ -22,7 +22,7 @@ impl Model for Unread {
 }
 
 impl Unread {
-    /// Bytes of which none is read.
+    /// Bytes of which none is read yet.
     pub fn new(bytes: Vec<u8>) -> Unread
         ensures { result ≡ bytes.items }
     {
@@ -47,7 +47,7 @@ impl Unread {
         }
     }
 
-    /// Gives back the memory of the bytes that are read.
+    /// Frees the memory of the bytes that are read.
     fn give_back(&mut self)
         ensures { self.new ≡ self.old }
     {

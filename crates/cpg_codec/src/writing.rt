@@ -1,4 +1,4 @@
-//! Tables, written.
+//! Writing tables.
 ghost use Rattle.std.specs.Prelude.{◌≡◌, ◌≤◌, [], Err, OnOk, OnErr};
 ghost use Rattle.std.specs.List.{flat_map};
 ghost use Rattle.cpg_io.specs.Causes.{HasCause, Rose};
@@ -14,6 +14,7 @@ use cpg_io::{Failed, Sink};
 use cpg_table::Tables;
 use std::alloc::Global;
 
+/// The tables of all nodes, one after another.
 fn put_nodes<O: Sink>(buffer: &mut Buffer, sink: &mut O, tables: &Tables) -> Result<(), Failed>
     ensures put { Puts (O.state sink.old).taken (O.state sink.new).taken buffer.old buffer.new result (flat_map table_bytes tables.now.nodes) }
     ensures cause { HasCause (O.state sink.old).faults (O.state sink.new).faults result }
@@ -25,6 +26,7 @@ fn put_nodes<O: Sink>(buffer: &mut Buffer, sink: &mut O, tables: &Tables) -> Res
     Ok(())
 }
 
+/// The head, and the tables of all nodes.
 fn put_tables<O: Sink>(buffer: &mut Buffer, sink: &mut O, tables: &Tables) -> Result<(), Failed>
     ensures put { Puts (O.state sink.old).taken (O.state sink.new).taken buffer.old buffer.new result (spelling tables.now) }
     ensures cause { HasCause (O.state sink.old).faults (O.state sink.new).faults result }

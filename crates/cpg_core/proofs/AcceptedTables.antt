@@ -15,6 +15,7 @@ use Rattle.cpg_core.specs.CompileLaws.{AcceptedHaveTables}
 use Rattle.cpg_core.proofs.Compilations.{compilation}
 use Rattle.cpg_core.proofs.CompiledLaws.{compile_topological, first_topological}
 
+-- an accepted graph in which no item is too wide by its views has tables with its greatest finish
 pub accepted_have_tables : AcceptedHaveTables
 accepted_have_tables g urgency guards finish a narrow is =
     let order = is.order in

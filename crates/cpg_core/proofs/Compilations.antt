@@ -49,7 +49,7 @@ nothing_late g urgency order frozen peak is none =
     let run = is.least.holds in
     subst (IsLeastExceeding g run.0 peak.time) none (is.by run.0 run.1)
 
--- an end is one of all
+-- an end of a process is one of the list of all ends
 end_listed : (os : List (Option ℕ)) (p e : ℕ) → get_or os p None ≡ Some e → Contains (flat_map option_to_list os) e
 end_listed [] p e h = absurd (none-some e h)
 end_listed (o ∷ os) zero e h = Contains-append_left (option_to_list o) (flat_map option_to_list os) e
@@ -63,6 +63,7 @@ module _ (g : Graph) (urgency order : List ℕ) (b : Grown) (is : IsGrownFor g u
   abbrev pub late_times : Times
   late_times = is.excess.least.holds.0
 
+  -- the scenario that is shown has the run of its late times
   pub late_run : IsRun g order b.trees.frozen b.excess.scenario late_times
   late_run = is.excess.least.holds.1
 
@@ -76,10 +77,11 @@ module _ (g : Graph) (urgency order : List ℕ) (b : Grown) (is : IsGrownFor g u
   end_is : end_in late_times p ≡ due g p + b.excess.time
   end_is = omega (arith, exceeds.0, exceeds.1)
 
+  -- the late process ends there as far past its due as the excess says
   pub late_end : get_or late_times.ends p None ≡ Some (due g p + b.excess.time)
   late_end = some_end (get_or late_times.ends p None) (due g p) (omega (arith, exceeds.0, exceeds.1)) ∙ ap Some end_is
 
-  -- it is a process
+  -- the late process is one of the graph
   pub late_process : p < process_count g
   late_process = elim (cases_lt p (length late_times.ends)) [
     | inl lt ↦ omega (
@@ -131,10 +133,12 @@ found_measured g urgency order t is = record {
   is_worst = is.worst;
 }
 
+-- an excess above 0 makes the order late
 pub late_under : (g : Graph) (urgency order : List ℕ) (t : Grown) → IsGrownFor g urgency order t → 0 < t.excess.time →
     IsLateUnder g urgency order
 late_under g urgency order t is l = (t.excess.time, t.worst.time, found_measured g urgency order t is, l)
 
+-- if the tables have no excess, the order is in time
 pub in_time_under : (g : Graph) (urgency order : List ℕ) (b : Built) → IsBuiltFor g urgency order b → b.excess ≡ 0 →
     IsInTimeUnder g urgency order
 in_time_under g urgency order b is e =
@@ -145,12 +149,12 @@ pub some_shown : (g : Graph) (urgency order : List ℕ) (t : Grown) → IsGrownF
     t.excess.process ≡ None → ⊥
 some_shown g urgency order t is l e = omega (arith, nothing_late g urgency order t.trees.frozen t.excess is.excess e)
 
--- nothing is late under the order that compiles the graph
+-- given: the orders of a well-formed graph
 module _ (g : Graph) (w : WellFormed g) (urgency : List ℕ) (top : IsTopological g urgency)
     (first_top : IsTopological g (first_order g urgency))
     (narrow : g.order ≡ None → IsNarrow g (first_order g urgency))
     (joins : HasSingleJoins g) (by : IsUrgencyOrder g urgency) where
-  -- tables under it are its compilation
+  -- tables that are built under that order are its compilation
   pub compilation : (order : List ℕ) → IsCompileOrder g urgency order → (b : Built) → IsBuiltFor g urgency order b →
       DoTablesFit g b.tables.nodes → b.excess ≡ 0 →
       IsCompilation g urgency (record { built = b; order = order })

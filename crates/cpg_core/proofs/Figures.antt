@@ -20,6 +20,7 @@ use Rattle.cpg_core.proofs.CompiledLaws.{not_preferred_given, not_preferred_many
 use Rattle.cpg_core.proofs.CompiledLaws.{not_preferred_worse, one_measure, preferred}
 use Rattle.cpg_core.proofs.MeasuredFrom.{measured_from}
 
+-- the figures of an order are its measures
 pub figures_measure : (g : Graph) → WellFormed g → (urgency order : List ℕ) → IsTopological g order →
     (excess worst : ℕ) → HasFigures g order excess worst →
     IsMeasured g urgency order excess worst
@@ -28,15 +29,17 @@ figures_measure g w urgency order top excess worst h =
 
 module _ (g : Graph) (w : WellFormed g) (urgency : List ℕ) (top : IsTopological g urgency)
     (first_top : IsTopological g (first_order g urgency)) where
+  -- given: the figures of the first order
   module _ (narrow : g.order ≡ None → IsNarrow g (first_order g urgency)) (e v : ℕ)
       (first : HasFigures g (first_order g urgency) e v) where
     own : IsMeasured g urgency (first_order g urgency) e v
     own = figures_measure g w urgency (first_order g urgency) first_top e v first
 
-    -- the first order is taken
+    -- the first order, as the order that is taken
     abbrev pub by_first : TakenOrder
     by_first = record { figures = record { excess = e; worst = v }; order = None }
 
+    -- the first order is taken if the graph gives one, if it has many tracks, or if the track order is too wide
     pub first_given : g.order ≢ None → IsTaken g urgency by_first
     first_given given = record {
       taken = inr (refl, not_preferred_given g w urgency top first_top narrow e v own given);
@@ -46,6 +49,7 @@ module _ (g : Graph) (w : WellFormed g) (urgency : List ℕ) (top : IsTopologica
       late = λ l. ((e, v, own, l), inl given);
     }
 
+    -- the first order is taken if the graph has many tracks
     pub first_many : HasManyTracks g → IsTaken g urgency by_first
     first_many many = record {
       taken = inr (refl, not_preferred_many g w urgency top first_top narrow e v own many);
@@ -55,6 +59,7 @@ module _ (g : Graph) (w : WellFormed g) (urgency : List ℕ) (top : IsTopologica
       late = λ l. ((e, v, own, l), inr (inl many));
     }
 
+    -- the first order is taken if an item is too wide under the track order
     pub first_wide : (order : List ℕ) → HasTrackOrder g order → (x : ℕ) → IsWide g order x → IsTaken g urgency by_first
     first_wide order track x wide = record {
       taken = inr (refl, not_preferred_wide g w urgency top first_top narrow e v own order track x wide);
@@ -64,11 +69,13 @@ module _ (g : Graph) (w : WellFormed g) (urgency : List ℕ) (top : IsTopologica
       late = λ l. ((e, v, own, l), inr (inr (order, track, inl (x, wide))));
     }
 
+    -- given: the figures of the track order
     module _ (order : List ℕ) (track : HasTrackOrder g order) (order_top : IsTopological g order) (f u : ℕ)
         (figures : HasFigures g order f u) where
       other : IsMeasured g urgency order f u
       other = figures_measure g w urgency order order_top f u figures
 
+      -- if the track order is no better, the first order is taken
       pub first_better : (IsBetter f u e v → ⊥) → IsTaken g urgency by_first
       first_better worse = record {
         taken = inr (refl, not_preferred_worse g w urgency top first_top narrow e v own order track f u other worse);
@@ -93,7 +100,7 @@ module _ (g : Graph) (w : WellFormed g) (urgency : List ℕ) (top : IsTopologica
         );
       }
 
-      -- the track order is
+      -- if the track order is better and no item is too wide under it, it is taken
       pub tracks_better : IsNarrow g order → g.order ≡ None → IsBetter f u e v →
           IsTaken g urgency (record { figures = record { excess = f; worst = u }; order = Some order })
       tracks_better own_narrow ungiven better = record {
@@ -108,7 +115,7 @@ module _ (g : Graph) (w : WellFormed g) (urgency : List ℕ) (top : IsTopologica
         );
       }
 
-    -- the track order is the first one
+    -- if the track order is the first order, that is taken
     pub first_same : (order : List ℕ) → HasTrackOrder g order → order ≡ first_order g urgency →
         IsTaken g urgency by_first
     first_same order track same =
@@ -118,17 +125,18 @@ module _ (g : Graph) (w : WellFormed g) (urgency : List ℕ) (top : IsTopologica
   -- ---- what is found by the trees of the first order
 
   module _ (first : Grown) (is : IsGrownFor g urgency (first_order g urgency) first) where
-    -- has the figures that it has
+    -- if something is late under the first order, the trees that are grown for it have an excess
     pub grown_late : IsLateUnder g urgency (first_order g urgency) → 0 < first.excess.time
     grown_late h = let same = one_measure g w urgency (first_order g urgency) first_top first.excess.time
         first.worst.time h.0 h.1 (found_measured g urgency (first_order g urgency) first is) h.2 in
         omega (arith, same.0, h.3)
 
+    -- if the first order has no excess, the trees that are grown for it have none
     pub grown_in_time : (e v : ℕ) → IsMeasured g urgency (first_order g urgency) e v → e ≡ 0 → first.excess.time ≡ 0
     grown_in_time e v m z = (one_measure g w urgency (first_order g urgency) first_top first.excess.time
         first.worst.time e v (found_measured g urgency (first_order g urgency) first is) m).0 ∙ z
 
-    -- without a track order
+    -- if the graph has many tracks, the first order is taken
     pub grown_many : (g.order ≡ None → IsNarrow g (first_order g urgency)) → HasManyTracks g →
         IsTaken g urgency
         (record { figures = record { excess = first.excess.time; worst = first.worst.time }; order = None })
@@ -145,7 +153,7 @@ module _ (g : Graph) (w : WellFormed g) (urgency : List ℕ) (top : IsTopologica
           late = λ l. ((first.excess.time, first.worst.time, found, l), inr (inl many));
         }
 
-  -- what is found by those of the order that is taken
+  -- if an order has no excess, the trees that are grown for it have none
   pub tracked_in_time : (order : List ℕ) → IsTopological g order → (t : Grown) → IsGrownFor g urgency order t →
       (e v : ℕ) → IsMeasured g urgency order e v → e ≡ 0 →
       t.excess.time ≡ 0

@@ -24,25 +24,32 @@ first_of_option : (o : Option ℕ) → slice_get (option_to_list o) 0 ≡ o
 first_of_option None = refl
 first_of_option (Some x) = refl
 
+-- given: tables with the times of the runs under an order, and a run
+-- `times`: in each scenario the tables have the times of the run. `is`, `run`: t is the run of the scenario s.
 module _ (g : Graph) (order : List ℕ) (frozen : List (Option ℕ)) (tables : List NodeTable)
     (times : HasRunTimes g order frozen tables) (s : Scenario) (is : IsScenario g s) (t : Times)
     (run : IsRun g order frozen s t) where
   time_is : (x : ℕ) → time_of tables x s ≡ get_or t.times x None
   time_is x = ap (λ ts. slice_get ts 0) (times s t x is run) ∙ first_of_option (get_or t.times x None)
 
+  -- an end is seen in the run exactly as the tables show it
   pub end_is_seen : (time p : ℕ) → p < process_count g → seen_end g s t time p ≡ end_seen g tables s time p
   end_is_seen time p l = ap (λ o. seen time o (fault_of s p ∷ value_in_key s.values (condition_of g p)))
       (end_is g order frozen s t run p l
       ∙ ap (option_map (λ start. start + duration g p (fault_of s p))) (sym (time_is p)))
 
+  -- a frame is seen in the run exactly as the tables show it
   pub frame_is_seen : (time x : ℕ) → seen_frame g s t time x ≡ frame_seen g tables s time x
   frame_is_seen time x =
       ap (λ o. seen time (option_map (λ start. start + slot_length g (home g x)) o) (value_of_frame s (item_at g x)))
       (sym (time_is x))
 
+-- given: a well-formed graph with single joins, and its orders
+-- `urgent`: `urgency` is the urgency order. `top`, `first_top`: it and the first order are topological.
 module _ (g : Graph) (w : WellFormed g) (joins : HasSingleJoins g) (urgency : List ℕ)
     (urgent : IsUrgencyOrder g urgency) (top : IsTopological g urgency)
     (first_top : IsTopological g (first_order g urgency)) where
+  -- the tables that are built under the compile's order have local knowledge
   pub know_locally : (order : List ℕ) → IsCompileOrder g urgency order → (b : Built) → IsBuiltFor g urgency order b →
       KnowLocally g b.tables.nodes
   know_locally order taken b is node time s u ls lu alike =

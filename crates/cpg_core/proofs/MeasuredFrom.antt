@@ -10,8 +10,10 @@ use Rattle.cpg_latest.specs.Laws.{HasGreatest}
 use Rattle.cpg_core.specs.Compiled.{IsMeasured}
 use Rattle.cpg_core.proofs.BuiltExists.{measured_exists}
 
+-- given: a well-formed graph, and the frozen times of an order
 module _ (g : Graph) (w : WellFormed g) (urgency order : List ℕ) (top : IsTopological g order)
     (frozen : List (Option ℕ)) (times : AreFrozenTimes g order frozen) where
+  -- the greatest excess and the greatest finish of all runs are the measures of the order
   pub measured_from : (excess worst : ℕ) → HasGreatest g order frozen excess worst →
       IsMeasured g urgency order excess worst
   measured_from excess worst h =

@@ -19,7 +19,7 @@ use Rattle.cpg_core.proofs.CompiledLaws.{compile_topological, one_compile_order}
 
 module _ (g : Graph) (w : WellFormed g) (urgency : List ℕ) (top : IsTopological g urgency)
     (first_top : IsTopological g (first_order g urgency)) where
-  -- what is built under one order
+  -- given: two builds under one order
   module _ (order : List ℕ) (topological : IsTopological g order) (b d : Built) (x : IsBuiltFor g urgency order b)
       (y : IsBuiltFor g urgency order d) where
     same_frozen : b.frozen ≡ d.frozen
@@ -36,6 +36,7 @@ module _ (g : Graph) (w : WellFormed g) (urgency : List ℕ) (top : IsTopologica
         x.exact.times s run.0 n is run.1
         ∙ sym (y.exact.times s run.0 n is (subst (λ f. IsRun g order f s run.0) same_frozen run.1))
 
+  -- two compilations of a graph ask the same in every scenario
   pub ask_the_same : (c d : Compiled) → IsCompilation g urgency c → IsCompilation g urgency d → AskTheSame g c d
   ask_the_same c d x y =
       let same : d.order ≡ c.order =

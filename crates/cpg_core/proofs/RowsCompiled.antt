@@ -19,9 +19,11 @@ use Rattle.cpg_core.specs.Compiled.{IsCompileOrder}
 use Rattle.cpg_core.proofs.Compilations.{compilation}
 use Rattle.cpg_core.proofs.CompiledLaws.{compile_topological}
 
+-- given: an admitted graph in which no item is too wide, if it gives no order
 module _ (g : Graph) (urgency : List ℕ) (guards : Guards) (a : IsAdmitted g urgency guards)
     (first_top : IsTopological g (first_order g urgency))
     (narrow : g.order ≡ None → IsNarrow g (first_order g urgency)) where
+  -- rows that are built under the compile's order, with nothing late, are those of its compilations
   pub compiled_rows : (t : Grown) (r : BuiltRows) → AreBuiltRows g urgency t.order r → r.excess ≡ t.excess →
       t.excess.time ≡ 0 → IsCompileOrder g urgency t.order →
       AreCompiledRows g urgency r

@@ -17,10 +17,14 @@ order_taken first (Some order) = order
 -- the compile's order with its greatest excess and greatest finish; if something is late under it, something is under
 -- the first order, and nothing helps
 pub record IsTaken (g : Graph) (urgency : List ℕ) (t : TakenOrder) : Type 0 where
+  -- the order is the compile's
   pub taken : IsCompileOrder g urgency (order_taken (first_order g urgency) t.order)
+  -- the figures are its greatest excess and its greatest finish
   pub measured : IsMeasured g urgency (order_taken (first_order g urgency) t.order) t.figures.excess t.figures.worst
   pub topological : IfSome t.order (IsTopological g)
+  -- no item has too many views under it
   pub narrow : IfSome t.order (IsNarrow g)
+  -- if it is late, the first order is too, and no track order helps
   pub late : 0 < t.figures.excess → IsLateUnder g urgency (first_order g urgency) × IsHelpless g urgency
 
 -- the graph is compiled, with this greatest finish

@@ -22,11 +22,17 @@ use Rattle.cpg_core.specs.Compiled.{IsCompiled, IsLate, IsShownLate}
 -- The tables for the compile's order are exact and keep all ten rules, and `c` has their greatest finish. No row has
 -- too many columns, nor have all rows together. Nothing is late, and no node knows more than it has seen.
 pub record IsCompilation (g : Graph) (urgency : List ℕ) (c : Compiled) : Type 0 where
+  -- the order is the one that compiles the graph
   pub compiled : IsCompiled g urgency c.order
+  -- the tables have the times of the runs under it
   pub built : IsBuiltFor g urgency c.order c.built
+  -- no end is past its due
   pub in_time : c.built.excess ≡ 0
+  -- all ten rules hold
   pub valid : IsValid g c.built.tables.nodes
+  -- neither a row nor all rows together have too many columns
   pub fit : DoTablesFit g c.built.tables.nodes
+  -- a node that has seen the same does the same
   pub local : KnowLocally g c.built.tables.nodes
 
 -- What is made under the order that a graph gives is too large: a tree on the way to its rows, or, if nothing is late,
@@ -37,6 +43,7 @@ pub record HasWideRows (g : Graph) (urgency order : List ℕ) : Type 0 where
   pub in_time : grown.excess.time ≡ 0
   pub rows : HaveWideRows g urgency grown.trees.forest.times
 
+-- some tree along the order is too large, or the rows are
 abbrev pub IsTooLarge : Graph → List ℕ → List ℕ → Type 0
 IsTooLarge g urgency order = HasLargeTree g urgency order ⊎ HasWideRows g urgency order
 

@@ -48,10 +48,11 @@ fn are_same(first: &Order, second: &Order) -> bool
     first.processes() == second.processes()
 }
 
-/// Whether the excess is less, or as much and the finish earlier.
+/// Whether the excess is less, or the excess is equal and the finish earlier.
 fn is_better(figures: &Figures, other: &Figures) -> bool
     ensures { IsTrue result ↔ IsBetter figures.now.excess figures.now.worst other.now.excess other.now.worst }
 {
+    // the same excess: the finish decides
     if figures.excess == other.excess {
         return figures.worst < other.worst;
     }
@@ -64,6 +65,7 @@ pub(crate) fn wide_if_urgent(alloc: Global, admitted: &Admitted) -> Result<Optio
     ensures none { IfOk result (λ found. IfNone found
         (admitted.now.graph.order ≡ None → IsNarrow admitted.now.graph (first_order admitted.now.graph admitted.now.order))) }
 {
+    // with a given order this isn't asked: its trees are bounded while they grow
     if admitted.given().is_some() {
         return Ok(None);
     }
@@ -71,7 +73,7 @@ pub(crate) fn wide_if_urgent(alloc: Global, admitted: &Admitted) -> Result<Optio
     Ok(found)
 }
 
-/// What is taken, given the figures of the first order and the track order of a graph that gives none.
+/// The order that is taken, given the figures of the first order and the track order of a graph that gives no order.
 fn taken_of_tracks(
     alloc: Global,
     admitted: &Admitted,
@@ -88,13 +90,16 @@ fn taken_of_tracks(
     ensures { IfOk result (IsTaken admitted.now.graph admitted.now.order) }
 {
     let first_order = admitted.first_order();
+    // the track order is the first one: there is no other figure to find
     if are_same(&order, first_order) {
         return Ok(TakenOrder::first(first));
     }
     let figures = latest(alloc, admitted, &order, tracks)?;
+    // the track order is no better
     if !is_better(&figures, &first) {
         return Ok(TakenOrder::first(first));
     }
+    // the track order is better, but an item would be too wide under it
     if let Some(_) = too_wide(alloc, admitted, &order)? {
         return Ok(TakenOrder::first(first));
     }
@@ -115,9 +120,11 @@ pub(crate) fn choose(
     ensures { IfOk result (IsTaken admitted.now.graph admitted.now.order) }
 {
     let first = latest(alloc, admitted, admitted.first_order(), tracks)?;
+    // the order that the graph gives is always taken
     if admitted.given().is_some() {
         return Ok(TakenOrder::first(first));
     }
+    // the graph has no track order
     let Some(order) = merged_order(alloc, admitted)? else {
         return Ok(TakenOrder::first(first));
     };

@@ -27,7 +27,8 @@ pub struct Compiled {
     pub order: Order,
 }
 
-/// An end that is past its due by so much; none is later than the greatest. The contract alone names `worst`.
+/// An end that is past its due by an excess. No end is later than the greatest finish. The contract alone names
+/// `worst`.
 fn end_past(due: u64, excess: u64, worst: u64) -> u64
     requires { due + excess ≤ worst }
     ensures { result ≡ due + excess }
@@ -35,7 +36,8 @@ fn end_past(due: u64, excess: u64, worst: u64) -> u64
     due + excess
 }
 
-/// That a process ends past its due under the first order, by the greatest excess, with its end in the scenario of that.
+/// The fault that a process ends past its due under the first order: the process of the greatest excess, with its end
+/// in the scenario of that excess.
 pub(crate) fn late(admitted: &Admitted, first: Grown) -> CompileFault
     requires grown { IsGrownFor admitted.now.graph admitted.now.order (first_order admitted.now.graph admitted.now.order) first }
     requires narrow { admitted.now.graph.order ≡ None → IsNarrow admitted.now.graph (first_order admitted.now.graph admitted.now.order) }
@@ -45,6 +47,7 @@ pub(crate) fn late(admitted: &Admitted, first: Grown) -> CompileFault
 {
     let problem = admitted.problem();
     let Grown { worst, excess, .. } = first;
+    // an excess above 0 has a process
     let Some(process) = excess.process else {
         unreachable!()
     };
@@ -69,7 +72,8 @@ fn grow_given(alloc: Global, admitted: &Admitted, order: Order) -> Result<Grown,
     }
 }
 
-/// What is found under the urgency order of a graph that gives none. `TooWide` shows that an item has too many views.
+/// What is found under the urgency order of a graph that gives no order. `TooWide` shows that an item has too many
+/// views.
 fn grow_urgent(alloc: Global, admitted: &Admitted, order: Order) -> Result<Grown, CompileFault>
     requires topological { IsTopological admitted.now.graph order }
     requires first { order ≡ first_order admitted.now.graph admitted.now.order }
@@ -92,6 +96,7 @@ pub(crate) fn grow_first(alloc: Global, admitted: &Admitted) -> Result<Grown, Co
     ensures fault { IfErr result (ShowsCompileFault admitted.now.graph admitted.now.order) }
 {
     let order = admitted.first_order().copy()?;
+    // a given order is grown within bounds on its trees; the urgency order has bounds on the views of items
     if admitted.given().is_some() {
         let grown = grow_given(alloc, admitted, order)?;
         return Ok(grown);
@@ -129,12 +134,13 @@ fn grow_tracks(alloc: Global, admitted: &Admitted, order: Order) -> Result<Grown
 {
     match grow(alloc, admitted, order) {
         Ok(grown) => Ok(grown),
+        // the order was taken only because no item is too wide under it
         Err(BuildFault::TooWide(_)) => unreachable!(),
         Err(BuildFault::OutOfMemory) => Err(OutOfMemory),
     }
 }
 
-/// That a process ends past its due, of a graph that is late.
+/// The fault that a process ends past its due, for a graph that is late.
 pub(crate) fn shown_late(alloc: Global, admitted: &Admitted) -> CompileFault
     requires late { IsLateUnder admitted.now.graph admitted.now.order (first_order admitted.now.graph admitted.now.order) }
     requires helpless { IsHelpless admitted.now.graph admitted.now.order }
@@ -171,6 +177,7 @@ fn compile_untracked(alloc: Global, admitted: &Admitted) -> Result<BuiltRows, Co
     // called for its contract: the graph is admitted
     let _order = admitted.first_order();
     let first = grow_first(alloc, admitted)?;
+    // some process ends past its due
     if first.excess.time > 0 {
         return Err(late(admitted, first));
     }
@@ -224,22 +231,26 @@ fn compile_taken(
     }
 }
 
-/// The rows of a graph under the order that compiles it: the order that the graph gives; else the track order if it gives a lesser
-/// greatest excess than the urgency order, or an equal one and an earlier greatest finish; and else the urgency order. Under it every
-/// process ends by its due in every scenario, and each node starts and sends the same if it has seen the same. The latest times of at
-/// most 256 tracks tell which order that is; the trees of the other aren't made.
+/// The rows of a graph under the order that compiles it: the order that the graph gives; else the track order if it
+/// gives a lesser greatest excess than the urgency order, or an equal one and an earlier greatest finish; and else
+/// the urgency order. Under it every process ends by its due in every scenario, and each node starts and sends the
+/// same if it has seen the same. The latest times of at most 256 tracks decide which order that is, and the trees of
+/// the other order are not made.
 pub fn compile_rows(alloc: Global, admitted: &Admitted) -> Result<BuiltRows, CompileFault>
     ensures rows { IfOk result (AreCompiledRows admitted.now.graph admitted.now.order) }
     ensures fault { IfErr result (ShowsCompileFault admitted.now.graph admitted.now.order) }
 {
+    // too many tracks to choose by: the first order is taken
     let Some(tracks) = track_outcomes(alloc, admitted)? else {
         let rows = compile_untracked(alloc, admitted)?;
         return Ok(rows);
     };
+    // an item has too many views under the urgency order
     if let Some(item) = wide_if_urgent(alloc, admitted)? {
         return Err(CompileFault::TooWide(item));
     }
     let taken = choose(alloc, admitted, tracks.as_slice())?;
+    // even the better order has an end past its due; the fault names the first order's
     if taken.figures.excess > 0 {
         return Err(shown_late(alloc, admitted));
     }

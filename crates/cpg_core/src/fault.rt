@@ -6,7 +6,7 @@ use cpg_base::{OutOfMemory, Scenario};
 /// that is too large comes before a late process, and rows that are too long come after it.
 #[derive(Drop)]
 pub enum CompileFault {
-    /// An item is too wide under the first order: the least such item.
+    /// An item is too wide under the first order. The least such item is shown.
     TooWide(u32),
     /// Some process ends past its due, under the first order.
     Late {

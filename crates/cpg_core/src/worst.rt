@@ -27,7 +27,7 @@ fn grow_narrow_first(alloc: Global, admitted: &Admitted) -> Result<Grown, OutOfM
     Ok(grown)
 }
 
-/// That a process of a graph in which no item is too wide ends past its due.
+/// The fault that a process ends past its due, for a graph in which no item is too wide.
 fn late_narrow(admitted: &Admitted, first: Grown) -> CompileFault
     requires grown { IsGrownFor admitted.now.graph admitted.now.order (first_order admitted.now.graph admitted.now.order) first }
     requires narrow { IsNarrow admitted.now.graph (first_order admitted.now.graph admitted.now.order) }
@@ -38,7 +38,7 @@ fn late_narrow(admitted: &Admitted, first: Grown) -> CompileFault
     late(admitted, first)
 }
 
-/// That a process ends past its due, of a late graph in which no item is too wide.
+/// The fault that a process ends past its due, for a late graph in which no item is too wide.
 fn shown_late_narrow(alloc: Global, admitted: &Admitted) -> CompileFault
     requires narrow { IsNarrow admitted.now.graph (first_order admitted.now.graph admitted.now.order) }
     requires late { IsLateUnder admitted.now.graph admitted.now.order (first_order admitted.now.graph admitted.now.order) }
@@ -53,7 +53,7 @@ fn shown_late_narrow(alloc: Global, admitted: &Admitted) -> CompileFault
     }
 }
 
-/// The greatest finish by the trees of the first order alone, of a graph that has no track order.
+/// The greatest finish by the trees of the first order alone, for a graph that has no track order.
 fn grown_finish(alloc: Global, admitted: &Admitted) -> Result<u64, CompileFault>
     requires many { HasManyTracks admitted.now.graph }
     requires narrow { IsNarrow admitted.now.graph (first_order admitted.now.graph admitted.now.order) }
@@ -86,10 +86,10 @@ fn narrow_finish(alloc: Global, admitted: &Admitted) -> Result<u64, CompileFault
     Ok(taken.figures.worst)
 }
 
-/// The greatest finish of a graph that is compiled, in time units: that of the tables that `compile` makes, which aren't made. If
-/// the graph has at most 256 tracks and nothing is late, no tree is made either: the latest times of the tracks tell it. `TooWide`
-/// shows the least item that is too wide by its views under the first order, whether or not the graph gives one; views are counted
-/// once.
+/// The greatest finish of a graph that is compiled, in time units: that of the tables that `compile` would make. The
+/// tables are not made. If the graph has at most 256 tracks and nothing is late, no tree is made either: the finish
+/// follows from the latest times of the tracks. `TooWide` shows the least item that is too wide by its views under
+/// the first order, whether or not the graph gives one; views are counted once.
 pub fn greatest_finish(alloc: Global, admitted: &Admitted) -> Result<u64, CompileFault>
     ensures narrow { IfOk result (λ _. IsNarrow admitted.now.graph (first_order admitted.now.graph admitted.now.order)) }
     ensures accepted { IfOk result (IsAccepted admitted.now.graph admitted.now.order) }

@@ -20,6 +20,7 @@ use Rattle.cpg_cube.proofs.Boxes.{number_within}
 use Rattle.cpg_cover.proofs.CoverLaws.{part_none}
 use Rattle.cpg_cube.proofs.Narrow.{matches-narrowed}
 
+-- the first scenario that passes a test, if there is one, is a scenario of the graph
 pub lawful_if_some : (g : Graph) (order : List ℕ) (test : Scenario → Bool) (o : Option Scenario) →
     IsFirst g order test o →
     IfSome o (IsScenario g)
@@ -51,6 +52,7 @@ shared false u true false d e = refl
 shared false u false true d e = refl
 shared false u false false d e = refl
 
+-- a list of cubes, a cube, and the variable by whose numbers the cube is split
 module _ (g : Graph) (order : List ℕ) (by : List (List Literal)) (cube : List Literal) (v : ℕ) where
   -- the number and no other
   abbrev pub only : ℕ → Literal
@@ -67,9 +69,11 @@ module _ (g : Graph) (order : List ℕ) (by : List (List Literal)) (cube : List 
       ∙ ap (λ b. is_left_below m s || (b && not (list_any (λ b. matches b s) by)))
       (sym (matches-narrowed s (only m) cube))
 
+  -- nothing is left with a number below 0
   pub none_at_first : IsFirst g order (is_left_below 0) None
   none_at_first s i = and_right (is_left by cube s) (nat_lt (number_of s v) 0) (le-ltb (number_of s v) 0 (omega arith))
 
+  -- the earlier of what is found below a number and what is left at it is first of what is left below the next
   pub with_part : (m : ℕ) (found next : Option Scenario) → IsFirst g order (is_left_below m) found →
       IsFirst g order (is_left by (narrowed_by (only m) cube)) next →
       IsFirst g order (is_left_below (m + 1)) (earlier g order found next)
@@ -77,6 +81,7 @@ module _ (g : Graph) (order : List ℕ) (by : List (List Literal)) (cube : List 
       (is_left_below (m + 1)) (earlier g order found next) (λ s i. sym (grown m s))
       (first_or g order (is_left_below m) (is_left by (narrowed_by (only m) cube)) found next f h)
 
+  -- if the cube can't have the number, what is found below it is first of what is left below the next
   pub without_part : (m : ℕ) (found : Option Scenario) → with_literal (only m) cube ≡ None →
       IsFirst g order (is_left_below m) found →
       IsFirst g order (is_left_below (m + 1)) found
@@ -84,6 +89,7 @@ module _ (g : Graph) (order : List ℕ) (by : List (List Literal)) (cube : List 
       (λ s i. sym (grown m s ∙ ap (λ b. is_left_below m s || b) (part_none g order by (only m) cube e s i)
       ∙ or-false (is_left_below m s))) f
 
+  -- so it is if no scenario of the cube with the number is before what is found
   pub late_part : (m : ℕ) (found : Option Scenario) → IsLate g order (narrowed_by (only m) cube) found →
       IsFirst g order (is_left_below m) found →
       IsFirst g order (is_left_below (m + 1)) found
@@ -98,6 +104,7 @@ module _ (g : Graph) (order : List ℕ) (by : List (List Literal)) (cube : List 
         (or_cases _ _ (sym (grown m t) ∙ k));
   }
 
+  -- what is first below the number after the top is first of all that is left
   pub all_at_last : (few : process_count g ≤ 128) (found : Option Scenario) → IsVariable g v →
       IsFirst g order (is_left_below (top g.faults v + 1)) found →
       IsFirst g order (is_left by cube) found

@@ -33,6 +33,7 @@ matches_permutation one other s p = same_truth (matches one s) (matches other s)
     (λ t. all_from (holds s) one (λ l c. from_all (holds s) other l t (Contains-permutation one other l p c)))
 
 module _ (g : Graph) (order : List ℕ) where
+  -- the earlier of an answer and none is the answer
   pub earlier_none : (o : Option Scenario) → earlier g order o None ≡ o
   earlier_none None = refl
   earlier_none (Some s) = refl
@@ -61,25 +62,30 @@ module _ (g : Graph) (order : List ℕ) where
       ∙ sym (ap (λ u. matches cube s && not u) all))
       f
     where
+      -- two negations are the negation of either
       neither : (y z : Bool) → (not y && not z) ≡ not (z || y)
       neither true true = refl
       neither true false = refl
       neither false true = refl
       neither false false = refl
 
+      -- within the cube (x), what the literals match (z) is what the taken cube matches (w)
       none_of_either : (x y z w : Bool) → (x ≡ true → z ≡ w) → ((x && not y) && not z) ≡ (x && not (w || y))
       none_of_either true y z w e = ap (λ u. not y && not u) (e refl) ∙ neither y w
       none_of_either false y z w e = refl
 
+-- given a list of cubes: a scenario is left in a cube if no cube of the list matches it
 module _ (g : Graph) (few : process_count g ≤ 128) (order : List ℕ) (by : List (List Literal)) where
   -- ---- beside a literal
 
+  -- an answer for the range below a literal is one for the scenarios left that have a lower number
   pub first_below : (l : Literal) (cube : List Literal) (o : Option Scenario) →
       IfSome (range_below l) (λ m. IsFirst g order (is_left by (narrowed_by m cube)) o) →
       IfNone (range_below l) (o ≡ None)
       → IsFirst g order (λ s. is_below_range g few order by l s && is_left by cube s) o
   first_below l cube o some none = by_case (nat_lt 0 l.low) refl some none
     where
+      -- by whether the range has a number below it
       by_case : (b : Bool) → nat_lt 0 l.low ≡ b →
           IfSome (cond b (Some (record { variable = l.variable; low = 0; high = l.low - 1 })) None)
           (λ m. IsFirst g order (is_left by (narrowed_by m cube)) o)
@@ -91,12 +97,14 @@ module _ (g : Graph) (few : process_count g ≤ 128) (order : List ℕ) (by : Li
           subst (IsFirst g order (λ s. is_below_range g few order by l s && is_left by cube s)) (sym n)
           (none_below g few order by l cube (omega arith))
 
+  -- an answer for the range above a literal is one for the scenarios left that have a higher number
   pub first_above : (l : Literal) (cube : List Literal) (o : Option Scenario) → IsVariable g l.variable →
       IfSome (range_above g.faults l) (λ m. IsFirst g order (is_left by (narrowed_by m cube)) o) →
       IfNone (range_above g.faults l) (o ≡ None)
       → IsFirst g order (λ s. is_above_range g few order by l s && is_left by cube s) o
   first_above l cube o known some none = by_case (nat_lt l.high (top g.faults l.variable)) refl some none
     where
+      -- by whether the range has a number above it
       by_case : (b : Bool) → nat_lt l.high (top g.faults l.variable) ≡ b →
           IfSome
           (cond b (Some (record { variable = l.variable; low = l.high + 1; high = top g.faults l.variable })) None)
@@ -114,9 +122,12 @@ module _ (g : Graph) (few : process_count g ≤ 128) (order : List ℕ) (by : Li
 
   -- ---- outside literals
 
+  -- nothing is left outside a cube without literals
   pub outside_none : (cube : List Literal) → IsFirst g order (λ s. is_left by cube s && not (matches [] s)) None
   outside_none cube = λ s i. and_right (is_left by cube s) false refl
 
+  -- The first scenario left outside a cube is below the first literal, above it, or within it and outside the rest.
+  -- `x`, `y`, `z` are the answers for these three parts, and `gathered` shows that the parts are the whole.
   pub outside_one : (l : Literal) (ls cube : List Literal) (below above within : Option Scenario)
       → IsFirst g order (λ s. is_below_range g few order by l s && is_left by cube s) below
       → IsFirst g order (λ s. is_above_range g few order by l s && is_left by cube s) above
@@ -140,6 +151,8 @@ module _ (g : Graph) (few : process_count g ≤ 128) (order : List ℕ) (by : Li
       (first_or g order (λ s. is_below_range g few order by l s && is_left by cube s)
       (λ s. is_above_range g few order by l s && is_left by cube s) below above x y) z)
     where
+      -- A truth table: a below, b above, h within the literal's range (exactly if neither), m in the cube, u left by
+      -- the list, r in the other literals.
       gathered : (a b h m u r : Bool) → not h ≡ (a || b) →
           (((a && (m && u)) || (b && (m && u))) || (((h && m) && u) && not r)) ≡ ((m && u) && not (h && r))
       gathered true true true m u r e = cc
@@ -181,16 +194,19 @@ module _ (g : Graph) (few : process_count g ≤ 128) (order : List ℕ) (by : Li
 
 -- ---- a cube narrowed by a literal
 
+-- given a literal by which a cube is narrowed
 module _ (g : Graph) (order : List ℕ) (by : List (List Literal)) (l : Literal) (cube : List Literal) where
   -- if the literal leaves no number, nothing is left
   pub part_none : with_literal l cube ≡ None → IsFirst g order (is_left by (narrowed_by l cube)) None
   part_none e = λ s i. and_left (matches (narrowed_by l cube) s) (not (list_any (λ b. matches b s) by))
       (matches-narrowed s l cube ∙ with-none s l cube e)
 
+  -- if the literal leaves the cube no number, nothing is left within it
   pub within_none : (ls : List Literal) → with_literal l cube ≡ None →
       IsFirst g order (λ s. is_left by (narrowed_by l cube) s && not (matches ls s)) None
   within_none ls e = λ s i. and_left (is_left by (narrowed_by l cube) s) (not (matches ls s)) (part_none e s i)
 
+  -- the cube narrowed by the literal, and a list of cubes that leaves the same of it
   module _ (c : List Literal) (some : with_literal l cube ≡ Some c) (kept : List (List Literal))
       (same : (s : Scenario) → IsScenario g s → is_left kept c s ≡ is_left by c s) where
     -- the cubes that are kept leave the same

@@ -162,6 +162,7 @@ module _ (g : Graph) (few : process_count g ≤ 128) where
           (record { variable = l.variable; low = l.high + 1; high = top g.faults l.variable }) cube known is)
       one false h = absurd (Contains-nil c h)
 
+  -- the parts of a cube outside another are cubes of the graph
   pub parts_are : (ls cube : List Literal) → All (λ l. IsVariable g l.variable) ls → IsCube g cube →
       (c : List Literal) → Contains (parts_outside g.faults ls cube) c → IsCube g c
   parts_are [] cube known is c k = absurd (Contains-nil c k)
@@ -186,12 +187,14 @@ module _ (g : Graph) (few : process_count g ≤ 128) where
       ∙ ap (λ x. x && not (list_any (λ d. matches d s) bs)) (matches_parts g few s i b cube known)
       ∙ none_of_either (matches cube s) (matches b s) (list_any (λ d. matches d s) bs)
     where
+      -- a test that doesn't depend on the part may stand outside
       both_any : (u : Bool) (cs : List (List Literal)) →
           list_any (λ c. matches c s && u) cs ≡ (list_any (λ c. matches c s) cs && u)
       both_any u [] = refl
       both_any u (c ∷ cs) =
           ap (λ x. (matches c s && u) || x) (both_any u cs) ∙ spread (matches c s) (list_any (λ d. matches d s) cs) u
         where
+          -- the same of two parts
           spread : (x y z : Bool) → ((x && z) || (y && z)) ≡ ((x || y) && z)
           spread true true true = refl
           spread true false true = refl
@@ -199,13 +202,14 @@ module _ (g : Graph) (few : process_count g ≤ 128) where
           spread true false false = refl
           spread false y z = refl
 
+      -- outside of b and of the others is outside of either
       none_of_either : (x y z : Bool) → ((x && not y) && not z) ≡ (x && not (y || z))
       none_of_either true true z = refl
       none_of_either true false z = refl
       none_of_either false y z = refl
 
   module _ (order : List ℕ) where
-    -- by answers to the parts
+    -- the first of the answers to the parts is the answer to the cube with one cube more in the list
     pub left_by_parts : (b : List Literal) (bs : List (List Literal)) (cube : List Literal)
         (answer : List Literal → Option Scenario) →
         All (λ l. IsVariable g l.variable) b
@@ -226,6 +230,7 @@ module _ (g : Graph) (few : process_count g ≤ 128) where
     when_met by cube o is f false e = left_of_none g order by cube (λ s i.
         false_from_ne_true (matches cube s) (λ t. both_ways (is_met g.faults cube) e (met_by g few cube is s i t)))
 
+    -- the answer of the search is the first scenario that the cube matches and no cube of the list does
     pub uncovered_is : (by : List (List Literal)) (cube : List Literal) → All (All (λ l. IsVariable g l.variable)) by →
         IsCube g cube →
         IsFirst g order (is_left by cube) (uncovered g order by cube)

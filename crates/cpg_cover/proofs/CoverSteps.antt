@@ -41,6 +41,7 @@ module _ (g : Graph) (few : process_count g ≤ 128) (order : List ℕ) (by : Li
 
   -- ---- the parts below and above a literal
 
+  -- what is left of the part below a literal's range is what is left with a lower number
   pub left_below : (l : Literal) (rest : List Literal) (o : Option Scenario) → 0 < l.low → IsFirst g order
       (is_left by (narrowed_by (record { variable = l.variable; low = 0; high = l.low - 1 }) rest)) o →
       IsFirst g order (λ s. is_below_range l s && is_left by rest s) o
@@ -53,6 +54,7 @@ module _ (g : Graph) (few : process_count g ≤ 128) (order : List ℕ) (by : Li
       (λ t. let h = ltb-true (number_of s l.variable) l.low t in holds-from s m (omega arith) (omega arith)))
       f
 
+  -- what is left of the part above a literal's range is what is left with a higher number
   pub left_above : (l : Literal) (rest : List Literal) (o : Option Scenario) → IsVariable g l.variable →
       IsFirst g order (is_left by
       (narrowed_by (record { variable = l.variable; low = l.high + 1; high = top g.faults l.variable }) rest)) o →
@@ -73,6 +75,7 @@ module _ (g : Graph) (few : process_count g ≤ 128) (order : List ℕ) (by : Li
   none_below l rest e =
       λ s i. and_left (is_below_range l s) (is_left by rest s) (le-ltb (number_of s l.variable) l.low (omega arith))
 
+  -- nothing is left above a range that goes up to the top
   pub none_above : (l : Literal) (rest : List Literal) → IsVariable g l.variable → top g.faults l.variable ≤ l.high →
       IsFirst g order (λ s. is_above_range l s && is_left by rest s) None
   none_above l rest known h = λ s i. and_left (is_above_range l s) (is_left by rest s)
@@ -81,17 +84,20 @@ module _ (g : Graph) (few : process_count g ≤ 128) (order : List ℕ) (by : Li
 -- ---- what an answer says
 
 module _ (g : Graph) (order : List ℕ) (by : List (List Literal)) (cube : List Literal) where
+  -- if no scenario is left, each that the cube matches is matched by a cube of the list
   pub covered_from_none : IsFirst g order (is_left by cube) None → (s : Scenario) → IsScenario g s →
       matches cube s ≡ true →
       list_any (λ b. matches b s) by ≡ true
   covered_from_none f s i t =
       not-false (list_any (λ b. matches b s) by) (sym (ap (λ b. b && not (list_any (λ b. matches b s) by)) t) ∙ f s i)
 
+  -- if each scenario that the cube matches is matched by a cube of the list, none is left
   pub none_from_covered :
       ((s : Scenario) → IsScenario g s → matches cube s ≡ true → list_any (λ b. matches b s) by ≡ true) →
       IsFirst g order (is_left by cube) None
   none_from_covered h = λ s i. neither (matches cube s) (list_any (λ b. matches b s) by) (h s i)
 
+  -- the first scenario that is left is matched by the cube and by no cube of the list
   pub left_from_some : (s : Scenario) → IsFirst g order (is_left by cube) (Some s) →
       (matches cube s ≡ true) × (list_any (λ b. matches b s) by ≡ false)
   left_from_some s f =
@@ -100,8 +106,10 @@ module _ (g : Graph) (order : List ℕ) (by : List (List Literal)) (cube : List 
 
   -- ---- the whole search: None exactly if all is covered, else the least that isn't
 
+  -- the cubes of the list are on variables of the graph, and the cube is one of it
   module _ (few : process_count g ≤ 128) (known : All (All (λ l. IsVariable g l.variable)) by)
       (is : IsCube g cube) where
+    -- the search finds nothing exactly if each scenario that the cube matches is matched by one of the list
     pub none_where_covered : (uncovered g order by cube ≡ None) ↔
         ((s : Scenario) → IsScenario g s → matches cube s ≡ true → list_any (λ b. matches b s) by ≡ true)
     none_where_covered = (
@@ -118,6 +126,7 @@ module _ (g : Graph) (order : List ℕ) (by : List (List Literal)) (cube : List 
         not_some (Some s) f h = let r = left_from_some s f in
             absurd (both_ways (list_any (λ b. matches b s) by) r.1 (h s f.lawful r.0))
 
+    -- a scenario that the search finds is the least that is left
     pub some_is_least : (s : Scenario) → uncovered g order by cube ≡ Some s →
         IsLeast g order (λ t. IsTrue (is_left by cube t)) s
     some_is_least s e = subst (IsFirst g order (is_left by cube)) e (uncovered_is g few order by cube known is)

@@ -29,26 +29,32 @@ module _ {X : Type 0} (test : X → Bool) (xs : List X) (i : ℕ) (d : X) (h : i
   taken_any = ap (list_any test) (take_more xs i d h) ∙ list_any-append test (take i xs) (get_or xs i d ∷ [])
       ∙ ap (λ b. list_any test (take i xs) || b) (or-false (test (get_or xs i d)))
 
+  -- if the first elements pass and the next does, too, one more passes
   pub all_one_more : list_all test (take i xs) ≡ true → test (get_or xs i d) ≡ true →
       list_all test (take (i + 1) xs) ≡ true
   all_one_more a b = taken_all ∙ and_from _ _ a b
 
+  -- if some of the first elements passes, some of one more does
   pub any_of_before : list_any test (take i xs) ≡ true → list_any test (take (i + 1) xs) ≡ true
   any_of_before a = taken_any ∙ or_left _ _ a
 
+  -- if the next element passes, some of one more does
   pub any_of_last : test (get_or xs i d) ≡ true → list_any test (take (i + 1) xs) ≡ true
   any_of_last a = taken_any ∙ or_right _ _ a
 
+-- if all elements pass, all but the last do, and the last one does
 pub all_before_last : {X : Type 0} (test : X → Bool) (xs : List X) (x : X) → list_all test (xs ++ x ∷ []) ≡ true →
     (list_all test xs ≡ true) × (test x ≡ true)
 all_before_last test xs x t = let r = and_parts _ _ (sym (list_all-append test xs (x ∷ [])) ∙ t) in
     (r.0, (and_parts _ _ r.1).0)
 
+-- if some element passes, one before the last does, or the last one does
 pub any_before_last : {X : Type 0} (test : X → Bool) (xs : List X) (x : X) → list_any test (xs ++ x ∷ []) ≡ true →
     (list_any test xs || test x) ≡ true
 any_before_last test xs x t =
     ap (λ b. list_any test xs || b) (sym (or-false (test x))) ∙ sym (list_any-append test xs (x ∷ [])) ∙ t
 
+-- if some element passes after one was put in, one of the others does, or that one does
 pub any_inserted : {X : Type 0} (test : X → Bool) (xs : List X) (i : ℕ) (x : X) → list_any test (insert xs i x) ≡ true →
     (list_any test xs || test x) ≡ true
 any_inserted test [] zero x t = sym (or-false (test x)) ∙ t
@@ -68,23 +74,29 @@ any_inserted test (y ∷ ys) (suc i) x t = ⊎_elim
     (or_cases _ _ (any_inserted test ys i x a)))
     (or_cases (test y) (list_any test (insert ys i x)) t)
 
+-- what follows from either of two tests follows from their disjunction
 pub carried : (a b c : Bool) → (a || b) ≡ true → (a ≡ true → c ≡ true) → (b ≡ true → c ≡ true) → c ≡ true
 carried a b c t f h = ⊎_elim f h (or_cases a b t)
 
 -- ---- one cube
 
+-- a literal holds if the variable's number is between its low and its high
 pub held : (n : ℕ → ℕ) (l : Literal) → l.low ≤ n l.variable → n l.variable ≤ l.high → holds_at n l ≡ true
 held n l a b = and_from _ _ (le-leb l.low (n l.variable) a) (le-leb (n l.variable) l.high b)
 
+-- if a literal holds, the number of its variable is at least the low
 pub held_low : (n : ℕ → ℕ) (l : Literal) → holds_at n l ≡ true → l.low ≤ n l.variable
 held_low n l t = leb-true l.low (n l.variable) (and_parts _ _ t).0
 
+-- if a literal holds, the number of its variable is at most the high
 pub held_high : (n : ℕ → ℕ) (l : Literal) → holds_at n l ≡ true → n l.variable ≤ l.high
 held_high n l t = leb-true (n l.variable) l.high (and_parts (nat_le l.low (n l.variable)) _ t).1
 
+-- the number of one variable is at most the sum of all
 pub counted : (n : ℕ → ℕ) (count v : ℕ) → v < count → n v ≤ sum_by n (numbers_below count)
 counted n count v h = le-sum_by n (numbers_below count) v (Contains-numbers count v h)
 
+-- if a literal that doesn't hold takes r faults, a cube with it takes the lesser of r and what it took before
 pub outside_more : (ls : List Literal) (i : ℕ) (d : Literal) (a r : ℕ) → i < length ls → NeedsOutside (take i ls) a →
     (0 < r → (get_or ls i d).variable < 128)
     → ((n : ℕ → ℕ) → holds_at n (get_or ls i d) ≡ false → r ≤ n (get_or ls i d).variable) →
@@ -104,6 +116,7 @@ outside_more ls i d a r h f small g count e n t = ⊎_elim
         (λ (p : r ≤ 0). omega arith)
         (cases_lt 0 r)
 
+-- if no cube of a list is matched, the faults are at least the greatest number that one cube takes
 pub each_more : (cubes : List (List Literal)) (i : ℕ) (d : List Literal) (a r : ℕ) → i < length cubes →
     Needs (take i cubes) a →
     NeedsOutside (get_or cubes i d) r →
@@ -114,14 +127,17 @@ each_more cubes i d a r h f g count e n values t =
     let y = g count e n (false_from_ne_true _ (λ k. both_ways _ t (any_of_last (matches_at n) cubes i d h k))) in
     omega arith
 
+-- every list takes at least 0 faults
 pub needs_nothing : (cubes : List (List Literal)) → Needs cubes 0
 needs_nothing cubes count e n values t = omega arith
 
 -- ---- a step of one variable
 
+-- after a step, the variable's number is one less
 pub after_here : (v : ℕ) (n : ℕ → ℕ) → after v n v ≡ n v - 1
 after_here v n = cond-true (v == v) (n v - 1) (n v) (eq-eqb v v refl)
 
+-- after a step, the numbers of other variables are the same
 pub after_other : (v u : ℕ) (n : ℕ → ℕ) → v ≢ u → after v n u ≡ n u
 after_other v u n h = cond-false (v == u) (n u - 1) (n u) (ne_eqb v u h)
 
@@ -167,6 +183,7 @@ by_step : (cubes rest : List (List Literal)) (v : ℕ) (more : Bool) (budget r c
 by_step cubes rest v more budget r count n keeps needs e values is t =
     needs count e (after v n) (after_values v n values) (false_from_ne_true _ (λ k. both_ways _ t (keeps n is k)))
 
+-- faults that are needed after the step to 0 are needed if the variable is 0
 pub without_from : (cubes rest : List (List Literal)) (v budget r : ℕ) → Steps cubes v false budget rest →
     Needs rest r →
     NeedsWithout cubes v budget r
@@ -176,6 +193,7 @@ without_from cubes rest v budget r keeps needs count e n values none few t =
     (step_from v false budget count n e values (λ k. none) (λ k. cc) (omega arith)) t in
     omega arith
 
+-- a value is false or true, so the lesser of what the two steps need is needed
 pub value_from : (cubes off on : List (List Literal)) (v budget a b r : ℕ) → 128 ≤ v → Steps cubes v false budget off →
     Needs off a → Steps cubes v true budget on → Needs on b → r ≤ a → r ≤ b →
     r ≤ budget + 1 → Needs cubes r
@@ -193,7 +211,7 @@ value_from cubes off on v budget a b r large keeps needs keeps' needs' la lb lr 
     (cases_lt 0 (n v)))
     (cases_lt budget (sum_by n (numbers_below count)))
 
--- if there is no room for a fault
+-- if the budget has no room for a fault, what is needed without one, and at most 1, is needed
 pub count_without : (cubes : List (List Literal)) (v budget w r : ℕ) → v < 128 → NeedsWithout cubes v budget w → r ≤ w →
     r ≤ 1 → Needs cubes r
 count_without cubes v budget w r small needs lw lr count e n values t = ⊎_elim
@@ -204,6 +222,7 @@ count_without cubes v budget w r small needs lw lr count e n values t = ⊎_elim
     omega arith)
     (cases_lt 0 (sum_by n (numbers_below count)))
 
+-- a process has no fault or some, so the lesser of what is needed without one and with one is needed
 pub count_from : (cubes more : List (List Literal)) (v budget w most b r : ℕ) → v < 128 →
     NeedsWithout cubes v budget w → most ≤ budget → most < w → 0 < most →
     Steps cubes v true (most - 1) more →
@@ -272,6 +291,7 @@ both_parts marks n count = sym (sum_by-add (kept_at marks true n) (kept_at marks
     one true x = omega arith
     one false x = omega arith
 
+-- cubes without common variables need the sum of what the two parts need
 pub parts_from : (cubes first others : List (List Literal)) (marks : List Bool) (a b r : ℕ) →
     AreMarked marks true first →
     AreMarked marks false others →
@@ -284,9 +304,11 @@ parts_from cubes first others marks a b r m m' k k' f f' l count e n values t =
     let z = both_parts marks n count in
     omega arith
 
+-- a list that needs some faults needs fewer, too
 pub needs_fewer : (cubes : List (List Literal)) (a b : ℕ) → b ≤ a → Needs cubes a → Needs cubes b
 needs_fewer cubes a b l f count e n values t = let x = f count e n values t in omega arith
 
+-- a list needs what some of its cubes need
 pub needs_by : (cubes part : List (List Literal)) (r : ℕ) →
     ((m : ℕ → ℕ) → is_any_at m part ≡ true → is_any_at m cubes ≡ true) → Needs part r → Needs cubes r
 needs_by cubes part r k f count e n values t = f count e n values (false_from_ne_true _ (λ x. both_ways _ t (k n x)))
@@ -323,6 +345,7 @@ both_marks true false x h = cc (h refl)
 both_marks false true x h = omega arith
 both_marks false false x h = omega arith
 
+-- a cube without marked variables adds what it needs, and marks its variables
 pub marked_more : (cubes : List (List Literal)) (c : List Literal) (marks later : List Bool) (a b r : ℕ) →
     NeedsOfMarked cubes marks a →
     ((n : ℕ → ℕ) → is_any_at n cubes ≡ false → matches_at n c ≡ false) → NeedsOutside c b
@@ -339,6 +362,7 @@ marked_more cubes c marks later a b r f one g t h u l count e n values off =
     (λ v k. both_marks (get_or marks v false) (get_or later v false) (n v) (h v)) in
     omega arith
 
+-- what the marked variables need is needed in all
 pub marked_all : (cubes : List (List Literal)) (marks : List Bool) (r : ℕ) → NeedsOfMarked cubes marks r → Needs cubes r
 marked_all cubes marks r f count e n values off =
     let x = f count e n values off in
@@ -350,11 +374,13 @@ marked_all cubes marks r f count e n values off =
     one true x = omega arith
     one false x = omega arith
 
+-- if no cube of a list is matched, the one at a place isn't
 pub one_is_off : (cubes : List (List Literal)) (i : ℕ) (d : List Literal) → i < length cubes → (n : ℕ → ℕ) →
     is_any_at n cubes ≡ false →
     matches_at n (get_or cubes i d) ≡ false
 one_is_off cubes i d h n off = from_any_false (matches_at n) cubes (get_or cubes i d) off (Contains-get_or cubes i d h)
 
+-- marking a variable leaves the marks of others
 pub still_marked : (marks : List Bool) (i v : ℕ) → get_or marks v false ≡ true →
     get_or (slice_set marks i true) v false ≡ true
 still_marked [] i v t = cc
@@ -363,11 +389,13 @@ still_marked (m ∷ ms) zero (suc v) t = t
 still_marked (m ∷ ms) (suc i) zero t = t
 still_marked (m ∷ ms) (suc i) (suc v) t = still_marked ms i v t
 
+-- a variable that is marked has a mark
 pub now_marked : (marks : List Bool) (i : ℕ) → i < length marks → get_or (slice_set marks i true) i false ≡ true
 now_marked [] i h = absurd (omega arith)
 now_marked (m ∷ ms) zero h = refl
 now_marked (m ∷ ms) (suc i) h = now_marked ms i (omega arith)
 
+-- literals on marked variables are still so with more marks
 pub all_still_marked : (marks later : List Bool) (ls : List Literal) →
     ((v : ℕ) → get_or marks v false ≡ true → get_or later v false ≡ true) →
     list_all (λ l. same_bool (get_or marks l.variable false) true) ls ≡ true →

@@ -42,6 +42,7 @@ sum_short f a (suc b) l h = ⊎_elim
     let r : sum_by f (numbers_below (suc b)) ≡ sum_by f (numbers_below a) = omega arith in r)
     (cases_lt b a)
 
+-- a cube with its bounds and the faults that it leaves, and a scenario that it matches
 module _ (g : Graph) (limits : IsWithinLimits g) (cube : List Literal) (is : IsCube g cube) (low high : List ℕ)
     (are : AreBounds cube low high) (long : length low ≡ 256) (left : ℕ)
     (some : budget_left (is_open g.faults) asked_of_literal g.faults cube ≡ Some left) (s : Scenario)
@@ -52,6 +53,7 @@ module _ (g : Graph) (limits : IsWithinLimits g) (cube : List Literal) (is : IsC
       (λ (h : 256 ≤ v). let a = get_or_past low v 0 (omega arith) in omega arith)
       (cases_lt v 256)
 
+  -- the numbers of a scenario that the cube matches are on the bounds of the cube
   pub is_on : IsOn low high left (number_of s)
   is_on = record {
     lows = low_le;
@@ -73,6 +75,7 @@ module _ (g : Graph) (limits : IsWithinLimits g) (cube : List Literal) (is : IsC
       let d = holds-high s l (from_all (holds s) cube l t c) in
       omega arith
 
+  -- they are no further beyond the lows than the cube's ranges are wide
   pub is_narrow : IsNarrow low (number_of s) cube
   is_narrow k d h = narrow_at (get_or cube k d) (Contains-get_or cube k d h)
 
@@ -84,6 +87,8 @@ module _ (g : Graph) (limits : IsWithinLimits g) (cube : List Literal) (is : IsC
       let e : number_of s v ≡ number_of_value (get_or s.values (v - 128) false) = a in
       omega arith
 
+  -- What is beyond the lows and the lows together are the scenario's faults, which the budget bounds. The lows take
+  -- what the cube asks for, so what is beyond is at most what is left.
   beyond_faults : (count : ℕ) → count ≡ 128 → sum_by (beyond low (number_of s)) (numbers_below count) ≤ left
   beyond_faults count e =
       let n = process_count g in
@@ -105,6 +110,7 @@ module _ (g : Graph) (limits : IsWithinLimits g) (cube : List Literal) (is : IsC
       let r : beyond low (number_of s) v ≡ 0 = omega arith in r) in
       omega arith
 
+  -- if what no cube matches takes more faults than are left, each scenario of the cube matches one of the list
   pub is_covered : {X : Type 0} (seen : X → List Literal) (by : List X) (cubes : List (List Literal)) (few : ℕ) →
       Needs cubes few → left < few
       → (is_any_at (beyond low (number_of s)) cubes ≡ true → list_any (λ b. matches (seen b) s) by ≡ true) →

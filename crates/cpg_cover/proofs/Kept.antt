@@ -26,6 +26,7 @@ left_same f xs ys cube s h = ⊎_elim
     (cases_Bool (matches cube s))
 
 module _ {X : Type 0} (test : X → Bool) where
+  -- with the next element kept, too, the test passes for some kept element as it does for one more of all
   pub kept_push : (kept by : List X) (i : ℕ) (d : X) → i < length by → list_any test kept ≡ list_any test (take i by) →
       list_any test (kept ++ get_or by i d ∷ []) ≡ list_any test (take (i + 1) by)
   kept_push kept by i d h e =
@@ -33,6 +34,7 @@ module _ {X : Type 0} (test : X → Bool) where
       ∙ sym (list_any-append test (take i by) (get_or by i d ∷ [])) ∙
       sym (ap (list_any test) (take_more by i d h))
 
+  -- so it is without the next element if the test fails for it
   pub kept_skip : (kept by : List X) (i : ℕ) (d : X) → i < length by → test (get_or by i d) ≡ false →
       list_any test kept ≡ list_any test (take i by) →
       list_any test kept ≡ list_any test (take (i + 1) by)
@@ -40,6 +42,7 @@ module _ {X : Type 0} (test : X → Bool) where
       ∙ ap (λ x. list_any test (take i by) || x) (sym (or-false (test (get_or by i d)) ∙ n))
       ∙ sym (list_any-append test (take i by) (get_or by i d ∷ [])) ∙ sym (ap (list_any test) (take_more by i d h))
 
+  -- with the next element kept, too, the test passes for all that are kept as it does for one more of all
   pub all_push : (kept by : List X) (i : ℕ) (d : X) → i < length by → list_all test kept ≡ list_all test (take i by) →
       list_all test (kept ++ get_or by i d ∷ []) ≡ list_all test (take (i + 1) by)
   all_push kept by i d h e =
@@ -47,6 +50,7 @@ module _ {X : Type 0} (test : X → Bool) where
       ∙ sym (list_all-append test (take i by) (get_or by i d ∷ [])) ∙
       sym (ap (list_all test) (take_more by i d h))
 
+  -- so it is without the next element if the test passes for it
   pub all_skip : (kept by : List X) (i : ℕ) (d : X) → i < length by → test (get_or by i d) ≡ true →
       list_all test kept ≡ list_all test (take i by) →
       list_all test kept ≡ list_all test (take (i + 1) by)
@@ -54,6 +58,7 @@ module _ {X : Type 0} (test : X → Bool) where
       ∙ ap (λ x. list_all test (take i by) && x) (sym (and-true (test (get_or by i d)) ∙ n))
       ∙ sym (list_all-append test (take i by) (get_or by i d ∷ [])) ∙ sym (ap (list_all test) (take_more by i d h))
 
+  -- some element passes exactly if the one at a place does or one of the others
   pub taken_out : (xs : List X) (i : ℕ) (d : X) → i < length xs →
       list_any test xs ≡ (test (get_or xs i d) || list_any test (remove xs i))
   taken_out [] i d h = absurd (omega arith)
@@ -67,9 +72,11 @@ module _ {X : Type 0} (test : X → Bool) where
       turn false true c = refl
       turn false false c = refl
 
+-- what holds for all elements holds for all but one
 pub all_removed : {X : Type 0} (P : X → Type 0) (xs : List X) (i : ℕ) → All P xs → All P (remove xs i)
 all_removed P xs i h = All-append P (take i xs) (drop (suc i) xs) (All-take P i xs h) (All-drop P (suc i) xs h)
 
+-- what holds for all images holds for the image of each element
 pub all_unmapped : {X Y : Type 0} (P : Y → Type 0) (f : X → Y) (xs : List X) → All P (map f xs) → All (λ x. P (f x)) xs
 all_unmapped P f [] h k d l = absurd (omega arith)
 all_unmapped P f (x ∷ xs) h zero d l = h 0 (f x) (omega arith)
@@ -85,6 +92,7 @@ rising_place ls (suc i) d r h =
     let b = r i (suc i) d (omega arith) h in
     omega arith
 
+-- a rising cube has at most 256 literals
 pub rising_short : (ls : List Literal) (d : Literal) → IsRising ls →
     ((i : ℕ) → i < length ls → (slice_index_or ls i d).variable < 256) → length ls ≤ 256
 rising_short [] d r small = omega arith

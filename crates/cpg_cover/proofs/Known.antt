@@ -22,6 +22,7 @@ module _ (g : Graph) where
       (λ (d : Contains (variable_of_value (condition_of g p)) v). value_known p (condition_of g p) refl v d)
       (Contains-cases p (variable_of_value (condition_of g p)) v c)
 
+  -- all variables along an order are variables of the graph
   pub variables_known : (order : List ℕ) → All (λ p. p < process_count g) order →
       All (IsVariable g) (variables_along g order)
   variables_known order within k d h =

@@ -12,7 +12,7 @@ use Rattle.cpg_cover.specs.declared.stepping.Rest.TheVariants.{Held, Missed, Ask
 abbrev pub holds_at : (ℕ → ℕ) → Literal → Bool
 holds_at n l = nat_le l.low (n l.variable) && nat_le (n l.variable) l.high
 
--- whether each is
+-- whether each variable's number is in its range
 abbrev pub matches_at : (ℕ → ℕ) → List Literal → Bool
 matches_at n cube = list_all (holds_at n) cube
 
@@ -24,19 +24,19 @@ is_any_at n cubes = list_any (matches_at n) cubes
 abbrev pub AreValues : (ℕ → ℕ) → Type 0
 AreValues n = (v : ℕ) → 128 ≤ v → n v ≤ 1
 
--- if a cube isn't matched, there are at least so many faults (the count of variables for faults stands as a number
+-- if a cube isn't matched, there are at least r faults (the count of variables for faults stands as a number
 -- apart, for the prover's sake)
 abbrev pub NeedsOutside : List Literal → ℕ → Type 0
 NeedsOutside cube r =
     (count : ℕ) → count ≡ 128 → (n : ℕ → ℕ) → matches_at n cube ≡ false → r ≤ sum_by n (numbers_below count)
 
--- if no cube of a list is matched, there are at least so many faults
+-- if no cube of a list is matched, there are at least r faults
 abbrev pub Needs : List (List Literal) → ℕ → Type 0
 Needs cubes r = (count : ℕ) → count ≡ 128 → (n : ℕ → ℕ) → AreValues n → is_any_at n cubes ≡ false →
     r ≤ sum_by n (numbers_below count)
 
 -- if no cube of a list is matched, the number of a variable is 0, and there are no more faults than the budget, there
--- are at least so many
+-- are at least r
 abbrev pub NeedsWithout : List (List Literal) → ℕ → ℕ → ℕ → Type 0
 NeedsWithout cubes variable budget r = (count : ℕ) → count ≡ 128 → (n : ℕ → ℕ) → AreValues n → n variable ≡ 0 →
     sum_by n (numbers_below count) ≤ budget → is_any_at n cubes ≡ false → r ≤ sum_by n (numbers_below count)
@@ -45,7 +45,7 @@ NeedsWithout cubes variable budget r = (count : ℕ) → count ≡ 128 → (n : 
 abbrev pub after : ℕ → (ℕ → ℕ) → ℕ → ℕ
 after variable n v = if variable == v then n v - 1 else n v
 
--- a variable is 0 or more, as said, and then no number of faults is above the budget
+-- a variable is 0, or more, and after the step no number of faults is above the budget
 pub record IsStep (variable : ℕ) (more : Bool) (budget : ℕ) (n : ℕ → ℕ) : Type 0 where
   pub values : (v : ℕ) → 128 ≤ v → n v ≤ 1
   pub zero : more ≡ false → n variable ≡ 0
@@ -70,10 +70,11 @@ pub record AreMore (cube : List Literal) (marks later : List Bool) : Type 0 wher
 
 -- ---- numbers beyond the lows of a cube
 
+-- how much a number is greater than the low of its variable
 abbrev pub beyond : List ℕ → (ℕ → ℕ) → ℕ → ℕ
 beyond low s v = s v - get_or low v 0
 
--- the numbers are not below the lows, and a literal holds if it has all numbers that its variable has with so many
+-- the numbers are not below the lows, and a literal holds if it has all numbers that its variable has with this many
 -- faults left
 pub record IsOn (low high : List ℕ) (left : ℕ) (s : ℕ → ℕ) : Type 0 where
   pub lows : (v : ℕ) → get_or low v 0 ≤ s v

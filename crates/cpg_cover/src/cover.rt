@@ -76,6 +76,7 @@ fn meeting<'a>(
 {
     let mut kept = Vec::new(alloc);
     let k = problem.faults();
+    // the cube asks for more faults than there may be, so it has no scenario
     let Some(left) = budget_left(k, cube.literals()) else {
         return Ok(kept);
     };
@@ -105,6 +106,7 @@ fn cutting(
 {
     let mut kept = Vec::new(alloc);
     let k = problem.faults();
+    // the cube has no scenario, so every literal holds in each of them
     let Some(left) = budget_left(k, cube.literals()) else {
         return Ok(kept);
     };
@@ -165,9 +167,11 @@ fn left_of_part(
     ensures part { IfOk result (λ r. IfSome literal (λ l. IsFirst problem.now order.now (is_left (map (λ b. b.now) by.now) (narrowed_by l cube.now)) r)) }
     ensures none { IfOk result (λ r. IfNone literal (r ≡ None)) }
 {
+    // no number is on this side of the range
     let Some(literal) = literal else {
         return Ok(None);
     };
+    // the cube allows none of these numbers
     let Some(part) = cube.with(literal)? else {
         return Ok(None);
     };
@@ -194,16 +198,19 @@ fn left_outside(
     requires list { All (λ b. IsKnown problem.now b.now) by.now }
     ensures { IfOk result (λ r. IsFirst problem.now order.now (λ s. is_left (map (λ b. b.now) by.now) cube.now s && not (matches literals.now s)) r) }
 {
+    // every scenario matches no literals, so none is outside
     let Some((literal, rest)) = literals.split_first() else {
         return Ok(None);
     };
     let k = problem.faults();
     let low = left_of_part(alloc, problem, order, cube, below(literal), by, effort)?;
     let high = left_of_part(alloc, problem, order, cube, above(k, literal), by, effort)?;
+    // the least one that fails the first literal; another one holds it and fails the rest
     let beside = earlier(problem, order, low, high);
     if rest.is_empty() {
         return Ok(beside);
     }
+    // no scenario of the cube holds the literal
     let Some(within) = cube.with(*literal)? else {
         return Ok(beside);
     };
@@ -236,12 +243,15 @@ fn left_of(
     ensures { IfOk result (λ r. IsFirst problem.now order.now (is_left (map (λ b. b.now) by.entry.items) cube.now) r) }
 {
     effort.spend()?;
+    // the cube has no scenario
     let Some(least) = cube.least(alloc, problem)? else {
         return Ok(None);
     };
+    // no cube of the list matches the least scenario, so this one is left
     let Some(place) = place_of_match(by.as_slice(), &least) else {
         return Ok(Some(least));
     };
+    // what is left is outside the cube of the list that matches, and outside the others
     let mut others = by;
     let first = others.remove(place);
     let cutting = cutting(alloc, problem, cube, first.literals())?;
@@ -321,6 +331,7 @@ fn is_late(
     requires found { IfSome found.now (IsScenario problem.now) }
     ensures { IfOk result (λ late. OnTrue late (IsLate problem.now order.now part.now found.now)) }
 {
+    // nothing is found yet
     let Some(found) = found else {
         return Ok(false);
     };
@@ -370,6 +381,7 @@ fn least_by_number(
     ensures { IfOk result (λ r. IsFirst problem.now order.now (is_left (map (λ b. b.now) by.entry.items) cube.now) r) }
 {
     let Some((variable, others)) = variables.split_first() else {
+        // no variable is left to split by
         let found = left_at_last(alloc, problem, order, cube, by)?;
         return Ok(found);
     };
@@ -410,9 +422,11 @@ fn least_along(
     requires variables { All (IsVariable problem.now) variables.now }
     ensures { IfOk result (λ r. IsFirst problem.now order.now (is_left (map (λ b. b.now) by.entry.items) cube.now) r) }
 {
+    // the cube has no scenario
     let Some(least) = cube.least(alloc, problem)? else {
         return Ok(None);
     };
+    // no cube of the list matches the least scenario, so this one is left
     let Some(_) = place_of_match(by.as_slice(), &least) else {
         return Ok(Some(least));
     };

@@ -37,10 +37,12 @@ impl Ground {
             holds_at (beyond self.now.bounds.low s) l ≡ true → holds_at s literal.now ≡ true) }
     {
         let low = self.bounds.low[literal.variable as usize];
+        // each number of the variable in the cube is above the literal's range
         if literal.high < low {
             return None;
         }
         let mut high = literal.high - low;
+        // no count of faults goes further beyond its low than there are faults left
         if literal.variable < FIRST_VALUE {
             high = high.min(self.left);
         }
@@ -101,11 +103,12 @@ impl Ground {
         Ok(cubes)
     }
 
-    /// What is beyond the width of a literal's range, if so many faults are left.
+    /// What is beyond the width of a literal's range, if this many faults are left.
     fn over(&self, literal: &Literal) -> Option<Literal>
         ensures { IfSome result (λ l. (n : ℕ → ℕ) → n literal.now.variable ≤ literal.now.high - literal.now.low → holds_at n l ≡ false) }
     {
         let width = literal.high.saturating_sub(literal.low);
+        // nothing is added for one number, for a range as wide as the faults that are left, and for a value
         if width == 0 || width >= self.left || literal.variable >= FIRST_VALUE {
             return None;
         }
@@ -147,6 +150,7 @@ pub(crate) fn is_surely_covered(
     ensures { IfOk result (λ covered. OnTrue covered ((s : Scenario) → IsScenario problem.now s → matches cube.now s ≡ true →
         list_any (λ b. matches b.now s) by.now ≡ true)) }
 {
+    // the cube has no scenario
     let Some(left) = budget_left(problem.faults(), cube.literals()) else {
         return Ok(false);
     };

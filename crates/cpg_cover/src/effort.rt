@@ -41,7 +41,7 @@ pub(crate) struct Effort {
 }
 
 impl Effort {
-    /// As many as splitting by so many cubes takes, if each parts the rest seldom.
+    /// As many as splitting by this many cubes takes, if each seldom parts the rest.
     pub(crate) fn for_cubes(count: usize) -> Effort {
         Effort {
             left: FOR_CUBE.saturating_mul(count as u64).saturating_add(LEAST),

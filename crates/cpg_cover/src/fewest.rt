@@ -27,6 +27,7 @@ fn fewest_of_literal(literal: &Literal) -> u8
     ensures count { 0 < result → literal.now.variable < 128 }
     ensures fewest { (n : ℕ → ℕ) → holds_at n literal.now ≡ false → result ≤ n literal.now.variable }
 {
+    // the number 0 already fails it, or it is on a value, which takes no fault
     if literal.low > 0 || literal.variable >= FIRST_VALUE {
         return 0;
     }
@@ -127,6 +128,7 @@ fn fewest_with(
     ensures { IfOk result (Needs cubes.now) }
 {
     let most = bound.budget.min(without.saturating_sub(1));
+    // with a fault of the process there is one at least, so the lesser of `without` and 1 bounds both cases
     if most == 0 {
         return Ok(without.min(1));
     }
@@ -219,13 +221,16 @@ pub(crate) fn fewest(
     ensures { IfOk result (Needs cubes.now) }
 {
     let alone = fewest_of_each(cubes);
+    // one cube alone takes more faults than are of interest, or is all
     if alone > bound.budget || cubes.len() == 1 {
         return Ok(alone);
     }
     let apart = fewest_of_apart(cubes);
+    // cubes without common variables take more faults than are of interest
     if apart > bound.budget {
         return Ok(apart);
     }
+    // the search is cut short, or no fault at all leaves each cube unmatched
     if bound.depth == 0 || memory.is_spent() || !cubes.iter().any(matches_zero) {
         return Ok(0);
     }
@@ -234,6 +239,7 @@ pub(crate) fn fewest(
         depth: bound.depth - 1,
     };
     let joined = joined_variables(cubes);
+    // some cubes have no variable in common with the others: the faults of both parts add up
     if has_apart(cubes, &joined) {
         let few = fewest_by_parts(alloc, cubes, &joined, bound, memory)?;
         return Ok(few);

@@ -30,6 +30,7 @@ fn frequencies(by: &[&Cube]) -> [u32; 256] {
     counts
 }
 
+/// The literals, each with how many cubes have one on its variable.
 fn ranks(
     alloc: Global,
     literals: &[Literal],
@@ -48,6 +49,7 @@ fn ranks(
     Ok(ranks)
 }
 
+/// The literals alone.
 fn unranked(alloc: Global, ranks: &[LiteralRank]) -> Result<Vec<Literal>, OutOfMemory>
     ensures { IfOk result (λ literals. literals.items ≡ map (λ r. r.literal) ranks.now) }
 {

@@ -25,7 +25,7 @@ const OTHERS: u64 = 1 << 14;
 pub(crate) struct Fact {
     cubes: Vec<Cube>,
     fewest: u8,
-    /// Whether there is a scenario with so many.
+    /// Whether there is a scenario with this many faults.
     is_exact: bool,
 }
 
@@ -41,6 +41,7 @@ impl Model for Fact {
     ghost invariant = { λ f. Needs f.cubes.items f.fewest };
 }
 
+/// A list of equal cubes.
 fn copy_of(alloc: Global, cubes: &[Cube]) -> Result<Vec<Cube>, OutOfMemory>
     ensures { IfOk result (λ copies. copies.items ≡ cubes.now) }
 {
@@ -52,6 +53,7 @@ fn copy_of(alloc: Global, cubes: &[Cube]) -> Result<Vec<Cube>, OutOfMemory>
     Ok(copies)
 }
 
+/// Whether two literals are found to be equal.
 fn is_same(literal: &Literal, other: &Literal) -> bool
     ensures { OnTrue result (literal.now ≡ other.now) }
 {
@@ -67,6 +69,7 @@ fn is_same(literal: &Literal, other: &Literal) -> bool
     true
 }
 
+/// Whether two lists of literals are found to be equal.
 fn are_equal(literals: &[Literal], others: &[Literal]) -> bool
     ensures { OnTrue result (literals.now ≡ others.now) }
 {
@@ -81,6 +84,7 @@ fn are_equal(literals: &[Literal], others: &[Literal]) -> bool
     true
 }
 
+/// Whether two lists of cubes are found to be equal.
 fn are_same(cubes: &[Cube], others: &[Cube]) -> bool
     ensures { OnTrue result (cubes.now ≡ others.now) }
 {
@@ -95,6 +99,7 @@ fn are_same(cubes: &[Cube], others: &[Cube]) -> bool
     true
 }
 
+/// A sum that depends on an earlier one and on a literal.
 fn mixed(sum: u32, literal: &Literal) -> u32 {
     let number = (literal.variable as u32) << 16
         | (literal.low as u32) << 8
@@ -102,6 +107,7 @@ fn mixed(sum: u32, literal: &Literal) -> u32 {
     (sum ^ number).wrapping_mul(0x9E37_79B1).rotate_left(13)
 }
 
+/// A sum that depends on an earlier one and on the literals of a cube.
 fn sum_of(sum: u32, literals: &[Literal]) -> u32 {
     let mut sum = sum;
     for literal in literals {
@@ -120,6 +126,7 @@ fn bucket_of(cubes: &[Cube]) -> usize {
 }
 
 impl Fact {
+    /// The fact that a list of cubes needs at least this many faults.
     pub(crate) fn new(
         alloc: Global,
         cubes: &[Cube],
@@ -136,19 +143,22 @@ impl Fact {
         })
     }
 
-    /// What the fact says of a list of cubes, if it is about that, and answers for so many faults.
+    /// What the fact says of a list of cubes, if it is about that, and answers for this many faults.
     fn answer(&self, cubes: &[Cube], budget: u8) -> Option<u8>
         ensures { IfSome result (Needs cubes.now) }
     {
+        // the fact is only a bound, which doesn't say enough for this many faults
         if !self.is_exact && self.fewest <= budget {
             return None;
         }
+        // the fact is about another list in the same bucket
         if !are_same(self.cubes.as_slice(), cubes) {
             return None;
         }
         Some(self.fewest)
     }
 
+    /// How much memory the fact takes, counted in literals.
     fn size(&self) -> usize {
         let mut size = 0usize;
         for cube in self.cubes.as_slice() {
@@ -170,6 +180,8 @@ pub(crate) struct Memory {
 }
 
 impl Memory {
+    /// A memory without facts.
+    /// A memory without facts.
     pub(crate) fn new(alloc: Global) -> Memory {
         Memory {
             buckets: Vec::new(alloc),
@@ -195,7 +207,7 @@ impl Memory {
         self.left == 0
     }
 
-    /// Takes a look at so many cubes from what is left.
+    /// Takes a look at this many cubes from what is left.
     pub(crate) fn spend(&mut self, cubes: usize) {
         self.left = self.left.saturating_sub(cubes as u64);
     }
@@ -213,6 +225,7 @@ impl Memory {
         None
     }
 
+    /// Makes the lists in which facts lie, if there are none yet.
     fn make_room(&mut self) -> Result<(), OutOfMemory> {
         if !self.buckets.is_empty() {
             return Ok(());
@@ -228,6 +241,7 @@ impl Memory {
     pub(crate) fn keep(&mut self, fact: Fact) -> Result<(), OutOfMemory> {
         self.make_room()?;
         let size = self.size.saturating_add(fact.size());
+        // without room the fact isn't kept
         if size > MOST {
             return Ok(());
         }

@@ -1,4 +1,4 @@
-//! What cubes ask when one variable is settled, or has one fault.
+//! What cubes ask when one variable is known to be 0, or has one fault.
 ghost use Rattle.std.specs.Prelude.{◌≡◌, ◌≤◌, ◌<◌, ◌||◌, ℕ, IfOk, IfSome, false, length, true};
 ghost use Rattle.cpg_cover.specs.Fewest.{IsStep, after, holds_at, is_any_at, matches_at, rest_holds};
 
@@ -7,7 +7,7 @@ use cpg_cube::{Cube, Literal};
 use std::alloc::Global;
 use std::cmp::Ordering;
 
-/// From how many cubes on a list isn't sorted.
+/// A list of at least this many cubes isn't sorted.
 const LONG: usize = 256;
 
 /// A variable is 0, or more.
@@ -54,12 +54,15 @@ enum Rest {
 fn within_budget(literal: Literal, budget: u8) -> Rest
     ensures { (n : ℕ → ℕ) → ((v : ℕ) → v < 128 → n v ≤ budget) → rest_holds n result ≡ true → holds_at n literal ≡ true }
 {
+    // the budget bounds counts of faults, not values
     if literal.variable >= FIRST_VALUE {
         return Rest::Asked(literal);
     }
+    // it asks for more faults than there is room for
     if literal.low > budget {
         return Rest::Missed;
     }
+    // each count that there is room for is in its range
     if literal.low == 0 && literal.high >= budget {
         return Rest::Held;
     }
@@ -74,9 +77,11 @@ fn within_budget(literal: Literal, budget: u8) -> Rest
 fn after_more(literal: Literal, budget: u8) -> Rest
     ensures { (n : ℕ → ℕ) → IsStep literal.variable true budget n → rest_holds (after literal.variable n) result ≡ true → holds_at n literal ≡ true }
 {
+    // it asks for 0, and the variable is more
     if literal.high == 0 {
         return Rest::Missed;
     }
+    // a value that is more than 0 is 1
     if literal.variable >= FIRST_VALUE {
         return if literal.low > 1 {
             Rest::Missed
@@ -84,6 +89,7 @@ fn after_more(literal: Literal, budget: u8) -> Rest
             Rest::Held
         };
     }
+    // of a count one fault is taken, so the range moves down by one
     let less = Literal {
         variable: literal.variable,
         low: literal.low.saturating_sub(1),
@@ -139,6 +145,7 @@ fn sorted_place(cubes: &[Cube], cube: &Cube) -> Option<usize>
     if place >= LONG {
         return Some(place);
     }
+    // from the end to the front
     while place > 0 {
         match cubes[place - 1].literals().cmp(&cube.literals()) {
             Ordering::Less => return Some(place),

@@ -10,6 +10,7 @@ use Rattle.cpg_cube.specs.Cube.{Literal, IsRising}
 use Rattle.cpg_cube.specs.Narrow.{meet_literal, narrowed_by, range_left}
 use Rattle.cpg_cube.proofs.Narrow.{narrowed-after}
 
+-- if the last of some rising literals is on a variable below another variable, all of them are
 pub all_under : (ms : List Literal) (v : ℕ) (m : Literal) → IsRising ms → slice_get ms (length ms - 1) ≡ Some m →
     m.variable < v →
     All (λ l. l.variable < v) ms
@@ -31,6 +32,7 @@ module _ (l : Literal) where
       All (λ n. n.variable < l.variable) ms
   rest_under m ms all k d h = all (suc k) d (omega (arith, h))
 
+  -- literals on lower variables leave the range of a literal as it is
   pub range_above : (ms : List Literal) → All (λ n. n.variable < l.variable) ms → range_left l ms ≡ l
   range_above [] all = refl
   range_above (m ∷ ms) all =
@@ -38,6 +40,7 @@ module _ (l : Literal) where
       (ne_eqb l.variable m.variable (λ e. let h = first_under m ms all in omega (arith, e, h)))
       ∙ range_above ms (rest_under m ms all)
 
+  -- narrowing by a literal above all others puts it last
   pub narrowed_above : (ms : List Literal) → All (λ n. n.variable < l.variable) ms → narrowed_by l ms ≡ ms ++ l ∷ []
   narrowed_above [] all = refl
   narrowed_above (m ∷ ms) all =

@@ -1,4 +1,4 @@
--- What the bounds of a cube tell of another: whether they meet, and whether it lies within the other.
+-- What the bounds of a cube say about another: whether they meet, and whether it lies within the other.
 use Rattle.std.proofs.Common.{ℕ, ◌+◌, ◌-◌, ◌<◌, ◌≤◌, ◌≡◌, ◌⊎◌, min, true, cond, not, ◌&&◌, ◌||◌, ◌==◌, List, [], ◌∷◌}
 use Rattle.std.proofs.Common.{get_or, map, sum_by, Contains, arith, refl, sym, ap, ap₂, ◌∙◌, ⊎_elim, inl, inr}
 use Rattle.std.proofs.Common.{lt-ltb, le-ltb, le-leb, leb-true, eq-eqb, ne_eqb}
@@ -25,6 +25,7 @@ use Rattle.cpg_cube.proofs.BoundSteps.{low_here, low_else, bound_here, bound_els
 
 -- ---- a low, and a bound, is that of a literal or the whole one
 
+-- the low of a variable is 0 or that of a literal on the variable
 pub low_of_some : (ls : List Literal) (v : ℕ) →
     (low_in ls v ≡ 0) ⊎ ((m : Literal) × Contains ls m × (m.variable ≡ v) × (low_in ls v ≡ m.low))
 low_of_some [] v = inl refl
@@ -60,6 +61,7 @@ bound_of_some k (l ∷ ls) v = ⊎_elim
     (bound_of_some k ls v))
     (cases_eq l.variable v)
 
+-- the bound of a literal's variable in a rising cube is the high of the literal
 pub bound_of_literal : (cube : List Literal) (l : Literal) → IsRising cube → Contains cube l →
     bound_in cube l.variable ≡ l.high
 bound_of_literal [] l r c = absurd (Contains-nil l c)
@@ -75,6 +77,7 @@ bound_of_literal (m ∷ ms) l r c = ⊎_elim
 raised : List Literal → Literal → Literal
 raised a l = record { variable = l.variable; low = l.low - low_in a l.variable; high = l.high }
 
+-- the low of a raised cube is how far the low of the cube `ls` is above that of `a`
 low_raised : (a ls : List Literal) (v : ℕ) → low_in (map (raised a) ls) v ≡ low_in ls v - low_in a v
 unfolding raised
 low_raised a [] v = let z : 0 ≡ 0 - low_in a v = omega arith in z
@@ -85,6 +88,7 @@ low_raised a (l ∷ ls) v = ⊎_elim
     ∙ ap (λ x. x - low_in a v) (sym (low_else l v ls n)))
     (cases_eq l.variable v)
 
+-- a cube of a graph of few processes, and its bounds
 module _ (g : Graph) (few : process_count g ≤ 128) (a : List Literal) (is_a : IsCube g a) (lows highs : List ℕ)
     (are : AreBounds a lows highs) where
   raised_is : (b : List Literal) → IsCube g b → IsCube g (map (raised a) b)
@@ -95,6 +99,7 @@ module _ (g : Graph) (few : process_count g ≤ 128) (a : List Literal) (is_a : 
     known = All-map (λ l. IsVariable g l.variable) (raised a) b is.known;
   }
 
+  -- a raised literal asks for the faults that the literal asks for beyond its variable's low; a value for none
   more_of_raised : (l : Literal) → asked_of_literal (raised a l) ≡ more_asked lows l
   unfolding raised
   more_of_raised l = ⊎_elim
@@ -121,6 +126,7 @@ module _ (g : Graph) (few : process_count g ≤ 128) (a : List Literal) (is_a : 
 
   -- ---- two cubes
 
+  -- the cube is met, with some faults left, and there is another cube
   module _ (small : condition_count g ≤ 32) (limit : g.faults ≤ 255) (met : is_met g.faults a ≡ true) (left : ℕ)
       (rest : left + asked_faults a ≡ g.faults) (b : List Literal) (is_b : IsCube g b) where
     is_small : (l : Literal) → Contains b l → l.variable < 256
@@ -152,6 +158,7 @@ module _ (g : Graph) (few : process_count g ≤ 128) (a : List Literal) (is_a : 
         let f = are.high l.variable (is_small l c) in
         (s.0, omega arith, omega arith)
 
+    -- the cubes meet if each literal of b touches the range of its variable and asks for no more than the faults left
     meet_from_touch : list_all (touches g.faults lows highs) b ≡ true → sum_by (more_asked lows) b ≤ left →
         do_meet g a b ≡ true
     meet_from_touch t h = and_from _ _
@@ -170,6 +177,7 @@ module _ (g : Graph) (few : process_count g ≤ 128) (a : List Literal) (is_a : 
         and_from _ _ p.0 (le-leb (low_in a l.variable) l.high p.1))))
         (le-leb _ _ (let e = sum_of_both b is_b in omega arith))
 
+    -- if the cubes meet, each literal of b touches the range of its variable, and they ask for no more than is left
     touch_from_meet : do_meet g a b ≡ true →
         (list_all (touches g.faults lows highs) b ≡ true) × (sum_by (more_asked lows) b ≤ left)
     touch_from_meet t =
@@ -212,6 +220,7 @@ module _ (g : Graph) (few : process_count g ≤ 128) (a : List Literal) (is_a : 
 
     -- ---- within the other
 
+    -- the most that the bounds leave a variable of b is the most that it can have in a; by kind: a count or a value
     most_is : (l : Literal) → Contains b l →
         min (get_or highs l.variable 0) (cond (nat_lt l.variable 128) (get_or lows l.variable 0 + left) 1)
         ≡ most_in g.faults a l.variable
@@ -243,6 +252,7 @@ module _ (g : Graph) (few : process_count g ≤ 128) (a : List Literal) (is_a : 
         (bound_of_some g.faults a l.variable)) ∙ ap (min (high_in g.faults a l.variable)) (sym y))
         (cases_lt l.variable 128)
 
+    -- every literal of the other cube spans the bounds exactly if the cube lies within the other
     pub spans_is_within : list_all (spans lows highs left) b ≡ is_within g.faults a b
     spans_is_within =
         same_all (spans lows highs left) (bounds g.faults a) b

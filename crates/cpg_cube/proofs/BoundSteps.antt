@@ -10,24 +10,30 @@ use Rattle.cpg_cube.specs.Cube.{Literal, IsRising, low_in}
 use Rattle.cpg_cube.specs.Bounds.{bound_in, AreBounds, AreRaised}
 use Rattle.cpg_cube.proofs.CubeLows.{low_in-none}
 
+-- 0 and 255 for each variable are the bounds of the cube without literals
 pub bounds_whole : AreBounds [] (replicate 256 0) (replicate 256 255)
 bounds_whole = record { low = λ v h. get_or-replicate 256 v 0 0 h; high = λ v h. get_or-replicate 256 v 255 0 h }
 
 -- ---- one literal more, above the others
 
 module _ (l : Literal) (v : ℕ) where
+  -- the first literal gives the low of its own variable
   pub low_here : (ls : List Literal) → l.variable ≡ v → low_in (l ∷ ls) v ≡ l.low
   low_here ls e = cond-true (l.variable == v) l.low (low_in ls v) (eq-eqb l.variable v e)
 
+  -- a first literal on another variable leaves the low of a variable
   pub low_else : (ls : List Literal) → l.variable ≢ v → low_in (l ∷ ls) v ≡ low_in ls v
   low_else ls n = cond-false (l.variable == v) l.low (low_in ls v) (ne_eqb l.variable v n)
 
+  -- the first literal gives the bound of its own variable
   pub bound_here : (ls : List Literal) → l.variable ≡ v → bound_in (l ∷ ls) v ≡ l.high
   bound_here ls e = cond-true (l.variable == v) l.high (bound_in ls v) (eq-eqb l.variable v e)
 
+  -- a first literal on another variable leaves the bound of a variable
   pub bound_else : (ls : List Literal) → l.variable ≢ v → bound_in (l ∷ ls) v ≡ bound_in ls v
   bound_else ls n = cond-false (l.variable == v) l.high (bound_in ls v) (ne_eqb l.variable v n)
 
+-- a literal put last on a variable above all others gives the low of that variable
 pub low_in-last : (ls : List Literal) (l : Literal) → ((m : Literal) → Contains ls m → m.variable < l.variable) →
     low_in (ls ++ l ∷ []) l.variable ≡ l.low
 low_in-last [] l h = low_here l l.variable [] refl
@@ -35,6 +41,7 @@ low_in-last (m ∷ ms) l h =
     let less = h m (Contains-first m ms) in
     low_else m l.variable (ms ++ l ∷ []) (λ e. omega arith) ∙ low_in-last ms l (λ n c. h n (Contains-rest m ms n c))
 
+-- a literal put last leaves the lows of other variables
 pub low_in-before : (ls : List Literal) (l : Literal) (v : ℕ) → l.variable ≢ v → low_in (ls ++ l ∷ []) v ≡ low_in ls v
 low_in-before [] l v n = low_else l v [] n
 low_in-before (m ∷ ms) l v n = ⊎_elim
@@ -58,6 +65,7 @@ bound_in-before (m ∷ ms) l v n = ⊎_elim
 
 -- the literals before a place of a rising list
 module _ (ls : List Literal) (i : ℕ) (d : Literal) (rising : IsRising ls) (within : i < length ls) where
+  -- the literals before a place are on lower variables than the literal there
   pub lower_before : (m : Literal) → Contains (take i ls) m → m.variable < (slice_index_or ls i d).variable
   lower_before m c =
       let long = length-take-le i ls (omega arith) in
@@ -67,6 +75,7 @@ module _ (ls : List Literal) (i : ℕ) (d : Literal) (rising : IsRising ls) (wit
       sym c.2 ∙ get_or-take i ls c.0 m place ∙ get_or_default ls c.0 m d (omega arith) in
       subst (λ (n : Literal). n.variable < (slice_index_or ls i d).variable) (sym same) (rising c.0 i d place within)
 
+  -- writing the range of the next literal makes the bounds of one literal more
   pub bounds_push : (lows highs : List ℕ) → length lows ≡ 256 → length highs ≡ 256 →
       (slice_index_or ls i d).variable < 256 →
       AreBounds (take i ls) lows highs
@@ -94,6 +103,7 @@ module _ (ls : List Literal) (i : ℕ) (d : Literal) (rising : IsRising ls) (wit
             (cases_eq l.variable v);
       })
 
+  -- raising by the low of the next literal makes the lows raised by one literal more
   pub raised_push : (lows later : List ℕ) → length later ≡ 256 → (slice_index_or ls i d).variable < 256 →
       AreRaised (take i ls) lows later
       → AreRaised (take (i + 1) ls) lows (slice_set later (slice_index_or ls i d).variable

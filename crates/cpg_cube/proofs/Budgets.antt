@@ -20,6 +20,7 @@ module _ (test : Literal → Bool) (demand : Literal → ℕ) where
       budget_left test demand left (l ∷ ls) ≡ None
   budget_stops left l ls e = ap (λ b. cond b (budget_left test demand (left - demand l) ls) None) e
 
+  -- if all literals pass and their demands sum to no more than the budget, something is left of it
   pub budget_fits : (left : ℕ) (ls : List Literal) → list_all test ls ≡ true → sum_by demand ls ≤ left →
       is_some (budget_left test demand left ls) ≡ true
   budget_fits left [] t h = refl
@@ -28,6 +29,7 @@ module _ (test : Literal → Bool) (demand : Literal → ℕ) where
       let s = sum_by-cons demand l ls in
       ap is_some (budget_first left l ls r.0 (omega arith)) ∙ budget_fits (left - demand l) ls r.1 (omega arith)
 
+  -- if something is left of a budget, all literals pass, and what is left and the demands add up to the budget
   pub budget_some : (left rest : ℕ) (ls : List Literal) → budget_left test demand left ls ≡ Some rest →
       (list_all test ls ≡ true) × (rest + sum_by demand ls ≡ left)
   budget_some left rest [] e = let same : left ≡ rest = cc in (refl, omega arith)
@@ -49,6 +51,7 @@ module _ (test : Literal → Bool) (demand : Literal → ℕ) where
   fitting left ls None e t = cc
   fitting left ls (Some rest) e t = let r = budget_some left rest ls e in let n = r.1 in (r.0, omega arith)
 
+  -- a budget is enough exactly if all literals pass and their demands sum to no more than it
   pub budget_is : (left : ℕ) (ls : List Literal) →
       is_some (budget_left test demand left ls) ≡ (list_all test ls && nat_le (sum_by demand ls) left)
   budget_is left ls =

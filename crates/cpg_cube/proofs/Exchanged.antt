@@ -31,6 +31,7 @@ module _ (l : Literal) where
 
   -- ---- no literal was on the variable
 
+  -- without its literal on the variable of l, a cube leaves l its own range
   range_removed : (cube : List Literal) (i : ℕ) (d : Literal) → IsRising cube → i < length cube →
       (get_or cube i d).variable ≡ l.variable →
       range_left l (remove cube i) ≡ l
@@ -42,6 +43,7 @@ module _ (l : Literal) where
       after m (remove ms i) (λ s. omega (arith, s, k, e))
       ∙ range_removed ms i d (AllPairs-rest Lower m ms r) (omega (arith, h)) e
 
+  -- a cube without its literal at place i, narrowed by a literal l on the same variable, has l at that place
   put_removed : (cube : List Literal) (i : ℕ) (d : Literal) → IsRising cube → i < length cube →
       (get_or cube i d).variable ≡ l.variable →
       narrowed_by l (remove cube i) ≡ slice_set cube i l
@@ -66,6 +68,7 @@ module _ (l : Literal) where
         after m (slice_set ms i was) (λ s. omega (arith, s, k, e))
         ∙ range_set ms i d (AllPairs-rest Lower m ms r) (omega (arith, h)) e
 
+    -- a cube with `was` at place i, narrowed by l on the same variable, has the meeting of the two at that place
     put_set : (cube : List Literal) (i : ℕ) (d : Literal) → IsRising cube → i < length cube →
         (get_or cube i d).variable ≡ l.variable →
         narrowed_by l (slice_set cube i was) ≡ slice_set cube i (meet_literal l was)
@@ -81,6 +84,7 @@ module _ (l : Literal) where
 blank : Literal
 blank = record { variable = 0; low = 0; high = 0 }
 
+-- a place of a rising cube with a literal on the variable of another one
 module _ (l : Literal) (cube : List Literal) (r : IsRising cube) (place : ℕ) (h : place < length cube)
     (e : (get_or cube place blank).variable ≡ l.variable) where
   range_at : (was : Option Literal) → IfSome was (λ w. w.variable ≡ l.variable) →
@@ -108,29 +112,35 @@ back_at : (x : Literal) (cube : List Literal) (place : ℕ) (was : Option Litera
 back_at x cube place None = set_removed x cube place
 back_at x cube place (Some was) = set_twice x was cube place
 
+-- a narrowing of a rising cube on the variable of a literal, and the range that the exchange leaves
 module _ (l : Literal) (cube : List Literal) (r : IsRising cube) (n : Narrowing) (h : n.place < length cube)
     (is : IsOn l.variable n cube) (left : Literal) (e : left ≡ left_of l n.was) where
   range_exchanged : range_left l (restored n cube) ≡ left
   range_exchanged = range_at l cube r n.place h (is.now blank) n.was is.before ∙ sym e
 
+  -- narrowing the cube as it was by the literal is setting what is left at the place
   pub put_exchanged : narrowed_by l (restored n cube) ≡ slice_set cube n.place left
   put_exchanged = put_at l cube r n.place h (is.now blank) n.was is.before ∙ ap (slice_set cube n.place) (sym e)
 
+  -- the literal leaves the cube as it was no number of its variable if the low left is above the high
   pub none_exchanged : left.high < left.low → with_literal l (restored n cube) ≡ None
   none_exchanged empty =
       let none : nat_le (range_left l (restored n cube)).low (range_left l (restored n cube)).high ≡ false =
       rw range_exchanged (lt-leb left.low left.high empty) in
       cond-false _ _ _ none
 
+  -- else the cube as it was, with the literal, is the cube with what is left at the place
   pub some_exchanged : left.low ≤ left.high → with_literal l (restored n cube) ≡ Some (slice_set cube n.place left)
   some_exchanged met =
       let some : nat_le (range_left l (restored n cube)).low (range_left l (restored n cube)).high ≡ true =
       rw range_exchanged (le-leb left.low left.high met) in
       cond-true _ _ _ some ∙ ap Some put_exchanged
 
+  -- the cube with what is left at the place rises if the cube as it was does
   pub rising_exchanged : IsRising (restored n cube) → IsRising (slice_set cube n.place left)
   rising_exchanged was = subst IsRising put_exchanged (rising-narrowed l (restored n cube) was)
 
+  -- the narrowing undoes the exchange, too
   pub undo_exchanged : (new : List Literal) → new ≡ slice_set cube n.place left → IsUndo n new (restored n cube)
   undo_exchanged new same = record {
     place = rw same (omega (arith, h, length-set cube n.place left));

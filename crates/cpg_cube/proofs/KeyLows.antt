@@ -21,6 +21,7 @@ use Rattle.cpg_cube.proofs.KeyOrder.{within_order}
 
 -- ---- numbers that are the same on all variables
 
+-- two functions that agree on all numbers that may be variables
 module _ (g : Graph) (few : process_count g ≤ 128) (few_conditions : condition_count g ≤ 32) (low other : ℕ → ℕ)
     (same : (v : ℕ) → v < 256 → low v ≡ other v) where
   same_value : (p : ℕ) (o : Option ℕ) → condition_of g p ≡ o → low_of_value low o ≡ low_of_value other o
@@ -28,6 +29,7 @@ module _ (g : Graph) (few : process_count g ≤ 128) (few_conditions : condition
   same_value p (Some c) e = let l = condition_of_below g p c e in
       ap (λ (n : ℕ). n ∷ []) (same (value_variable c) (omega (arith, l, few_conditions)))
 
+  -- two functions that agree on all variables of the graph give the same lows along an order
   pub same_along : (order : List ℕ) → All (λ p. p < process_count g) order →
       lows_along g order low ≡ lows_along g order other
   same_along order within = same_flat_map (lows_of g low) (lows_of g other) order (λ p m.
@@ -53,6 +55,7 @@ module _ (g : Graph) (few : process_count g ≤ 128) (cube : List Literal) (met 
       let l = condition_of_below g p d e in
       sym (number_is (value_variable d) (inr (omega arith, omega (arith, l)))) ∙ number_of-value (lows g cube) d)
 
+  -- the lows of a cube along an order are the key of its least scenario
   pub lows_are_key : (order : List ℕ) → IsPermutation (numbers_below (process_count g)) order →
       lows_along g order (low_in cube) ≡ key g order (lows g cube)
   lows_are_key order all = same_flat_map (lows_of g (low_in cube))

@@ -31,6 +31,7 @@ use Rattle.cpg_cube.specs.declared.sorting.Placed.{Placed}
 abbrev pub is_key_below : {T : Type 0} → Ranked T → Ranked T → Bool
 is_key_below a b = is_lt (slice_cmp nat_cmp a.key.items b.key.items)
 
+-- keys are compared by a strict weak order
 pub is_total : {T : Type 0} → IsStrictWeakOrder (is_key_below {T = T})
 is_total {T} = ranks_by nat_list_cmp_total (λ (r : Ranked T). r.key.items)
 
@@ -40,23 +41,26 @@ cmp_more : (x y : ℕ) → y < x → nat_cmp x y ≡ Greater
 cmp_more x y l = cond-false (nat_lt x y) Less _ (le-ltb x y (omega (arith, l)))
     ∙ cond-false (x == y) Equal Greater (ne_eqb x y (λ e. omega (arith, e, l)))
 
+-- a low of 0 adds nothing to a key
 pub asked_zero : (left x : ℕ) (xs : List ℕ) → x ≡ 0 → asked_from left (x ∷ xs) ≡ asked_from (left - 1) xs
 asked_zero left x xs e = cond-true (x == 0) _ _ (eq-eqb x 0 e)
 
+-- a low above 0 adds itself and how many places are left, as one number
 pub asked_some : (left x : ℕ) (xs : List ℕ) → x ≢ 0 →
     asked_from left (x ∷ xs) ≡ (left * 256 + x) ∷ asked_from (left - 1) xs
 asked_some left x xs n = cond-false (x == 0) _ _ (ne_eqb x 0 n)
 
--- the first of two equal ones tell nothing
+-- lists with the same first number are compared by the rest
 pub same_first : (x : ℕ) (xs ys : List ℕ) → is_below (x ∷ xs) (x ∷ ys) ≡ is_below xs ys
 same_first x xs ys = ap (λ (o : Ordering). is_lt (ordering_then o (slice_cmp nat_cmp xs ys))) (cmp_same x x refl)
 
+-- a list whose first number is greater isn't below the other
 pub more_first : (x y : ℕ) (xs ys : List ℕ) → y < x → is_below (x ∷ xs) (y ∷ ys) ≡ false
 more_first x y xs ys l = ap (λ (o : Ordering). is_lt (ordering_then o (slice_cmp nat_cmp xs ys))) (cmp_more x y l)
 
 -- lows of bytes and others
 module _ (low high : ℕ → ℕ) (bytes : (v : ℕ) → low v < 256) where
-  -- what is asked with fewer places left comes before
+  -- a low with fewer places left comes before
   later_below : (left : ℕ) (vs : List ℕ) (first : ℕ) (rest : List ℕ) → left * 256 + 255 < first →
       is_below (asked_from left (map low vs)) (first ∷ rest) ≡ true
   later_below left [] first rest l = refl
@@ -67,6 +71,7 @@ module _ (low high : ℕ → ℕ) (bytes : (v : ℕ) → low v < 256) where
         below-cons_less (left * 256 + low v) first (asked_from (left - 1) (map low vs)) rest (omega (arith, l, bytes v))
   ]
 
+  -- if the lows are before the highs as lists, the numbers of their keys are too; by induction on the variables
   asked_below : (left : ℕ) (vs : List ℕ) → length vs ≤ left → is_below (map low vs) (map high vs) ≡ true →
       is_below (asked_from left (map low vs)) (asked_from left (map high vs)) ≡ true
   asked_below left [] few h = h
@@ -129,12 +134,14 @@ low_of_variable : (low : ℕ → ℕ) (o : Option ℕ) → map low (variable_of_
 low_of_variable low None = refl
 low_of_variable low (Some c) = refl
 
+-- the lows by the variables along an order are the lows along the order
 pub lows_by_variable : (g : Graph) (order : List ℕ) (low : ℕ → ℕ) →
     map low (variables_along g order) ≡ lows_along g order low
 lows_by_variable g [] low = refl
 lows_by_variable g (p ∷ ps) low = map-append low (variables_of g p) (variables_along g ps) ∙
     ap₂ ◌++◌ (ap (λ (xs : List ℕ). low p ∷ xs) (low_of_variable low (condition_of g p))) (lows_by_variable g ps low)
 
+-- an order of at most 128 processes has at most 256 variables along it
 pub few_variables : (g : Graph) (order : List ℕ) → length order ≤ 128 → length (variables_along g order) ≤ 256
 few_variables g order few = omega (
   arith,
@@ -151,6 +158,7 @@ pub key_is : (g : Graph) (order variables : List ℕ) → variables ≡ variable
 key_is g order variables along cube =
     ap (λ (vs : List ℕ). key_by vs cube) along ∙ ap (asked_from 256) (lows_by_variable g order (low_in cube))
 
+-- if the key of one cube isn't below that of another, its lows along the order aren't below the other's
 pub lows_from_keys : (g : Graph) (order : List ℕ) → length order ≤ 128 → (a b : List Literal) → AreBytes a →
     is_below (key_along g order (low_in a)) (key_along g order (low_in b)) ≡ false →
     is_below (lows_along g order (low_in a)) (lows_along g order (low_in b)) ≡ false
@@ -163,6 +171,7 @@ lows_from_keys g order few a b bytes h =
     (ap₂ is_below (along (low_in a)) (along (low_in b)) ∙ below)))
 
 module _ {T : Type 0} (cube : T → List Literal) (columns : List T) where
+  -- the first column by keys is the first by lows
   pub first_by_lows : (g : Graph) (order variables : List ℕ) → length order ≤ 128 →
       variables ≡ variables_along g order → (at : ℕ) →
       IsFirstByKeys cube variables (length columns) columns at →
@@ -178,6 +187,7 @@ module _ {T : Type 0} (cube : T → List Literal) (columns : List T) where
     abbrev key_at : ℕ → T → List ℕ
     key_at j d = key_by variables (cube (get_or columns j d))
 
+    -- the first column is the first by keys of one column
     pub first_alone : ((d : T) → AreBytes (cube (get_or columns 0 d))) → IsFirstByKeys cube variables 1 columns 0
     first_alone bytes = record {
       there = omega arith;
@@ -189,12 +199,14 @@ module _ {T : Type 0} (cube : T → List Literal) (columns : List T) where
 
     -- the one of the least key of the first n
     pub record IsBest (n : ℕ) (best : Placed) : Type 0 where
+      -- its place is that of the first of them by keys, and its key is that of the column there
       pub first : IsFirstByKeys cube variables n columns best.place
       pub key : (d : T) → best.key.items ≡ key_at best.place d
 
+    -- the best of the first n columns, and the next one with its key
     module _ (n : ℕ) (best next : Placed) (h : IsBest n best) (at : next.place ≡ n)
         (key : (d : T) → IsKeyOf variables (cube (get_or columns next.place d)) next.key.items) where
-      -- what is so of the first n and of the next is so of all
+      -- what holds for the first n columns and for the next one holds for all of these
       with_next : (i : ℕ) → ((j : ℕ) (d : T) → j < n → is_below (key_at j d) (key_at i d) ≡ false) →
           ((d : T) → is_below (key_at next.place d) (key_at i d) ≡ false) → (j : ℕ) (d : T) → j < n + 1 →
           is_below (key_at j d) (key_at i d) ≡ false
@@ -211,6 +223,7 @@ module _ {T : Type 0} (cube : T → List Literal) (columns : List T) where
             e) (key d).bytes
       ]
 
+      -- if the next key isn't before the best one, the best column so far stays the best
       stays : is_below next.key.items best.key.items ≡ false → IsBest (n + 1) best
       stays f = record {
         first = record {
@@ -221,6 +234,7 @@ module _ {T : Type 0} (cube : T → List Literal) (columns : List T) where
         key = h.key;
       }
 
+      -- if the next key is before the best one, the next column is the best so far
       comes : is_below next.key.items best.key.items ≡ true → IsBest (n + 1) next
       comes t = record {
         first = record {
@@ -235,6 +249,7 @@ module _ {T : Type 0} (cube : T → List Literal) (columns : List T) where
         key = λ d. (key d).is;
       }
 
+      -- the lesser of the best of n columns and the next column is the best of n + 1
       pub best_next : (new : Placed) → new ≡ (if is_below next.key.items best.key.items then next else best) →
           IsBest (n + 1) new
       best_next new is = elim (cases_Bool (is_below next.key.items best.key.items)) [
@@ -246,6 +261,7 @@ module _ {T : Type 0} (cube : T → List Literal) (columns : List T) where
 
 -- ---- so columns that stand by keys stand by lows
 
+-- columns sorted by their keys are sorted by their lows along the order
 pub by_lows : {T : Type 0} (cube : T → List Literal) (g : Graph) (order variables : List ℕ) → length order ≤ 128 →
     variables ≡ variables_along g order →
     (before after : List (Ranked T)) →

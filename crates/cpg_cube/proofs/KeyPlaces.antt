@@ -55,12 +55,14 @@ left_before left (u ∷ us) w v n = elim (cases_eq u v) [
   | inr d ↦ left_later left u v (us ++ w ∷ []) d ∙ left_before (left - 1) us w v n ∙ sym (left_later left u v us d)
 ]
 
+-- before any place is written, every place is 0
 pub places_none : (v : ℕ) → (let none : ℕ = 0 in get_or (replicate 256 none) v none ≡ none)
 places_none v = elim (cases_lt v 256) [
   | inl l ↦ get_or-replicate 256 v 0 0 l
   | inr m ↦ get_or_past (replicate 256 0) v 0 m
 ]
 
+-- writing how many places are left at the next variable makes the places of one variable more
 pub places_more : (vs : List ℕ) → AllPairs (λ u v. u ≢ v) vs → (i d left : ℕ) → i < length vs → left + i ≡ 256 →
     (places : List ℕ) → length places ≡ 256 →
     slice_index_or vs i d < 256 →
@@ -97,6 +99,7 @@ stop_at number a key t = cond-true (nat_lt a number) 0 (suc (place_in number key
 go_on : (number a : ℕ) (key : List ℕ) → nat_lt a number ≡ false → place_in number (a ∷ key) ≡ suc (place_in number key)
 go_on number a key f = cond-false (nat_lt a number) 0 (suc (place_in number key)) f
 
+-- the place of a number is reached at the first lesser number of the key
 pub place_here : (number at all : ℕ) (key : List ℕ) → at < length key → nat_lt (slice_index_or key at 0) number ≡ true →
     all ≡ at + place_in number (drop at key) → at ≡ all
 place_here number at all key within t is =
@@ -104,6 +107,7 @@ place_here number at all key within t is =
     ∙ stop_at number (slice_index_or key at 0) (drop (at + 1) key) t in
     omega (arith, none, is)
 
+-- at a number that is not lesser, the place is further on
 pub place_next : (number at all : ℕ) (key : List ℕ) → at < length key →
     nat_lt (slice_index_or key at 0) number ≡ false →
     all ≡ at + place_in number (drop at key) →
@@ -116,6 +120,7 @@ place_next number at all key within f is =
 
 -- ---- a number put in its place
 
+-- inserting at a place puts a number between what stands before the place and what stands from it on
 pub insert_at : (key : List ℕ) (i x : ℕ) → i ≤ length key → insert key i x ≡ take i key ++ x ∷ drop i key
 insert_at key zero x l = refl
 insert_at [] (suc i) x l = absurd (omega (arith, l))
@@ -153,6 +158,7 @@ front f bytes number left (v ∷ vs) l = elim (cases_eq (f v) 0) [
 -- lows that differ at one variable, if the first has none
 module _ (v : ℕ) (f g : ℕ → ℕ) (nothing : f v ≡ 0) (something : g v ≢ 0) (others : (u : ℕ) → u ≢ v → g u ≡ f u)
     (bytes : (u : ℕ) → f u < 256) (byte : g v < 256) where
+  -- with the low of v put in its place, the key by f is the key by g, which differs from f at v alone
   inserted : (left : ℕ) (vs : List ℕ) → AllPairs (λ u w. u ≢ w) vs → length vs ≤ left →
       with_any_asked (left_at left vs v) (g v) (asked_from left (map f vs)) ≡ asked_from left (map g vs)
   inserted left [] apart few = refl
@@ -218,6 +224,7 @@ module _ (variables places : List ℕ) (are : ArePlaces variables places) where
         | inr n ↦ sym (others u n)
       ]
 
+  -- the key of `done` with the lows of `ls` is the key of both; one literal of `ls` after another
   all_more : (done ls : List Literal) → AreBytes done → AreBytes ls → IsRising ls →
       ((m l : Literal) → Contains done m → Contains ls l → m.variable < l.variable) →
       with_lows_of places ls (key_by variables done) ≡ key_by variables (done ++ ls)
@@ -236,6 +243,7 @@ module _ (variables places : List ℕ) (are : ArePlaces variables places) where
       is_byte : Literal → Type 0
       is_byte m = m.low < 256
 
+  -- putting the lows of a cube's literals one by one makes the cube's key
   pub key_made : (cube : List Literal) → AreBytes cube → IsRising cube → (key : List ℕ) →
       with_lows_of places cube [] ≡ key →
       key ≡ key_by variables cube
@@ -248,11 +256,13 @@ module _ (variables places : List ℕ) (are : ArePlaces variables places) where
 
 -- ---- a key block by block
 
+-- the lows of a block and of the rest are put one after the other
 pub lows_after : (places : List ℕ) (block rest : List Literal) (key : List ℕ) →
     with_lows_of places (block ++ rest) key ≡ with_lows_of places rest (with_lows_of places block key)
 lows_after places [] rest key = refl
 lows_after places (l ∷ block) rest key = lows_after places block rest (with_low_of places l key)
 
+-- literals that all begin at 0 leave the key as it is
 pub none_put : (places : List ℕ) (ls : List Literal) (key : List ℕ) → list_all (λ (l : Literal). l.low == 0) ls ≡ true →
     with_lows_of places ls key ≡ key
 none_put places [] key h = refl
@@ -262,6 +272,7 @@ none_put places (l ∷ ls) key h =
     (cond-true (l.low == 0) key (with_any_asked (get_or places l.variable 0) l.low key) parts.0)
     ∙ none_put places ls key parts.1
 
+-- literals that all begin at 0 have lows of a byte
 pub bytes_of_none : (ls : List Literal) → list_all (λ (l : Literal). l.low == 0) ls ≡ true → AreBytes ls
 bytes_of_none ls h k d l = omega (
   arith,
@@ -275,6 +286,7 @@ module _ (g : Graph) (few : process_count g ≤ 128) where
   own_apart : (p : ℕ) → p < process_count g → AllPairs (λ u v. u ≢ v) (variables_of g p)
   own_apart p l = one p l (condition_of g p)
     where
+      -- the variables of one process differ: its count, and the value of its condition if it has one
       one : (p : ℕ) → p < process_count g → (o : Option ℕ) → AllPairs (λ u v. u ≢ v) (p ∷ variable_of_value o)
       one p l None =
           AllPairs-cons_by (λ u v. u ≢ v) p [] (λ y c. absurd (Contains-nil y c)) (AllPairs-nil (λ u v. u ≢ v))
@@ -302,6 +314,7 @@ module _ (g : Graph) (few : process_count g ≤ 128) where
         | inr n ↦ absurd (Contains-nil v n)
       ]
 
+  -- variables of two processes differ: counts and values differ, and a condition has one process
   across : (p q u v : ℕ) → p < process_count g → q < process_count g → p ≢ q → Contains (variables_of g p) u →
       Contains (variables_of g q) v → u ≢ v
   across p q u v l m n j k e = elim (own_cases p u j) [
@@ -319,6 +332,7 @@ module _ (g : Graph) (few : process_count g ≤ 128) where
       process_same : (c d : ℕ) → c ≡ d → process_of g c ≡ process_of g d
       process_same c d e = ap (process_of g) e
 
+  -- no variable comes twice along an order
   pub variables_apart : (order : List ℕ) → IsPermutation (numbers_below (process_count g)) order →
       AllPairs (λ u v. u ≢ v) (variables_along g order)
   variables_apart order all =
@@ -331,6 +345,7 @@ module _ (g : Graph) (few : process_count g ≤ 128) where
 
 -- ---- two lists of lows that first differ at a variable
 
+-- if f and h agree before v and f is less at v, the list by h is not before the list by f
 lows_above : (f h : ℕ → ℕ) (v left : ℕ) (vs : List ℕ) → length vs ≤ left → left_at left vs v ≢ 0 →
     ((u : ℕ) → left_at left vs v < left_at left vs u → f u ≡ h u) → f v < h v →
     is_below (map h vs) (map f vs) ≡ false

@@ -2,6 +2,7 @@
 use Rattle.std.proofs.Common.{◌≡◌, ◌||◌, Bool, List, [], ◌∷◌, map, refl, ap}
 use Rattle.std.specs.List.{list_any}
 
+-- a test holds for some element of a mapped list if it holds for the image of some element
 pub any_map : {X Y : Type 0} (test : Y → Bool) (f : X → Y) (xs : List X) →
     list_any test (map f xs) ≡ list_any (λ x. test (f x)) xs
 any_map test f [] = refl

@@ -22,13 +22,16 @@ use Rattle.cpg_cube.proofs.BoundLaws.{fits_is_meet, spans_is_within}
 
 -- ---- what is left of the faults
 
+-- the budget of k faults is enough for a cube's literals exactly if the cube is met
 pub met_is : (k : ℕ) (cube : List Literal) → is_some (budget_left (is_open k) asked_of_literal k cube) ≡ is_met k cube
 met_is k cube = budget_is (is_open k) asked_of_literal k cube
 
+-- a cube is not met if the budget is not enough
 pub met_from_none : (k : ℕ) (cube : List Literal) → budget_left (is_open k) asked_of_literal k cube ≡ None →
     is_met k cube ≡ false
 met_from_none k cube e = sym (met_is k cube) ∙ ap is_some e
 
+-- a cube is met if something is left of the budget
 pub met_from_some : (k left : ℕ) (cube : List Literal) → budget_left (is_open k) asked_of_literal k cube ≡ Some left →
     is_met k cube ≡ true
 met_from_some k left cube e = sym (met_is k cube) ∙ ap is_some e
@@ -39,6 +42,7 @@ rest_from_some k left cube e = (budget_some (is_open k) asked_of_literal k left 
 
 -- ---- variables
 
+-- the variables of a graph within its limits are below 256
 pub small_variable : (g : Graph) → IsWithinLimits g → (v : ℕ) → IsVariable g v → v < 256
 small_variable g limits v h =
     let a = limits.few_processes in
@@ -48,6 +52,7 @@ small_variable g limits v h =
 
 -- ---- scenarios of lows
 
+-- functions that agree below 256 make the same scenario
 pub same_scenario : (g : Graph) → IsWithinLimits g → (f h : ℕ → ℕ) → ((v : ℕ) → v < 256 → f v ≡ h v) →
     scenario_of g f ≡ scenario_of g h
 same_scenario g limits f h same = ap₂ (λ v c. let s : Scenario = record { values = v; faults = c } in s)
@@ -60,14 +65,17 @@ same_scenario g limits f h same = ap₂ (λ v c. let s : Scenario = record { val
     (λ p k. let n = numbers-Contains (process_count g) p k in let m = limits.few_processes in same p (omega arith)))
 
 module _ (g : Graph) (limits : IsWithinLimits g) (a : List Literal) (is_a : IsCube g a) where
+  -- a cube that isn't met matches no scenario of the graph
   pub unmatched : is_met g.faults a ≡ false → (s : Scenario) → IsScenario g s → matches a s ≡ false
   unmatched e s i = false_from_ne_true (matches a s)
       (λ t. both_ways (is_met g.faults a) e (met_by g limits.few_processes a is_a s i t))
 
+  -- a cube that isn't met matches no scenario together with another
   pub apart_where_unmet : (b : List Literal) → is_met g.faults a ≡ false → (s : Scenario) → IsScenario g s →
       (matches a s && matches b s) ≡ false
   apart_where_unmet b e s i = ap (λ x. x && matches b s) (unmatched e s i)
 
+  -- a cube that isn't met meets no other
   pub meet_where_unmet : (b : List Literal) → is_met g.faults a ≡ false → do_meet g a b ≡ false
   meet_where_unmet b e = false_from_ne_true (do_meet g a b) (λ t.
       let r = and_parts (list_all (reaches g.faults b) a && list_all (reaches g.faults a) b)
@@ -81,13 +89,16 @@ module _ (g : Graph) (limits : IsWithinLimits g) (a : List Literal) (is_a : IsCu
       (from_all (reaches g.faults b) a l q.0 c)).0))
       (le-leb _ _ (omega arith))))
 
+  -- a cube that isn't met lies within every other
   pub within_where_unmet : (b : List Literal) → is_met g.faults a ≡ false → is_within g.faults a b ≡ true
   within_where_unmet b e =
       or_left (not (is_met g.faults a)) (list_all (bounds g.faults a) b) (not_from_false (is_met g.faults a) e)
 
   module _ (b : List Literal) (is_b : IsCube g b) where
+    -- the bounds of the cube, and the faults that it leaves
     module _ (lows_of highs_of : List ℕ) (are : AreBounds a lows_of highs_of) (left : ℕ)
         (some : budget_left (is_open g.faults) asked_of_literal g.faults a ≡ Some left) where
+      -- the other cube fits beside the bounds, with the faults that are left, exactly if the two meet
       pub meet_from_fit : is_some (budget_left (touches g.faults lows_of highs_of) (more_asked lows_of) left b)
           ≡ do_meet g a b
       meet_from_fit =
@@ -95,12 +106,14 @@ module _ (g : Graph) (limits : IsWithinLimits g) (a : List Literal) (is_a : IsCu
           fits_is_meet g limits.few_processes a is_a lows_of highs_of are limits.few_conditions (omega arith)
           (met_from_some g.faults left a some) left (rest_from_some g.faults left a some) b is_b
 
+      -- the other cube's literals span the bounds exactly if the cube lies within the other
       pub within_from_span : list_all (spans lows_of highs_of left) b ≡ is_within g.faults a b
       within_from_span =
           let small = limits.faults in
           spans_is_within g limits.few_processes a is_a lows_of highs_of are limits.few_conditions (omega arith)
           (met_from_some g.faults left a some) left (rest_from_some g.faults left a some) b is_b
 
+      -- the lows raised by the other cube make the scenario of the greater of both lows
       pub lows_raised : (later : List ℕ) → AreRaised b lows_of later →
           scenario_of g (λ v. get_or later v 0) ≡ both_lows g a b
       lows_raised later raised = same_scenario g limits (λ v. get_or later v 0) (both_low a b)

@@ -26,6 +26,7 @@ module _ (v : ℕ) where
       position_or_len (from_variable v) (m ∷ ms) ≡ 1 + position_or_len (from_variable v) ms
   counted_rest m ms h = ap (λ b. cond (not b) (1 + position_or_len (from_variable v) ms) 0) (lt-leb v m.variable h)
 
+  -- the count of the literals before the first one on the variable or above is the place of that one
   pub place_of_count : (cube : List Literal) (i : ℕ) → position_or_len (from_variable v) cube ≡ i → i < length cube →
       IsPlace v cube i
   place_of_count [] i e h = absurd (omega arith)
@@ -61,6 +62,7 @@ not_found n m e = by_case (nat_lt n m) refl e
     by_case true t h = cc
     by_case false t h = ltb-false n m t
 
+-- the position that the search finds is the place of the variable
 pub place_found : (v : ℕ) (cube : List Literal) (i : ℕ) → position (from_variable v) cube ≡ Some i → IsPlace v cube i
 place_found v cube i e = let r = found (position_or_len (from_variable v) cube) (length cube) i e in
     place_of_count v cube i r.0 r.1
@@ -73,13 +75,13 @@ module _ (l : Literal) where
   narrowed_last [] h = refl
   narrowed_last (m ∷ ms) h = narrowed-after l m ms h.0 ∙ ap (λ ls. m ∷ ls) (narrowed_last ms h.1)
 
-  -- if no literal is on the variable or above
+  -- if no literal is on the variable or above, the literal is put last
   pub narrowed-last : (cube : List Literal) → position (from_variable l.variable) cube ≡ None →
       narrowed_by l cube ≡ cube ++ l ∷ []
   narrowed-last cube e = narrowed_last cube
       (all_lower l.variable cube (not_found (position_or_len (from_variable l.variable) cube) (length cube) e))
 
-  -- if the place has a literal on the variable
+  -- if the place has a literal on the variable, it is set to what both have in common
   pub narrowed-set : (cube : List Literal) (i : ℕ) (d : Literal) → IsPlace l.variable cube i →
       (slice_index_or cube i d).variable ≡ l.variable →
       narrowed_by l cube ≡ slice_set cube i (meet_literal l (slice_index_or cube i d))
@@ -87,7 +89,7 @@ module _ (l : Literal) where
   narrowed-set (m ∷ ms) zero d p e = narrowed-here l m ms (sym e)
   narrowed-set (m ∷ ms) (suc i) d p e = narrowed-after l m ms p.0 ∙ ap (λ ls. m ∷ ls) (narrowed-set ms i d p.1 e)
 
-  -- if it has one above
+  -- if it has one on a variable above, the literal is put in there
   pub narrowed-in : (cube : List Literal) (i : ℕ) (d : Literal) → IsPlace l.variable cube i →
       ((slice_index_or cube i d).variable ≡ l.variable → ⊥) →
       narrowed_by l cube ≡ insert cube i l

@@ -21,6 +21,7 @@ above_first v m ms r h x c e = elim (Contains-cases m ms x c) [
 -- ---- the ranges of a cube narrowed by one literal
 
 module _ (k : ℕ) (l : Literal) where
+  -- narrowing by a literal leaves the lows of other variables
   pub low-other : (cube : List Literal) (v : ℕ) → l.variable ≢ v → low_in (narrowed_by l cube) v ≡ low_in cube v
   low-other [] v n = low_in-later l [] v n
   low-other (m ∷ ms) v n = elim (cases_order l.variable m.variable) [
@@ -34,6 +35,7 @@ module _ (k : ℕ) (l : Literal) where
     ]
   ]
 
+  -- narrowing by a literal leaves the highs of other variables
   pub high-other : (cube : List Literal) (v : ℕ) → l.variable ≢ v → high_in k (narrowed_by l cube) v ≡ high_in k cube v
   high-other [] v n = high_in-later k l [] v n
   high-other (m ∷ ms) v n = elim (cases_order l.variable m.variable) [
@@ -47,6 +49,7 @@ module _ (k : ℕ) (l : Literal) where
     ]
   ]
 
+  -- the low of the literal's variable becomes the greater of both lows
   pub low-same : (cube : List Literal) → IsRising cube →
       low_in (narrowed_by l cube) l.variable ≡ max l.low (low_in cube l.variable)
   low-same [] r = low_in-here l [] l.variable refl ∙ omega arith
@@ -64,6 +67,7 @@ module _ (k : ℕ) (l : Literal) where
         ∙ ap (max l.low) (sym (low_in-later m ms l.variable o))
   ]
 
+  -- the high of the literal's variable becomes the lesser of both highs
   pub high-same : (cube : List Literal) → IsRising cube → l.high ≤ top k l.variable →
       high_in k (narrowed_by l cube) l.variable ≡ min l.high (high_in k cube l.variable)
   high-same [] r w = high_in-here k l [] l.variable refl ∙ omega arith

@@ -1,4 +1,4 @@
--- One pass tells whether variables rise.
+-- One pass finds whether variables rise.
 use Rattle.std.proofs.Common.{ℕ, ◌+◌, ◌<◌, ◌≤◌, ◌≡◌, true, List, [], ◌∷◌, Contains, arith, refl, ⊎_elim, le-leb}
 use Rattle.std.proofs.Common.{leb-true}
 use Rattle.std.specs.Prelude.{nat_le}
@@ -21,6 +21,7 @@ from_least least (l ∷ ls) h m c =
     (λ (d : Contains ls m). let b = from_least (l.variable + 1) ls r.1 m d in omega arith)
     (Contains-cases l ls m c)
 
+-- if the pass says that the variables rise, they do
 pub rising_from : (least : ℕ) (ls : List Literal) → rises_from least ls ≡ true → IsRising ls
 rising_from least [] h = AllPairs-nil (λ l m. l.variable < m.variable)
 rising_from least (l ∷ ls) h =
@@ -28,6 +29,7 @@ rising_from least (l ∷ ls) h =
     AllPairs-cons_by (λ l m. l.variable < m.variable) l ls (λ m c. let a = from_least (l.variable + 1) ls r.1 m c in
     omega arith) (rising_from (l.variable + 1) ls r.1)
 
+-- if the variables rise from at least the given one, the pass says so
 pub rises_by : (least : ℕ) (ls : List Literal) → IsRising ls → ((l : Literal) → Contains ls l → least ≤ l.variable) →
     rises_from least ls ≡ true
 rises_by least [] r h = refl

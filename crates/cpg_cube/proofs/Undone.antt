@@ -45,6 +45,7 @@ module _ {T : Type 0} (x : T) where
   in_is (y ∷ ys) (suc i) d h = in_is ys i d (omega (arith, h))
 
 module _ (l : Literal) (xs : List Literal) where
+  -- a literal put last is taken off at its place
   pub undo_last : (new : List Literal) (place : ℕ) → place ≡ length xs → new ≡ xs ++ l ∷ [] →
       IsUndo (record { place = place; was = None }) new xs
   undo_last new place at is = record {
@@ -52,6 +53,7 @@ module _ (l : Literal) (xs : List Literal) where
     back = rw (is, at) (removed_last l xs);
   }
 
+  -- a literal put in at a place is taken off there
   pub undo_in : (new : List Literal) (place : ℕ) → place < length xs → new ≡ insert xs place l →
       IsUndo (record { place = place; was = None }) new xs
   undo_in new place h is = record {
@@ -59,6 +61,7 @@ module _ (l : Literal) (xs : List Literal) where
     back = rw is (removed_in l xs place h);
   }
 
+  -- a literal that was set at a place is replaced by the one that was there
   pub undo_set : (new : List Literal) (place : ℕ) (was d : Literal) → place < length xs →
       was ≡ slice_index_or xs place d →
       new ≡ slice_set xs place l →
@@ -70,6 +73,7 @@ module _ (l : Literal) (xs : List Literal) where
 
   -- ---- the literal there is on the variable
 
+  -- at the place of a narrowing is a literal on the variable, if it was put last
   pub on_last : (new : List Literal) (place : ℕ) → place ≡ length xs → new ≡ xs ++ l ∷ [] →
       IsOn l.variable (record { place = place; was = None }) new
   on_last new place at is = record {
@@ -77,6 +81,7 @@ module _ (l : Literal) (xs : List Literal) where
     before = tt;
   }
 
+  -- so it is if the literal was put in
   pub on_in : (new : List Literal) (place : ℕ) → place < length xs → new ≡ insert xs place l →
       IsOn l.variable (record { place = place; was = None }) new
   on_in new place h is = record {
@@ -84,6 +89,7 @@ module _ (l : Literal) (xs : List Literal) where
     before = tt;
   }
 
+  -- so it is if the literal was set, and the literal before was on the variable, too
   pub on_set : (new : List Literal) (place v : ℕ) (was : Literal) → place < length xs → was.variable ≡ v →
       l.variable ≡ v →
       new ≡ slice_set xs place l →

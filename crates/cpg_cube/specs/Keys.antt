@@ -1,5 +1,5 @@
--- What columns stand by: the lows of their cubes along an order, of each process that of its count and then that of its
--- value.
+-- What columns are sorted by: the lows of their cubes along an order, of each process that of its count and then
+-- that of its value.
 use Rattle.std.specs.Prelude.{ℕ, suc, ◌+◌, ◌-◌, ◌*◌, ◌<◌, ◌≤◌, ◌≡◌, ◌≢◌, ◌==◌, nat_lt, if◌then◌else◌, false, List, []}
 use Rattle.std.specs.Prelude.{◌∷◌, ◌++◌, get_or, length, map, take, drop, Option, None, Some, All, AllPairs}
 use Rattle.std.specs.List.{flat_map}
@@ -16,7 +16,7 @@ low_of_value low (Some c) = low (value_variable c) ∷ []
 abbrev pub lows_of : Graph → (ℕ → ℕ) → ℕ → List ℕ
 lows_of g low p = low p ∷ low_of_value low (condition_of g p)
 
--- these lows along an order
+-- the lows of counts and values along an order
 abbrev pub lows_along : Graph → List ℕ → (ℕ → ℕ) → List ℕ
 lows_along g order low = flat_map (lows_of g low) order
 
@@ -44,7 +44,7 @@ variable_of_value (Some c) = value_variable c ∷ []
 abbrev pub variables_of : Graph → ℕ → List ℕ
 variables_of g p = p ∷ variable_of_value (condition_of g p)
 
--- these along an order
+-- the variables of counts and values along an order
 abbrev pub variables_along : Graph → List ℕ → List ℕ
 variables_along g order = flat_map (variables_of g) order
 
@@ -71,7 +71,7 @@ abbrev pub left_at : ℕ → List ℕ → ℕ → ℕ
 left_at left [] v = 0
 left_at left (u ∷ us) v = if u == v then left else left_at (left - 1) us v
 
--- how many places are left at each of some variables, of which each is there once
+-- how many places are left at each of some variables, no two of which are the same
 pub record ArePlaces (variables places : List ℕ) : Type 0 where
   pub few : length variables ≤ 256
   pub apart : AllPairs (λ u v. u ≢ v) variables
@@ -103,7 +103,7 @@ with_lows_of places (l ∷ ls) key = with_lows_of places ls (with_low_of places 
 abbrev pub AreBytes : List Literal → Type 0
 AreBytes cube = All (λ (l : Literal). l.low < 256) cube
 
--- what a cube stands by
+-- the key of a cube by some variables, of literals whose lows are bytes
 pub record IsKeyOf (variables : List ℕ) (cube : List Literal) (key : List ℕ) : Type 0 where
   pub is : key ≡ key_by variables cube
   pub bytes : AreBytes cube

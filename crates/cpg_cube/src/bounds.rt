@@ -17,7 +17,9 @@ pub const VARIABLES: usize = 256;
 /// The least and the greatest number of each variable in a cube, 0 and 255 if it has no literal on the variable.
 #[derive(Drop)]
 pub struct Bounds {
+    /// The least number of each variable, 0 without a literal.
     pub low: [u8; VARIABLES],
+    /// The greatest number of each variable, 255 without a literal.
     pub high: [u8; VARIABLES],
 }
 
@@ -28,9 +30,11 @@ pub fn budget_left(k: u8, literals: &[Literal]) -> Option<u8>
 {
     let mut left = k;
     for literal in literals {
+        // no scenario of at most `k` faults has a number in its range
         if !literal.is_open(k) {
             return None;
         }
+        // the literal asks for more faults than are left
         if literal.asked() > left {
             return None;
         }
@@ -78,10 +82,12 @@ impl Bounds {
     {
         let mut left = room;
         for literal in literals {
+            // the variable has no number in both ranges
             if !self.touches(k, literal) {
                 return false;
             }
             let more = self.more_asked(literal);
+            // the literal asks for more faults than are left
             if more > left {
                 return false;
             }
@@ -90,12 +96,13 @@ impl Bounds {
         true
     }
 
-    /// Whether a literal's range has all numbers of its variable if so many faults are left.
+    /// Whether a literal's range has all numbers of its variable if this many faults are left.
     pub fn spans(&self, left: u8, literal: &Literal) -> bool
         ensures { result ≡ spans self.now.low self.now.high left literal.now }
     {
         let low = self.low[literal.variable as usize];
         let high = self.high[literal.variable as usize];
+        // a count can be as many faults above its low as are left, and a value is at most 1
         let most = if literal.variable < FIRST_VALUE {
             low.saturating_add(left)
         } else {
@@ -104,7 +111,7 @@ impl Bounds {
         literal.low <= low && high.min(most) <= literal.high
     }
 
-    /// Whether the ranges of all literals have all numbers of their variables if so many faults are left.
+    /// Whether the ranges of all literals have all numbers of their variables if this many faults are left.
     pub(crate) fn span_all(&self, left: u8, literals: &[Literal]) -> bool
         ensures { result ≡ list_all (spans self.now.low self.now.high left) literals.now }
     {
@@ -122,6 +129,7 @@ impl Bounds {
         }
     }
 
+    /// Writes the least number of each process's variable as its fault count.
     fn write_faults(&self, least: &mut Scenario, processes: u32)
         requires few { processes ≤ 128 }
         requires counts { length least.old.faults ≡ processes }
@@ -132,6 +140,7 @@ impl Bounds {
         }
     }
 
+    /// Writes the value of each condition: true if the least number of its variable is above 0.
     fn write_values(&self, least: &mut Scenario, conditions: u32)
         requires few { conditions ≤ 32 }
         requires values { length least.old.values ≡ conditions }

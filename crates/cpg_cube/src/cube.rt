@@ -42,7 +42,9 @@ impl Model for Cube {
 /// What narrowed a cube: the place of the literal, and the one on its variable that was there.
 #[derive(Clone, Copy)]
 pub struct Narrowing {
+    /// The place of the literal that narrowed the cube.
     place: usize,
+    /// The literal on its variable that was there; `None` if there was none.
     was: Option<Literal>,
 }
 
@@ -58,7 +60,7 @@ impl Narrowing {
     }
 }
 
-/// Whether each variable is greater than the one before: without a way out before the last, so that the compiler compares
+/// Whether each variable is greater than the one before. It never stops early, so that the compiler compares
 /// several at once.
 fn do_variables_rise(literals: &[Literal]) -> bool
     ensures { result ≡ rises_from 0 literals.now }
@@ -103,12 +105,14 @@ fn narrow(literals: &mut SmallVec<Literal, FEW>, literal: Literal) -> Result<Nar
     ensures on { IfOk result (λ n. IsOn literal.variable n literals.new.items) }
     ensures same { IfErr result (λ _. literals.new.items ≡ literals.old.items) }
 {
+    // all variables are below this one, so the literal goes to the end
     let Some(place) = first_literal_from(literals.as_slice(), literal.variable) else {
         let place = literals.len();
         literals.push(literal)?;
         return Ok(Narrowing { place, was: None });
     };
     let other = literals.as_slice()[place];
+    // the variable has a literal, which is met with this one
     if other.variable == literal.variable {
         literals.as_mut_slice()[place] = literal.met(other);
         return Ok(Narrowing {
@@ -116,11 +120,12 @@ fn narrow(literals: &mut SmallVec<Literal, FEW>, literal: Literal) -> Result<Nar
             was: Some(other),
         });
     }
+    // the variable has no literal yet
     literals.insert(place, literal)?;
     Ok(Narrowing { place, was: None })
 }
 
-/// What `narrow` does, at once if the variable is above all others, as it mostly is along a path.
+/// Does what `narrow` does, without a search if the variable is above all others, as is usual along a path.
 fn put(literals: &mut SmallVec<Literal, FEW>, literal: Literal) -> Result<Narrowing, OutOfMemory>
     requires { IsRising literals.old.items }
     ensures narrowed { IfOk result (λ _. literals.new.items ≡ narrowed_by literal literals.old.items) }
@@ -128,6 +133,7 @@ fn put(literals: &mut SmallVec<Literal, FEW>, literal: Literal) -> Result<Narrow
     ensures on { IfOk result (λ n. IsOn literal.variable n literals.new.items) }
     ensures same { IfErr result (λ _. literals.new.items ≡ literals.old.items) }
 {
+    // the usual case: the literal goes to the end
     if is_above(literals.as_slice(), literal.variable) {
         let place = literals.len();
         literals.push(literal)?;
@@ -140,6 +146,7 @@ fn put(literals: &mut SmallVec<Literal, FEW>, literal: Literal) -> Result<Narrow
 fn copied(alloc: Global, literals: &[Literal]) -> Result<SmallVec<Literal, FEW>, OutOfMemory>
     ensures { IfOk result (λ copy. copy.items ≡ literals.now) }
 {
+    // few literals need no memory of their own
     if literals.len() <= FEW {
         let copy = SmallVec::from_slice(alloc, literals)?;
         return Ok(copy);
@@ -198,7 +205,7 @@ impl Cube {
         Ok(Cube { literals })
     }
 
-    /// Whether each variable is one of the problem's, as calls with a problem ask.
+    /// Whether each variable is one of the problem's, as calls with a problem require.
     pub fn is_known(&self, problem: &Problem) -> bool
         ensures { IsTrue result ↔ IsKnown problem.now self.now }
     {
@@ -230,7 +237,7 @@ impl Cube {
         literal
     }
 
-    /// As `range_left`, at once if the variable is above all others.
+    /// Does what `range_left` does, without a search if the variable is above all others.
     fn range_with(&self, literal: Literal) -> Literal
         ensures { result ≡ range_left literal self.now }
     {
@@ -261,6 +268,7 @@ impl Cube {
         ensures none { IfOk result (λ r. IfNone r ((s : Scenario) → (holds s literal && matches self.now s) ≡ false)) }
     {
         let left = self.range_with(literal);
+        // the range that is left is empty
         if left.low > left.high {
             return Ok(None);
         }
@@ -279,6 +287,7 @@ impl Cube {
         ensures rising { IsRising self.old }
     {
         let left = self.range_with(literal);
+        // the range that is left is empty
         if left.high < left.low {
             return Ok(None);
         }
@@ -313,6 +322,7 @@ impl Cube {
         ensures same { OnFalse result (self.new ≡ restored narrowed self.old) }
     {
         let left = narrowed.left(literal);
+        // the range that is left is empty
         if left.high < left.low {
             self.restore(narrowed);
             return false;
@@ -364,10 +374,12 @@ impl Cube {
     {
         let k = problem.faults();
         let literals = other.literals();
+        // this cube alone matches no scenario
         let Some(left) = budget_left(k, self.literals()) else {
             return None;
         };
         let mut bounds = Bounds::of(self.literals());
+        // the two have no number of some variable in common, or ask for more faults than `k`
         if !bounds.fits(k, left, literals) {
             return None;
         }
@@ -404,6 +416,7 @@ impl Cube {
         self.is_within(other, problem)
     }
 
+    /// Whether the cube lies within another. The contract also says that both are cubes of the problem.
     fn is_within(&self, other: &Cube, problem: &Problem) -> bool
         requires first { IsKnown problem.now self.now }
         requires second { IsKnown problem.now other.now }
@@ -412,6 +425,7 @@ impl Cube {
         ensures within { IsWithinLimits problem.now }
     {
         let literals = other.literals();
+        // a cube that matches no scenario lies within every cube
         let Some(left) = budget_left(problem.faults(), self.literals()) else {
             return true;
         };

@@ -21,7 +21,7 @@ pub struct Literal {
 /// How many literals are looked at together.
 pub const BLOCK: usize = 4;
 
-/// Whether all literals begin at 0, as most do: without a way out before the last, so that it is one test.
+/// Whether all literals begin at 0, as most do. It never stops early, so that it is one test.
 pub fn begin_at_zero(literals: &[Literal; BLOCK]) -> bool
     ensures { result ≡ list_all (λ l. l.low == 0) literals.now }
 {
@@ -38,7 +38,7 @@ impl Literal {
         self.low <= number && number <= self.high
     }
 
-    /// Whether the variable is one of a graph with so many processes and conditions.
+    /// Whether the variable is one of a graph with this many processes and conditions.
     pub(crate) fn is_known(&self, processes: usize, conditions: u32) -> bool
         ensures { IsTrue result ↔ (self.now.variable < processes) ⊎ ((128 ≤ self.now.variable) × (self.now.variable < 128 + conditions)) }
     {

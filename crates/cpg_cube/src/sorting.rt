@@ -83,7 +83,7 @@ fn places_of(variables: &[u8]) -> [u16; VARIABLES]
 }
 
 /// How many places are left at each variable along an order, a process's count and then its value: 256 at the first, and 0
-/// at what is no variable of the problem. The one error is `OutOfMemory`.
+/// at a number that is no variable of the problem. The one error is `OutOfMemory`.
 pub fn places_along(
     alloc: Global,
     problem: &Problem,
@@ -117,6 +117,7 @@ fn put_number(number: u32, key: &mut SmallVec<u32, SHORT>) -> Result<(), OutOfMe
     ensures { OnOk result (key.new.items ≡ with_number number key.old.items) }
 {
     let place = place_in(number, key.as_slice());
+    // no number of the key is less, so this one goes to the end
     if place >= key.len() {
         key.push(number)?;
         return Ok(());
@@ -134,13 +135,16 @@ fn put_low_of(
     ensures key { OnOk result (key.new.items ≡ with_low_of places.now literal key.old.items) }
     ensures byte { literal.low < 256 }
 {
+    // a low of 0 is the same as no literal
     if literal.low == 0 {
         return Ok(());
     }
     let left = places[literal.variable as usize];
+    // the variable is none of those of the key
     if left == 0 {
         return Ok(());
     }
+    // an earlier variable counts for more than any low of a later one
     put_number(u32::from(left) * LOWS + u32::from(literal.low), key)
 }
 
@@ -174,7 +178,7 @@ fn put_block(
     put_lows_of(places, literals, key)
 }
 
-/// What a cube stands by: the lows along some variables that aren't 0, each with how many places are left.
+/// The key of a cube: the lows along some variables that aren't 0, each with how many places are left.
 fn key_of(
     alloc: Global,
     places: &[u16; VARIABLES],
@@ -194,14 +198,14 @@ fn key_of(
     Ok(key)
 }
 
-/// A column with what it stands by.
+/// A column with its key.
 #[derive(Drop)]
 struct Ranked<T> {
     key: SmallVec<u32, SHORT>,
     column: T,
 }
 
-/// The columns with what they stand by.
+/// The columns with their keys.
 fn with_keys<T: Cubed + Drop>(
     alloc: Global,
     variables: &[u8],
@@ -222,7 +226,7 @@ fn with_keys<T: Cubed + Drop>(
     Ok(ranked)
 }
 
-/// The columns without what they stand by.
+/// The columns without their keys.
 fn without_keys<T: Drop>(alloc: Global, ranked: Vec<Ranked<T>>) -> Result<Vec<T>, OutOfMemory>
     ensures { IfOk result (λ r. r.items ≡ map (λ x. x.column) ranked.items) }
 {
@@ -250,7 +254,7 @@ pub fn by_least_scenario<T: Cubed + Drop>(
     without_keys(alloc, ranked)
 }
 
-/// A column's place with what it stands by.
+/// A column's place with its key.
 #[derive(Drop)]
 struct Placed {
     key: SmallVec<u32, SHORT>,
@@ -285,6 +289,7 @@ fn first_by_key<T: Cubed>(
     let places = places_of(variables);
     let key = key_of(alloc, &places, columns[0].cube())?;
     let mut best = Placed { key, place: 0 };
+    // the first column is the best so far, and each other one is compared with the best
     for place in 1..columns.len() {
         let key = key_of(alloc, &places, columns[place].cube())?;
         best = lesser(best, Placed { key, place });

@@ -32,6 +32,7 @@ pair-cycle = refl
 pub pair-one_shorter : IsCycle pair pair_tables 119 → ⊥
 pair-one_shorter c = let whole : 119 ≡ c.rounds * 20 = c.whole in absurd (omega (arith, whole))
 
+-- 100 is before the deadline 105
 pub pair-one_round_shorter : IsCycle pair pair_tables 100 → ⊥
 pair-one_round_shorter c = let deadline : 105 ≤ 100 = c.deadline in absurd (omega (arith, deadline))
 
@@ -51,6 +52,7 @@ pair_turns = 0 ∷ 0 ∷ 0 ∷ 0 ∷ 0 ∷ 1 ∷ 1 ∷ 1 ∷ 1 ∷ []
 abbrev pub pair_play : Cluster
 pair_play = play pair pair_world (initial_cluster pair pair_tables) pair_turns
 
+-- A starts at 0, its message is sent at 80, and B starts at 90
 pub pair-acts : pair_play.acts ≡ (act 0 0 0 ∷ act 80 2 1 ∷ []) ∷ (act 90 1 1 ∷ []) ∷ []
 pair-acts = refl
 
@@ -64,6 +66,7 @@ pair-not_over_by_100 o =
 pub pair-by_120 : least_cycle (record pair { deadline = 120 }) pair_tables ≡ 120
 pair-by_120 = refl
 
+-- past 120, the next multiple is 140
 pub pair-by_121 : least_cycle (record pair { deadline = 121 }) pair_tables ≡ 140
 pair-by_121 = refl
 
@@ -90,6 +93,7 @@ late_tables =
     ∷ record empty_table
     { starts = item_row 2 (column 0 [] ∷ []) ∷ []; sends = []; hears = item_row 4 (column 50 [] ∷ []) ∷ [] } ∷ []
 
+-- the least cycle is 60, not 40: the frame arrives at 50
 pub late-cycle : least_cycle late_broadcast late_tables ≡ 60
 late-cycle = refl
 
@@ -104,6 +108,7 @@ late_world = record { scenario = record { values = true ∷ []; faults = 0 ∷ 0
 abbrev pub late_play : Cluster
 late_play = play late_broadcast late_world (initial_cluster late_broadcast late_tables) (0 ∷ 0 ∷ 0 ∷ [])
 
+-- A starts at 0, B at 30, and A's value is sent at 40
 pub late-acts : late_play.acts ≡ (act 0 0 0 ∷ act 30 1 0 ∷ act 40 4 0 ∷ []) ∷ [] ∷ []
 late-acts = refl
 
@@ -142,9 +147,11 @@ alone = record {
 abbrev pub alone_tables : List NodeTable
 alone_tables = record empty_table { starts = item_row 0 (column 0 [] ∷ []) ∷ []; sends = []; hears = [] } ∷ []
 
+-- without a bus, the least cycle is the deadline, and no time before it is one
 pub alone-cycle : least_cycle alone alone_tables ≡ 7
 alone-cycle = refl
 
+-- 6 is before the deadline 7
 pub alone-one_shorter : IsCycle alone alone_tables 6 → ⊥
 alone-one_shorter c = let deadline : 7 ≤ 6 = c.deadline in absurd (omega (arith, deadline))
 
@@ -153,11 +160,13 @@ abbrev pub three_slots : List Slot
 three_slots = record { node = 0; length = 10; bytes = 16 } ∷ record { node = 1; length = 10; bytes = 16 }
     ∷ record { node = 2; length = 10; bytes = 16 } ∷ []
 
+-- the least cycle of the cruise controller is 2010, the first multiple of its round of 30 from 2000 on
 pub controller-cycle : (g : Graph) (tables : List NodeTable) → last_arrival tables ≤ 2000 →
     least_cycle (record g { deadline = 2000; slots = three_slots }) tables ≡ 2010
 controller-cycle g tables h = let bound : max 2000 (last_arrival tables) ≡ 2000 = omega (arith, h) in
     ap (λ n. div_ceil (max n 1) 30 * 30) bound
 
+-- one round less is before the deadline
 pub controller-one_round_shorter : (g : Graph) (tables : List NodeTable) →
     IsCycle (record g { deadline = 2000; slots = three_slots }) tables 1980 → ⊥
 controller-one_round_shorter g tables c = let deadline : 2000 ≤ 1980 = c.deadline in absurd (omega (arith, deadline))

@@ -1,4 +1,4 @@
--- What isn't quiet, streams that are lawful or not, and a stream that is what a node is told in a play.
+-- Turns that aren't quiet, streams that are lawful or not, and the stream that a node is told in a play.
 use Rattle.std.proofs.Common.{◌≡◌, ℕ, zero, suc, ◌<◌, ◌≤◌, ◌==◌, List, [], ◌∷◌, length, Contains, Some, None, true}
 use Rattle.std.proofs.Common.{false, true≢false, refl, sym, ap, arith}
 use Rattle.std.specs.Prelude.{get_or, is_some, Ok, Err}
@@ -34,6 +34,7 @@ use Rattle.cpg_examples.proofs.CycleExamples.{late_play}
 pub start-is_not_quiet : IsQuiet (initial_dispatcher (own_table pair 0 (table_at pair_tables 0))) 0 → ⊥
 start-is_not_quiet q = let one : 1 ≡ 0 = ap length q.acts in absurd (omega (arith, one))
 
+-- the turn does something
 pub start-is_done : acts_of_turn (initial_dispatcher (own_table pair 0 (table_at pair_tables 0))) 0 [] [] ≡ [] → ⊥
 start-is_done e = let one : 1 ≡ 0 = ap length e in absurd (omega (arith, one))
 
@@ -44,14 +45,15 @@ reported = record (initial_dispatcher (own_table pair 0 (table_at pair_tables 0)
   last = Some 0;
 }
 
+-- at 35 the report is due, so a turn isn't quiet
 pub report-is_not_quiet : IsQuiet reported 35 → ⊥
 report-is_not_quiet q = let one : 1 ≡ 0 = ap length q.ends in absurd (omega (arith, one))
 
--- after which it doesn't run
+-- a turn at which the report is taken leaves the execution ended
 pub report-is_taken : turn reported 35 [] [] ≡ record reported { last = Some 35 } → ⊥
 report-is_taken e = true≢false (sym (ap (λ (d : Dispatcher). is_some (get_or d.running 0 None)) e))
 
--- if it isn't due, a turn is quiet
+-- a turn before the report is due is quiet
 pub between-is_quiet : IsQuiet reported 34
 between-is_quiet = record { ends = refl; acts = refl }
 
@@ -60,9 +62,11 @@ abbrev pub overtold : Dispatcher
 overtold = record reported
     { running = Some (record { start = 7; report = Some (record { process = 0; faults = 2; value = false }) }) ∷ [] }
 
+-- 7 is among the awaited instants
 pub overtold-awaited : Contains (awaited overtold) 7
 overtold-awaited = (3, omega arith, refl)
 
+-- but it is not among the candidates
 pub overtold-no_candidate : Contains (candidates overtold) 7 → ⊥
 overtold-no_candidate c = true≢false (from_any_false (λ t. t == 7) (candidates overtold) 7 refl c)
 
@@ -76,6 +80,7 @@ frame time column = (time, Arrival (record { item = 2; column = column; value = 
 abbrev pub lawful_events : List (ℕ × Event)
 lawful_events = frame 90 1 ∷ (105, Ending 1 0 false) ∷ []
 
+-- the stream of these events is followed to its close at 105
 pub stream-is_lawful : outcome (after second (stream_bytes (closed_at lawful_events 105))) ≡ Ok 105
 unfolding turns_below
 stream-is_lawful = refl
@@ -96,6 +101,7 @@ broadcast = (50, Arrival (record { item = 8; column = 0; value = true }))
 abbrev pub message : ℕ × Event
 message = (70, Arrival (record { item = 4; column = 0; value = false }))
 
+-- the stream of both events is followed to its close at 95
 pub branching-is_lawful : outcome (after branching_second (stream_bytes (closed_at (broadcast ∷ message ∷ []) 95)))
     ≡ Ok 95
 unfolding turns_below
@@ -113,6 +119,7 @@ branching-falling = refl
 pub told-is_lawful_events : records_in pair pair_world (initial_cluster pair pair_tables) 1 pair_turns ≡ lawful_events
 told-is_lawful_events = refl
 
+-- these are all events that it is told
 pub told-all : IsToldAll pair pair_tables pair_world pair_turns 1 105 lawful_events
 told-all = record {
   those = ([], (105, Ending 1 0 false) ∷ [], refl, ([], [], refl, refl));
@@ -122,7 +129,7 @@ told-all = record {
   small = omega arith;
 }
 
--- N2 does on the events that it is told what it does in the play
+-- on the events that it is told, N2 does what it does in the play
 pub told-acts : (after second (stream_bytes (closed_at lawful_events 105))).progress.acts ≡ act 90 1 1 ∷ []
 unfolding turns_below
 told-acts = refl
@@ -139,12 +146,13 @@ frozen_world =
     lengths (suc zero) l = (omega arith, omega arith)
     lengths (suc (suc p)) l = absurd (omega arith)
 
+-- the stream of a node gives what is due in the play
 pub frozen-gives : GivesWhatIsDue frozen_pair tables pair_world pair_turns 1 105
 unfolding tables
 frozen-gives = streams_give frozen_pair tables (formed true) shape valid pair_world pair_turns 1 105 frozen_world
     (omega arith) refl (omega arith)
 
--- without a node that is done it doesn't hold: of what is due on N1, which was never asked, the start of A alone is
+-- if a node isn't done, this fails: of the acts that are due on N1, which was never asked, only the start of A is
 -- done
 pub unasked-not_due : GivesWhatIsDue frozen_pair tables pair_world [] 0 0 → ⊥
 unfolding tables turns_below
@@ -159,6 +167,7 @@ hollow = record { low = 1; high = 0 } ∷ []
 abbrev pub silent : Frame
 silent = record { item = 0; column = 0; value = false }
 
+-- the range of the heard list stays contradicted, though the frame's literals contradict nothing
 pub hollow-stays : list_any is_contradicted (hear_frame second hollow silent) ≡
     list_any (λ (l : Literal). is_contradicted (range_of (hear_frame second hollow silent) l.variable))
     (frame_literals second silent) → ⊥
@@ -168,5 +177,6 @@ hollow-stays e = true≢false e
 pub sent-known : range_of (dispatcher_at late_play 0).heard 128 ≡ only 1
 sent-known = refl
 
+-- before N1 has sent the value, it doesn't know it
 pub unsent-unknown : range_of (dispatcher_at (initial_cluster late_broadcast late_tables) 0).heard 128 ≡ only 1 → ⊥
 unsent-unknown e = let low : 0 ≡ 1 = ap (λ (r : Range). r.low) e in absurd (omega (arith, low))

@@ -1,4 +1,4 @@
--- What the trees of activity tell of items.
+-- What the trees of activity say of items.
 use Rattle.std.proofs.Common.{ℕ, ◌<◌, ◌≡◌, ◌∙◌, Bool, List, ap, sym, subst}
 use Rattle.cpg_base.specs.Graph.{Graph, process_count, producer, producer_of_item}
 use Rattle.cpg_base.specs.Activity.{active, is_active, item_active}
@@ -14,10 +14,12 @@ use Rattle.cpg_expand.specs.Guarded.{IsActiveTree, values_known}
 use Rattle.cpg_expand.specs.Sending.{IsGoesTree}
 use Rattle.cpg_tree.proofs.OnePath.{scenario_few}
 
+-- given: a process of an admitted graph, its guard, and the tree of where the guard leads to an active leaf
+-- `guard`, `is`: p's guard; `chooser`, `chosen`: the tree of where that guard leads to an active leaf
 module _ (g : Graph) (order : List ℕ) (guards : Guards) (admitted : IsAdmitted g order guards) (guard : Guard) (p : ℕ)
     (l : p < process_count g) (is : guard ≡ tree_of guards p)
     (chooser : TreeState Bool) (chosen : IsActiveTree g.faults guard chooser) where
-  -- whether a process is active
+  -- the tree has the activity of the process in each scenario
   active_has_value : (s : Scenario) → IsScenario g s →
       HasValueFrom s (values_known s (way guard s.values)) (active g s.values p) chooser
   active_has_value s law = subst (λ b. HasValueFrom s (values_known s (way guard s.values)) b chooser)

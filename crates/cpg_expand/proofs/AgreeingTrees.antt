@@ -42,7 +42,7 @@ module _ (xs ys : List Literal) (v : ℕ) where
 -- ---- the operations
 
 module _ (s : Scenario) where
-  -- literals more, and a fact that follows
+  -- a tree that agrees by some literals agrees by more, with any fact that follows
   pub agrees_weaker : {T : Type 0} (t : TreeState T) (some more : List Literal) (fact other : T → Type 0) →
       ((l : Literal) → Contains some l → Contains more l) →
       ((x : T) → fact x → other x) →
@@ -57,6 +57,7 @@ module _ (s : Scenario) where
         };
   }
 
+  -- a tree of one value agrees with any fact of it, and its path has no literals
   pub agrees_constant : {T : Type 0} (x : T) (k : ℕ) (t : TreeState T) (fact : T → Type 0) → fact x → IsConstant x k t →
       Agrees s [] fact t
   agrees_constant x k t fact holds is = subst (Agrees s [] fact) (sym is) (record {
@@ -68,6 +69,7 @@ module _ (s : Scenario) where
       only : (y : Path _) → Contains (([], x) ∷ []) y → ([], x) ≡ y
       only y c = only_one ([], x) y c
 
+  -- a tree that is made by answers to the values of another agrees with the answers, by the same literals
   pub agrees_map : {T U : Type 0} (answers : T → U → Type 0) (a : TreeState T) (r : TreeState U)
       (literals : List Literal) (fact : T → Type 0) (other : U → Type 0) →
       HasAtMostFaults a.faults s → HasOnePathEach a.faults a.paths → IsMap answers a r →
@@ -85,6 +87,7 @@ module _ (s : Scenario) where
             });
       }
 
+  -- a tree that is made of two agrees with the answers to both values, by the literals of both
   pub agrees_join : {T U V : Type 0} (answers : T → U → V → Type 0) (a : TreeState T) (b : TreeState U)
       (r : TreeState V) (first second : List Literal) (fact_a : T → Type 0) (fact_b : U → Type 0)
       (fact : V → Type 0) →
@@ -120,6 +123,8 @@ module _ (s : Scenario) where
       Agrees s (given ++ (first ++ second)) fact r
   agrees_where answers none chooser a b r given first second fact_a fact_b fact few same_a same_b each_c each_a each_b
       is follows of_c of_a of_b =
+      -- the paths c, x and y of the scenario in the three trees decide the value, and the literals on the path in the
+      -- join are those that the three paths say
       let c = the_path chooser.faults chooser.paths each_c s few in
       let x = the_path chooser.faults a.paths each_a s few in
       let y = the_path chooser.faults b.paths each_b s few in
@@ -174,7 +179,8 @@ module _ (s : Scenario) where
             });
       }
 
-  -- only the tree that is picked in the scenario counts
+  -- a tree that a chooser picks agrees with the tree that is picked in the scenario, by its literals and the
+  -- chooser's
   pub agrees_pick : {T : Type 0} (chooser : TreeState Bool) (on off r : TreeState T) (b : Bool)
       (first second : List Literal) (fact : T → Type 0) →
       HasAtMostFaults chooser.faults s → on.faults ≡ chooser.faults → off.faults ≡ chooser.faults →

@@ -1,5 +1,5 @@
--- Once the start, the end and the readiness of its node are set, a process has begun: trees that were grown before its
--- place go on to tell the runs.
+-- Once the start, the end and the readiness of its node are set, a process has begun: trees that were grown before
+-- its place still give the runs.
 use Rattle.std.proofs.Common.{ℕ, ◌+◌, ◌*◌, ◌<◌, ◌≤◌, ◌≡◌, ◌≢◌, max, Bool, true, false, if◌then◌else◌, List, [], length}
 use Rattle.std.proofs.Common.{map, get_or, flat_map, Option, Some, None, unwrap_or, Contains, ◌⊎◌, arith}
 use Rattle.std.proofs.Common.{refl, sym, ap, ◌∙◌, subst, inl, inr, get_or-set_same, get_or-set_other}
@@ -62,12 +62,14 @@ use Rattle.cpg_expand.proofs.StartValue.{most, start_value, waited_ends, end_lin
 
 -- ---- rows that hold what the trees list
 
+-- a column with the time and the cube of a path
 pub path_column : Path (Option ℕ) → Column
 path_column path = record { time = unwrap_or path.1 0; cube = path.0 }
 
 abbrev pub own_rows : ForestState → List (List Column)
 own_rows f = map (λ (t : TreeState (Option ℕ)). map path_column t.paths) f.times
 
+-- the rows of the trees' own paths hold what the trees list
 pub own_rows_hold : (g : Graph) (order : List ℕ) (i : ℕ) (f : ForestState) → HasTrees g f →
     RowsHold g order i f (own_rows f)
 unfolding path_column
@@ -84,6 +86,11 @@ own_rows_hold g order i f has = record {
     row x l = get_or-map (λ (t : TreeState (Option ℕ)). map path_column t.paths) f.times x (no_tree g.faults) []
         (omega (arith, l, has.times))
 
+-- given: trees that are grown before the place of a process, and the trees once that process has begun
+-- `a`, `order`, `topological`: an admitted graph and an order of it; `p`, `l`: one of its processes
+-- `old`, `before`, `grown`: the trees and frozen times up to p's place; `new`, `after`, `trees`, `b`: those once p
+-- has begun
+-- `chooser`: the tree of where p is active
 module _ (g : Graph) (urgency : List ℕ) (guards : Guards) (a : IsAdmitted g urgency guards) (order : List ℕ)
     (topological : IsTopological g order) (p : ℕ) (l : p < process_count g)
     (old new : ForestState) (before after : List (Option ℕ)) (chooser : TreeState Bool)
@@ -140,6 +147,10 @@ module _ (g : Graph) (urgency : List ℕ) (guards : Guards) (a : IsAdmitted g ur
 
   -- ---- in one scenario with its run under frozen times that are those so far for what is done
 
+  -- given: a run under frozen times that are those so far for each item of an earlier process, and rows that hold
+  -- what the trees list
+  -- `fs`, `same`, `early`: the frozen times of the run, which agree with those so far for earlier items
+  -- `rows`, `hold`: the rows that hold the old trees; `s`, `law`, `t`, `run`: a scenario and its run
   module _ (fs : List (Option ℕ)) (same : (x : ℕ) → x < item_count g → IsEarlier g order (place order p) x →
       get_or before x None ≡ get_or fs x None) (early : AreEarly fs)
       (rows : List (List Column)) (hold : RowsHold g order (place order p) old rows) (s : Scenario)
@@ -160,7 +171,7 @@ module _ (g : Graph) (urgency : List ℕ) (guards : Guards) (a : IsAdmitted g ur
     valued : HasTreeValues g order rows s t (place order p) old
     valued = valued_from_lines g order rows (place order p) old grown.trees hold fs s t run lines
 
-    -- what the trees tell of its start
+    -- what the trees say of its start
     valued_start : (from : ℕ) → IsCut g order guards (node_of g p) (place order p) from →
         IsStartByTrees g order guards old chooser from p s t
     valued_start from cut = start_is_valued g a.limits order topological a.joins urgency a.urgency a.topological rows s
@@ -263,6 +274,8 @@ module _ (g : Graph) (urgency : List ℕ) (guards : Guards) (a : IsAdmitted g ur
 
   -- ---- the lines
 
+  -- given: rows that hold what the new trees list, and a run under the new frozen times
+  -- `rows`, `hold`: the rows that hold the new trees; `s`, `law`, `t`, `run`: a scenario and its run
   module _ (rows : List (List Column)) (hold : RowsHold g order (place order p) new rows) (s : Scenario)
       (law : IsScenario g s) (t : Times) (run : IsRun g order after s t) where
     held : RowsHold g order (place order p) old rows
@@ -308,6 +321,8 @@ module _ (g : Graph) (urgency : List ℕ) (guards : Guards) (a : IsAdmitted g ur
         by false idle = cond-false _ _ _ idle
             ∙ sym (time_is g order after s t run p p_item ∙ cond-false _ _ _ (acts_as s.values ∙ idle))
 
+    -- the tree of the start has p's time in the run, by whether p isn't frozen (the start's own line) or is (its
+    -- frozen time)
     started : HasValueFrom s (carried_at_start g order rows s p) (get_or t.times p None) b.start
     started = by b.starts
       where
@@ -383,6 +398,8 @@ module _ (g : Graph) (urgency : List ℕ) (guards : Guards) (a : IsAdmitted g ur
         (subst (λ (i : Item). HasValueFrom s (carried_by_item g order rows s p i) (get_or t.times p None) b.start)
         (sym (item_at-start g p l)) started)
 
+    -- the lines of the run once p has begun and sent nothing: those of before for other processes and nodes, and for
+    -- p the time, the end and the readiness that are put
     send_lines : SendLines g order rows s t p 0 new
     send_lines = record {
       times = λ x h done. elim (only x done) [
@@ -417,6 +434,7 @@ module _ (g : Graph) (urgency : List ℕ) (guards : Guards) (a : IsAdmitted g ur
           (sym (same_free node)) (lines_before.free node h q);
     }
       where
+        -- a process other than p that isn't behind p's place stands before it
         sooner_end : (q : ℕ) → q < process_count g → place order q < place order p + 1 → q ≢ p →
             place order q < place order p
         sooner_end q h less other = elim (cases_lt (place order q) (place order p)) [

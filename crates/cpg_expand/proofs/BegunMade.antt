@@ -26,23 +26,28 @@ use Rattle.cpg_expand.proofs.Leads.{leads_below}
 
 -- ---- what is asked of a guard and of inputs
 
+-- given: the guards of an admitted graph, and another name of the graph
+-- `h`, `same`: the graph as the code reads it, which is g
 module _ (g : Graph) (order : List ℕ) (guards : Guards) (admitted : IsAdmitted g order guards) (h : Graph)
     (same : h ≡ g) where
+  -- the graph has at most 32 conditions
   pub few_here : condition_count h ≤ 32
   few_here = subst (λ (k : Graph). condition_count k ≤ 32) (sym same) admitted.well_formed.few_conditions
 
+  -- a guard that tests conditions below the guards' number tests conditions of the graph
   pub tests_here : (found : Guards) → found ≡ guards → (guard : Guard) → TestsBelow found.conditions guard →
       TestsBelow (condition_count h) guard
   tests_here found is guard below = subst (λ n. TestsBelow n guard)
       (ap (λ (x : Guards). x.conditions) is ∙ admitted.guards.conditions ∙ ap condition_count (sym same)) below
 
+  -- the leaves of a process's guard lead to edges of the graph
   pub leads_here : (p : ℕ) → p < process_count g → (guard : Guard) → guard ≡ tree_of guards p →
       LeadsBelow (edge_count h) guard
   leads_here p l guard is = subst (λ (k : Graph). LeadsBelow (edge_count k) guard) (sym same)
       (leads_below g order admitted.topological p l guard
       (subst (IsGuardOf g order p) (sym is) (admitted.guards.trees p l)))
 
--- what is asked of the guards and an order
+-- the guards of an admitted graph and an order of its processes are what the code asks for
 pub along_here : (g : Graph) (urgency : List ℕ) (guards : Guards) → IsAdmitted g urgency guards → (h : Graph) → h ≡ g →
     (found : Guards) → found ≡ guards →
     (order : List ℕ) →
@@ -55,6 +60,7 @@ along_here g urgency guards admitted h same found is order long = subst (λ (k :
       places = long;
     }))
 
+-- the inputs of a process are edges of the graph
 pub inputs_here : (h : Graph) (p : ℕ) (edges : List ℕ) → edges ≡ inputs h p → All (λ e. e < edge_count h) edges
 inputs_here h p edges is =
     all_below (edge_count h) (edge_count h) edges (inputs h p) refl is (λ e c. (inputs_parts h p e c).0)
@@ -83,7 +89,7 @@ ready_waits : (g : Graph) (p : ℕ) (r : Ready) → p < process_count g → IsRe
 ready_waits g p (After q) l e = subst (λ n. n < process_count g) (sym e) l
 ready_waits g p (At t) l is = is
 
--- a tree for each is kept
+-- if trees are put for the start, the end and the readiness of a process, there is still a tree for each
 pub has_begun : (g : Graph) (f new : ForestState) (p node : ℕ) (times ends : TreeState (Option ℕ)) (ready : Ready) →
     p < process_count g → node ≡ node_of g p → HasTrees g f →
     IsTree g times →
@@ -95,6 +101,8 @@ pub has_begun : (g : Graph) (f new : ForestState) (p node : ℕ) (times ends : T
       free = f.free;
       wide = f.wide;
     } → HasTrees g new
+-- each list keeps its length and gets one more tree of the graph; a node that is ready after a process is the one
+-- just put, or one of before
 has_begun g f new p node times ends ready l at has of_times of_ends of_ready is = subst (HasTrees g) (sym is) (record {
   times = length-set f.times p times ∙ has.times;
   ends = length-set f.ends p ends ∙ has.ends;
@@ -114,6 +122,8 @@ has_begun g f new p node times ends ready l at has of_times of_ends of_ready is 
   ];
 })
 
+-- trees for the activity, the start, the end and the readiness, each put in its place, are what is found of a process
+-- before it sends
 pub begun_made : (how : Graph → Guard → TreeState Bool → TreeState (Option ℕ) → Type 0) (g h : Graph) → h ≡ g →
     (order : List ℕ) (p : ℕ) (guard found : Guard) → found ≡ guard → (node : ℕ) →
     node ≡ node_of h p →

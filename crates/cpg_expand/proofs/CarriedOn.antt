@@ -27,8 +27,9 @@ use Rattle.cpg_tree.specs.Tree.{Path, TreeState, IsOnPath}
 use Rattle.cpg_expand.specs.Agreeing.{Agrees}
 use Rattle.cpg_expand.specs.Guarded.{value_known, support_of}
 
--- ---- the literals of a column that matches are told
+-- ---- the literals of a column that matches
 
+-- the literals of a column that matches are carried by its row
 pub valued_there : (rows : List (List Column)) (s : Scenario) (x : ℕ) (c : Column) → Contains (row_at rows x) c →
     matches c.cube s ≡ true → (l : Literal) →
     Contains c.cube l →
@@ -37,7 +38,7 @@ valued_there rows s x c j m l i =
     Contains-flat_map (λ (d : Column). d.cube) (filter (λ (d : Column). matches d.cube s) (row_at rows x)) c l
     (Contains-filter (λ (d : Column). matches d.cube s) (row_at rows x) c m j) i
 
--- a tree whose paths of a scenario are columns of the row says what the row tells
+-- a tree whose paths of a scenario are columns of the row agrees with what the row carries
 pub valued_by_tree : {T : Type 0} (k : ℕ) (rows : List (List Column)) (s : Scenario) (x : ℕ) (fact : T → Type 0)
     (t : TreeState T) → t.faults ≡ k →
     ((p : Path T) → IsOnPath t.paths s p → fact p.1 × ((c : Column) × Contains (row_at rows x) c × (c.cube ≡ p.0))) →
@@ -114,6 +115,7 @@ module _ (g : Graph) (order : List ℕ) (topological : IsTopological g order) (r
       frozen_case e k =
           here (passed_decided q l (subst (λ (f : Bool). Contains (if f then decided g s q else all) l) e k))
 
+      -- a literal carried at the start of an unfrozen process is passed by it or by a process before it on the node
       parts : Contains all l → (process_at g q).frozen ≡ false →
           Contains (flat_map (passed g rows s) (before_on_node g order p)) l
       parts k e = elim (Contains-append_cases (flat_map (passed g rows s) (before_on_node g order q) ++ decided g s q
@@ -149,7 +151,7 @@ module _ (g : Graph) (order : List ℕ) (topological : IsTopological g order) (r
 
   -- ---- of conditions that a node hears
 
-  -- what tells when a node hears a condition
+  -- the literals that say when a node hears a condition
   abbrev pub heard_support : ℕ → ℕ → List Literal
   heard_support node c = if node_of g (process_of g c) == node then carried_at_end g order rows s (process_of g c)
       else carried_by_row rows s (broadcast_item g c)
@@ -161,7 +163,7 @@ module _ (g : Graph) (order : List ℕ) (topological : IsTopological g order) (r
       (Contains-before order q p (Contains-order (process_count g) order topological.all q l) less)
 
   module _ (urgency : List ℕ) (is_urgency : IsUrgencyOrder g urgency) (urgent : IsTopological g urgency) (p : ℕ) where
-    -- what tells of a condition that decides a process is carried
+    -- the literals that say when a condition that decides a process is heard are carried
     pub heard_carried : (c : ℕ) → Contains (deciding g s.values p) c → (l : Literal) →
         Contains (heard_support (node_of g p) c) l →
         Contains (flat_map (passed g rows s) (before_on_node g order p) ++ heard g rows s p) l
@@ -186,7 +188,7 @@ module _ (g : Graph) (order : List ℕ) (topological : IsTopological g order) (r
               (ne_eqb (node_of g (process_of g c)) (node_of g p) n) i)))
         ]
 
-    -- all that the tests on the way of a guard tell
+    -- all literals that support the tests on the way of a guard are carried
     pub tests_carried : (ws : List ℕ) → ((c : ℕ) → Contains ws c → Contains (deciding g s.values p) c) → (l : Literal) →
         Contains (support_of s (heard_support (node_of g p)) ws) l →
         Contains (flat_map (passed g rows s) (before_on_node g order p) ++ decided g s p ++ heard g rows s p) l
@@ -213,12 +215,12 @@ module _ (g : Graph) (order : List ℕ) (topological : IsTopological g order) (r
 
   -- ---- of inputs
 
-  -- what tells when an input is there
+  -- the literals that say when an input is there
   abbrev pub input_support : ℕ → List Literal
   input_support e = if is_message g e then carried_by_row rows s (message_item g e)
       else carried_at_end g order rows s (source g e)
 
-  -- what tells of a live input is carried
+  -- the literals that say when a live input is there are carried
   pub input_carried : (p e : ℕ) → Contains (inputs g p) e →
       node_of g (source g e) ≡ node_of g p ⊎ (is_message g e ≡ true) → source g e < process_count g →
       active g s.values (source g e) ≡ true →
@@ -271,7 +273,7 @@ module _ (g : Graph) (order : List ℕ) (topological : IsTopological g order) (r
             (Contains-append_left on (decided g s p) l n))
       ]
 
-  -- what a node is ready by after a process was carried before, or beside its end
+  -- what decides a process, and what its node carries and hears before it, is carried on by the node after it
   pub ready_carried : (p : ℕ) (l : Literal) →
       Contains (decided g s p) l ⊎
       Contains (flat_map (passed g rows s) (before_on_node g order p) ++ decided g s p ++ heard g rows s p) l →
@@ -310,6 +312,8 @@ module _ (g : Graph) (order : List ℕ) (topological : IsTopological g order) (r
       all = flat_map (passed g rows s) (before_on_node g order q) ++ decided g s q ++ heard g rows s q
           ++ received g rows s q
 
+      -- a frozen start carries what decides it alone; any other one what was passed before, what decides it, what is
+      -- heard and what is received
       of_start : (f : Bool) → (process_at g q).frozen ≡ f → Contains (if f then decided g s q else all) l →
           Contains (flat_map (passed g rows s) (before_on_node g order q)) l ⊎
           Contains (passed g rows s q) l

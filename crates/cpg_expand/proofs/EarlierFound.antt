@@ -23,6 +23,7 @@ constant_there : {T : Type 0} (x : T) (k : ℕ) (t : TreeState T) → IsConstant
 constant_there x k t is s y on = (agrees_constant s x k t (λ z. z ≡ x) refl is).value y on
 
 module _ (g : Graph) (order : List ℕ) (node from to q : ℕ) where
+  -- a process that passes the code's test is between the two places
   pub between_from : q < process_count g →
       (node_of g q == node && (nat_le from (place order q) && nat_lt (place order q) to)) ≡ true →
       IsBetween g order node from to q
@@ -36,6 +37,7 @@ module _ (g : Graph) (order : List ℕ) (node from to q : ℕ) where
         sooner = ltb-true (place order q) to places.1;
       }
 
+  -- a process that fails the code's test is not between the two places
   pub not_between : (node_of g q == node && (nat_le from (place order q) && nat_lt (place order q) to)) ≡ false →
       IsBetween g order node from to q → ⊥
   not_between is b = apart (sym (and_from (node_of g q == node)
@@ -44,9 +46,11 @@ module _ (g : Graph) (order : List ℕ) (node from to q : ℕ) where
       (lt-ltb (place order q) to b.sooner))) ∙ is)
 
 module _ (g : Graph) (order : List ℕ) (guards : Guards) (node to : ℕ) where
+  -- the place 0 is a cut: nothing stands before it
   pub no_cut : IsCut g order guards node to 0
   no_cut = inl refl
 
+  -- the place of a process that is always active is a cut
   pub cut_there : (from z : ℕ) → IsBetween g order node from to z → is_always (tree_of guards z) ≡ true →
       IsCut g order guards node to (place order z)
   cut_there from z b always =
@@ -61,7 +65,7 @@ module _ (g : Graph) (order : List ℕ) (guards : Guards) (node from to c : ℕ)
   more k n s l a =
       record { process = a.process; below = omega (arith, a.below, l); between = a.between; tested = a.tested }
 
-  -- of one more process, but for what that one asks
+  -- what one process more asks is asked by the ones before, unless that process itself asks it
   less : (q : ℕ) (s : Scenario) →
       (IsBetween g order node from to q → is_tested (tree_of guards q) s.values c ≡ true → ⊥) →
       IsAskedOf g order guards node from to c (q + 1) s.values →
@@ -73,22 +77,26 @@ module _ (g : Graph) (order : List ℕ) (guards : Guards) (node from to c : ℕ)
         (subst (λ p. is_tested (tree_of guards p) s.values c ≡ true) e a.tested))
   ]
 
+  -- before any process is asked, the tree is false everywhere
   pub none_asked : (t : TreeState Bool) → IsConstant false g.faults t → Asked 0 t
   none_asked t is s few x on = (
     λ e. absurd (apart (sym e ∙ constant_there false g.faults t is s x on)),
     λ a. absurd (let l = a.below in omega (arith, l)),
   )
 
+  -- if the tree is true everywhere, it is right with more processes too
   pub asked_everywhere : (q n : ℕ) (t : TreeState Bool) → q ≤ n → IsConstant true t.faults t → Asked q t → Asked n t
   asked_everywhere q n t l is asks s few x on =
       (λ e. more q n s l ((asks s few x on).0 e), λ a. constant_there true t.faults t is s x on)
 
+  -- a process that is not between the places asks nothing, so the tree stays
   pub asked_same : (q : ℕ) (t : TreeState Bool) → (IsBetween g order node from to q → ⊥) → Asked q t → Asked (q + 1) t
   asked_same q t off asks s few x on = (
     λ e. more q (q + 1) s (omega arith) ((asks s few x on).0 e),
     λ a. (asks s few x on).1 (less q s (λ b e. off b) a),
   )
 
+  -- the tree for one more process is true where its guard tests the condition, and elsewhere as it was
   pub asked_too : (q : ℕ) (tested always asked t : TreeState Bool) → IsBetween g order node from to q →
       IsTree g tested → IsTree g always →
       IsTree g asked →
@@ -123,7 +131,7 @@ module _ (g : Graph) (order : List ℕ) (guards : Guards) (node from to c : ℕ)
             λ a. picked ∙ (asks s few y.0 y.1).1 (less q s (λ b h. apart (sym (value ∙ h) ∙ e)) a),
           )
 
--- a tree picked by the one, from the other or nowhere, is both
+-- a tree that is the second where the first is true, and false elsewhere, is true where both are
 pub both_true : (g : Graph) (a b never t : TreeState Bool) → IsTree g a → IsTree g never →
     IsConstant false g.faults never → IsPick a b never t →
     IsBothTree g.faults a b t

@@ -9,6 +9,7 @@ use Rattle.cpg_expand.specs.Grown.{IsReadyFirst}
 use Rattle.cpg_expand.specs.declared.forest.Ready.{Ready}
 use Rattle.cpg_expand.specs.declared.forest.Ready.TheVariants.{At}
 
+-- a tree that is added to a list of n trees makes a list of n + 1
 pub trees_pushed : {T : Type 0} (g : Graph) (xs pushed : List (TreeState T)) (t : TreeState T) (n : ℕ) →
     (length xs ≡ n) × All (IsTree g) xs → IsTree g t →
     pushed ≡ xs ++ t ∷ [] →
@@ -18,13 +19,14 @@ trees_pushed g xs pushed t n has is e = (
   subst (All (IsTree g)) (sym e) (All-push (IsTree g) xs t has.1 is),
 )
 
+-- a constant that is added to constants leaves a list of constants
 pub constants_pushed : {T : Type 0} (x : T) (k : ℕ) (xs pushed : List (TreeState T)) (t : TreeState T) →
     All (IsConstant x k) xs → IsConstant x k t →
     pushed ≡ xs ++ t ∷ [] →
     All (IsConstant x k) pushed
 constants_pushed x k xs pushed t h is e = subst (All (IsConstant x k)) (sym e) (All-push (IsConstant x k) xs t h is)
 
--- a node that is ready from the beginning
+-- a node that is ready from the beginning is added to such nodes
 pub nodes_pushed : (g : Graph) (xs pushed : List Ready) (t : TreeState ℕ) (n : ℕ) →
     (length xs ≡ n) × All (IsWait g) xs × All (IsReadyFirst g.faults) xs → IsTree g t →
     IsConstant 0 g.faults t →

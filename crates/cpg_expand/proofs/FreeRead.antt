@@ -8,12 +8,13 @@ use Rattle.cpg_expand.specs.Agreeing.{IsTree}
 use Rattle.cpg_expand.specs.Forest.{ForestState, HasTrees, no_tree}
 use Rattle.cpg_expand.specs.Waiting.{free_of}
 
+-- each node has a tree of when its slots are free
 pub free_tree : (g : Graph) (f : ForestState) → HasTrees g f → (node : ℕ) → node < length g.nodes →
     IsTree g (free_of g f node)
 free_tree g f has node l =
     All-get_or (IsTree g) f.free node (no_tree g.faults) (omega (arith, l, has.free)) has.all_free
 
--- trees that are put keep a tree for each
+-- if a tree of times and one of free slots are put, there is still a tree for each
 pub has_put : (g : Graph) (f new : ForestState) (x node : ℕ) (times : TreeState (Option ℕ)) (free : TreeState ℕ) →
     HasTrees g f → IsTree g times → IsTree g free →
     new ≡ record {
@@ -35,6 +36,7 @@ has_put g f new x node times free has of_times of_free is = subst (HasTrees g) (
   own = has.own;
 })
 
+-- the code's look into the forest finds the tree of the node's free slots
 pub free_read : (g : Graph) (f : ForestState) → HasTrees g f → (i : ForestState) → i ≡ f →
     (v : TreeState ℕ) (at node : ℕ) → v ≡ get_or i.free at v → at ≡ node →
     node < length g.nodes →

@@ -1,4 +1,4 @@
--- The latest time of an item, as the trees of what it waits for tell it, is its frozen time.
+-- The latest time of an item, as the trees of what it waits for give it, is its frozen time.
 use Rattle.std.proofs.Common.{ℕ, ◌<◌, ◌≤◌, ◌≡◌, ◌≢◌, true, List, length, get_or, Option, Some, None, unwrap_or, arith}
 use Rattle.std.proofs.Common.{refl, sym, ap, ◌∙◌, get_or-set_same, get_or-set_other}
 use Rattle.std.proofs.lemmas.List.{length-set}
@@ -13,9 +13,11 @@ use Rattle.cpg_run.specs.Run.{Times, IsRun, unfrozen_time}
 use Rattle.cpg_run.proofs.RunExists.{a_run}
 use Rattle.cpg_expand.specs.Freezing.{set_if}
 
+-- if two times that are there are equal, so are their numbers
 pub some_same : (a b : ℕ) → Some a ≡ Some b → a ≡ b
 some_same a b e = ap (λ o. unwrap_or o 0) e
 
+-- a list has as many frozen times once the latest time is set, and those of other items stay
 pub set_count : (old : List (Option ℕ)) (x : ℕ) (latest : Option ℕ) → length (set_if old x latest) ≡ length old
 set_count old x None = refl
 set_count old x (Some time) = length-set old x (Some time)
@@ -25,6 +27,7 @@ pub set_other : (old : List (Option ℕ)) (x y : ℕ) (latest : Option ℕ) → 
 set_other old x y None other = refl
 set_other old x y (Some time) other = get_or-set_other old x y (Some time) None other
 
+-- an item that had no frozen time has the latest time then, if there is one
 pub set_here : (old : List (Option ℕ)) (x : ℕ) (latest : Option ℕ) → x < length old → get_or old x None ≡ None →
     get_or (set_if old x latest) x None ≡ latest
 set_here old x None l unset = unset
@@ -48,6 +51,9 @@ pub record IsFound (g : Graph) (order : List ℕ) (old : List (Option ℕ)) (x :
   pub same : (y : ℕ) → y ≢ x → get_or new y None ≡ get_or old y None
   pub long : length new ≡ length old
 
+-- given: an item without a frozen time, and a latest time that no scenario exceeds and one reaches
+-- `old`, `x`, `within`, `unset`: the frozen times, in which item x has none yet
+-- `latest`, `above`, `reached`: the time found, which no scenario exceeds and one reaches
 module _ (g : Graph) (order : List ℕ) (topological : IsTopological g order) (old : List (Option ℕ)) (x : ℕ)
     (within : x < length old) (unset : get_or old x None ≡ None)
     (latest : Option ℕ) (above : IsAbove g order old x latest) (reached : IsReachedBy g order old x latest) where
@@ -77,6 +83,7 @@ module _ (g : Graph) (order : List ℕ) (topological : IsTopological g order) (o
     none = λ e time w. let up = above w.scenario w.lawful w.times w.run w.active in none-some up.0 (sym e ∙ is ∙ up.1);
   }
 
+  -- once the latest time is set, it is what the item would have at most, and nothing else has changed
   pub frozen_found : (new : List (Option ℕ)) → new ≡ set_if old x latest → IsFound g order old x new
   frozen_found new is = record {
     is = it_is (get_or new x None) (ap (λ f. get_or f x None) is ∙ set_here old x latest within unset);

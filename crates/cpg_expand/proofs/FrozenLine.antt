@@ -23,11 +23,15 @@ use Rattle.cpg_expand.specs.Values.{time_if}
 use Rattle.cpg_expand.proofs.AgreeingTrees.{agrees_map, agrees_weaker}
 use Rattle.cpg_expand.proofs.GuardTrees.{each_of, few_of}
 
+-- given: a process whose guard leads to its activation, by conditions that decide it
+-- `s`, `few`: a scenario within the faults of the graph; `p`, `guard`, `leads`: the guard leads to p's activation
+-- there
+-- `on_way`: each condition that the guard tests on its way is one that decides p
 module _ (g : Graph) (order : List ℕ) (rows : List (List Column)) (s : Scenario) (few : HasAtMostFaults g.faults s)
     (p : ℕ) (guard : Guard)
     (leads : outcome_at guard s.values ≡ activation g s.values p)
     (on_way : (c : ℕ) → Contains (way guard s.values) c → Contains (deciding g s.values p) c) where
-  -- one time wherever the process is active
+  -- a tree of one time wherever the process is active agrees with what is carried at its start
   pub frozen_line : (process_at g p).frozen ≡ true →
       (chooser : TreeState Bool) (tree : TreeState (Option ℕ)) (time : ℕ) → IsTree g chooser →
       IsActiveTree g.faults guard chooser →

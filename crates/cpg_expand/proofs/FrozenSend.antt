@@ -21,13 +21,17 @@ use Rattle.cpg_expand.specs.Values.{time_if}
 use Rattle.cpg_expand.proofs.AgreeingTrees.{agrees_map, agrees_weaker}
 use Rattle.cpg_expand.proofs.GuardTrees.{each_of, few_of}
 
+-- given: a tree of where an item goes, which says no more than what decides that
+-- `s`, `few`: a scenario within the faults of the graph; `x`: an item
+-- `goes`, `of_goes`: the tree of where x goes, which says the literals `says` in that scenario
+-- `at_most`: each of these literals is one that decides the producer, or one by which an active producer sends x
 module _ (g : Graph) (order : List ℕ) (rows : List (List Column)) (s : Scenario)
     (few : HasAtMostFaults g.faults s) (x : ℕ)
     (says : List Literal) (goes : TreeState Bool)
     (of_goes : HasValueFrom s says (item_active g s.values (item_at g x)) goes)
     (at_most : (l : Literal) → Contains says l → Contains (decided g s (producer g x)) l ⊎
     ((active g s.values (producer g x) ≡ true) × Contains (sent_by_value g s x) l)) where
-  -- one time wherever the item is sent
+  -- a tree of one time wherever the item is sent agrees with what is carried at its send
   pub frozen_send_line : is_frozen g x ≡ true → (tree : TreeState (Option ℕ)) (time : ℕ) → IsTree g goes →
       IsMap (λ b z. z ≡ time_if time b) goes tree →
       HasValueFrom s (carried_at_send g order rows s x)

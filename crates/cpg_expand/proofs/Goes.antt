@@ -31,7 +31,7 @@ and_true : (b : Bool) → (b && true) ≡ b
 and_true true = refl
 and_true false = refl
 
--- what is true where a tree is
+-- a tree that is true where another one is has its value, by those literals or more
 pub same_valued : (g : Graph) (chooser t : TreeState Bool) → IsTree g chooser →
     IsMap (λ x z. z ≡ same_bool true x) chooser t → (s : Scenario) →
     HasAtMostFaults g.faults s →
@@ -77,10 +77,12 @@ module _ (g : Graph) (e : ℕ) where
         absurd (none-some c.0 (sym r.1 ∙ sym (ap (condition_of g) c.2) ∙ condition_of_process_of g c.0 c.1))
   ]
 
+  -- if an edge asks for the value of a condition, it is that of its source
   pub asks_condition : (c : ℕ) (w : Bool) → asked g e ≡ Some (c, w) → condition_of g (source g e) ≡ Some c
   asks_condition c w is = (a_question (edge_at g e).when (condition_of g (source g e)) c w is).1
 
   module _ (chooser t : TreeState Bool) where
+    -- an edge that asks for nothing is live where its source is active
     pub live_simple : e < edge_count g → source g e < process_count g → asked g e ≡ None → IsTree g chooser →
         IsMap (λ x z. z ≡ same_bool true x) chooser t →
         IsLiveTree g e chooser t
@@ -93,6 +95,7 @@ module _ (g : Graph) (e : ℕ) where
         (same_valued g chooser t of_chooser made s few b first
         (if b then map (number_known s) (source_value g e) else []) valued)
 
+    -- an edge that asks for a value is live where its source is active and the condition has that value
     pub live_tested : (c : ℕ) (w : Bool) → asked g e ≡ Some (c, w) → IsTestedTree g.faults c w chooser t →
         IsLiveTree g e chooser t
     live_tested c w is tested s few first valued =
@@ -122,7 +125,7 @@ module _ (g : Graph) (x : ℕ) (chooser t : TreeState Bool) where
       (sym (ap (λ (b : Bool). b && live g s.values e) message)) (lives s few first by_source))
       valued
 
-  -- a broadcast with its process
+  -- a broadcast is sent if its process is active
   pub goes_broadcast : (c : ℕ) → item_at g x ≡ Broadcast c → is_sent_item g (item_at g x) ≡ true → IsTree g chooser →
       IsMap (λ x z. z ≡ same_bool true x) chooser t →
       IsGoesTree g x chooser t
@@ -139,7 +142,7 @@ module _ (g : Graph) (x : ℕ) (chooser t : TreeState Bool) where
   no_start : (p : ℕ) → item_at g x ≡ Start p → is_sent_item g (item_at g x) ≡ true → ⊥
   no_start p is sent = true≢false (sym sent ∙ ap (is_sent_item g) is)
 
-  -- what is sent and is no message is a broadcast
+  -- an item that is sent and is no message is a broadcast, so it is sent if its process is active
   pub goes_other : (i : Item) → item_at g x ≡ i → ((e : ℕ) → i ≡ Message e → ⊥) → is_sent_item g (item_at g x) ≡ true →
       IsTree g chooser →
       IsMap (λ x z. z ≡ same_bool true x) chooser t →

@@ -1,4 +1,4 @@
--- Trees that are grown tell what starts and sends rest on; lines go over to other frozen times; the first trees are
+-- Trees that are grown say what starts and sends rest on; lines go over to other frozen times; the first trees are
 -- grown.
 use Rattle.std.proofs.Common.{ℕ, ◌*◌, ◌<◌, ◌≡◌, List, [], length, get_or, Option, None, arith, refl, sym, ◌∙◌, subst}
 use Rattle.std.proofs.lemmas.Option.{none-some}
@@ -32,8 +32,9 @@ use Rattle.cpg_expand.proofs.AgreeingTrees.{agrees_constant, agrees_weaker}
 use Rattle.cpg_expand.proofs.CarriedOn.{valued_by_tree}
 use Rattle.cpg_expand.proofs.GuardTrees.{times_tree}
 
--- ---- what is told
+-- ---- what the lines say
 
+-- lines before a place give the values of the trees there
 pub valued_from_lines : (g : Graph) (order : List ℕ) (rows : List (List Column)) (i : ℕ) (f : ForestState) →
     HasTrees g f →
     RowsHold g order i f rows →
@@ -50,8 +51,11 @@ valued_from_lines g order rows i f has hold frozen s t run lines = record {
 
 -- ---- other frozen times
 
+-- given: trees along an order, in one scenario
+-- `rows`: the rows of the items; `s`: a scenario; `i`, `f`: a place of the order and the trees up to it
 module _ (g : Graph) (order : List ℕ) (topological : IsTopological g order) (rows : List (List Column)) (s : Scenario)
     (i : ℕ) (f : ForestState) where
+  -- lines for one list of times are lines for any other that agrees with it before the place
   lines_same : (t u : Times) → AgreeBefore g order t u (i * phases g) → Lines g order rows s t i f →
       Lines g order rows s u i f
   lines_same t u a lines = record {
@@ -84,8 +88,12 @@ module _ (g : Graph) (order : List ℕ) (topological : IsTopological g order) (r
 
 -- ---- the first trees
 
+-- given: bare trees, in one scenario with its run
+-- `f`, `bare`, `has`: trees of the graph in which nothing is found yet; `rows`, `s`, `t`: rows, a scenario and its
+-- times
 module _ (g : Graph) (order : List ℕ) (f : ForestState) (bare : IsBare g f) (has : HasTrees g f)
     (rows : List (List Column)) (s : Scenario) (t : Times) where
+  -- at the first place each node is ready from 0 on, and nothing is said of it
   ready_first : (node : ℕ) → node < length g.nodes → IsReadyLine g order rows s t 0 node (ready_of g f node)
   ready_first node l = record {
     time = 0;
@@ -115,6 +123,7 @@ module _ (g : Graph) (order : List ℕ) (f : ForestState) (bare : IsBare g f) (h
         (All-get_or (IsConstant 0 g.faults) f.free node (no_tree g.faults) (omega (arith, l, has.free)) bare.free));
   }
 
+  -- before any process is gone over, the lines hold of bare trees
   pub lines_first : Lines g order rows s t 0 f
   lines_first = record {
     times = λ x l before. absurd (omega (arith, before));
@@ -123,6 +132,7 @@ module _ (g : Graph) (order : List ℕ) (f : ForestState) (bare : IsBare g f) (h
     free = λ node l q. free_first node l;
   }
 
+-- before any process is gone over, no frozen time is set
 pub settled_first : (g : Graph) (order : List ℕ) → AreSettledOf g order (IsEarlier g order 0) (nothing_frozen g)
 settled_first g order = record {
   count = length-replicate {A = Option ℕ} (item_count g) None;
@@ -131,6 +141,7 @@ settled_first g order = record {
   low = record { low = λ x time l e. absurd (none-some time (sym (none_frozen g x) ∙ e)) };
 }
 
+-- bare trees are grown up to the place 0
 pub grown_first : (g : Graph) (order : List ℕ) (f : ForestState) → HasTrees g f → IsBare g f →
     IsGrown g order 0 (nothing_frozen g) f
 grown_first g order f has bare = record {

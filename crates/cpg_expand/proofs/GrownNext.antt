@@ -52,6 +52,8 @@ unsent_idle g values x big (inr (inl c)) h =
 unsent_idle g values x big (inr (inr c)) h = ap (item_active g values) c.3
     ∙ ap (λ b. b && active g values (process_of g c.0)) (sym (ap (is_sent_item g) c.3) ∙ h)
 
+-- given: trees that are grown up to a process that has sent all its items
+-- `p`, `l`: a process of the order; `frozen`, `f`, `sending`: the frozen times and trees once all its items are added
 module _ (g : Graph) (order : List ℕ) (topological : IsTopological g order) (p : ℕ) (l : p < process_count g)
     (frozen : List (Option ℕ)) (f : ForestState)
     (sending : IsSending g order p (length (queue_of g p)) frozen f) where
@@ -88,6 +90,9 @@ module _ (g : Graph) (order : List ℕ) (topological : IsTopological g order) (p
     low = sending.settled.low;
   }
 
+  -- given: rows that hold what the trees list, and lines of one scenario with its run
+  -- `rows`, `hold`: the rows that hold the trees; `s`, `t`, `run`: a scenario with its run; `lines`: what the trees
+  -- say there
   module _ (rows : List (List Column)) (hold : RowsHold g order (place order p + 1) f rows) (s : Scenario) (t : Times)
       (run : IsRun g order frozen s t)
       (lines : SendLines g order rows s t p (length (queue_of g p)) f) where
@@ -120,6 +125,7 @@ module _ (g : Graph) (order : List ℕ) (topological : IsTopological g order) (p
       thawed = q.thawed;
     }
 
+    -- the slots of p's node are free behind p from the same time on as behind all that p sends
     free_line_here : IsFreeOnce g order rows s t p (length (queue_of g p)) f →
         IsFreeLine g order rows s t (place order p + 1) (node_of g p) (free_of g f (node_of g p))
     free_line_here once = record {
@@ -136,6 +142,7 @@ module _ (g : Graph) (order : List ℕ) (topological : IsTopological g order) (p
           (λ z e. e) once.has_value;
     }
       where
+        -- what the node has sent, with all items of p, is what it has sent before the next place
         more : (y : ℕ) → Contains (sent_so_far g order p (length (queue_of g p))) y →
             Contains (sent_before g order (place order p + 1) (node_of g p)) y
         more y j = elim (Contains-append_cases (sent_before g order (place order p) (node_of g p))
@@ -149,6 +156,7 @@ module _ (g : Graph) (order : List ℕ) (topological : IsTopological g order) (p
                   (Contains-take (length (queue_of g p)) (queue_of g p) y i)
             ]
 
+    -- the slots of another node are free when they were before
     free_line_other : (node : ℕ) → node < length g.nodes → node ≢ node_of g p →
         IsQueuedFor g order (place order p) node →
         IsFreeLine g order rows s t (place order p + 1) node (free_of g f node)

@@ -1,5 +1,5 @@
--- Trees that are grown along a whole order: the rows of their times are rows that a builder finds, and they tell when
--- the processes end.
+-- Trees that are grown along a whole order: the rows of their times are rows that a builder finds, and the trees say
+-- when the processes end.
 use Rattle.std.proofs.Common.{ℕ, ◌<◌, ◌≤◌, ◌≡◌, List, [], length, get_or, Option, Contains, arith, refl, sym, ◌∙◌}
 use Rattle.std.proofs.Common.{subst, inl, inr}
 use Rattle.std.proofs.lemmas.Bool.{both_ways, cases_lt}
@@ -41,6 +41,9 @@ pub said_of : (P : Graph → List ℕ → List (TreeState (Option ℕ)) → Type
 said_of P g h us vs ts rs e f i holds =
     subst (λ x. P x us ts) e (subst (λ x. P h x ts) f (subst (λ x. P h vs x) i holds))
 
+-- given: trees that are grown along a whole order
+-- `a`, `order`, `topological`: an admitted graph and an order of it
+-- `frozen`, `f`, `grown`: the frozen times and the trees of all processes
 module _ (g : Graph) (urgency : List ℕ) (guards : Guards) (a : IsAdmitted g urgency guards) (order : List ℕ)
     (topological : IsTopological g order) (frozen : List (Option ℕ)) (f : ForestState)
     (grown : IsGrown g order (process_count g) frozen f) where
@@ -51,11 +54,13 @@ module _ (g : Graph) (urgency : List ℕ) (guards : Guards) (a : IsAdmitted g ur
   earlier : (x : ℕ) → x < item_count g → IsEarlier g order (process_count g) x
   earlier x l = placed (producer g x) (producer_within g a.well_formed x l)
 
+  -- the trees of the ends say when each process ends in every run
   pub grown_gives_ends : GiveEnds g order frozen f.ends
   grown_gives_ends s t law run q l x on =
       ((grown.lines (own_rows f) (own_rows_hold g order (process_count g) f grown.trees) s law t run).ends q l
       (placed q l)).value x on
 
+  -- the frozen times that are found are those of the order
   pub grown_frozen : AreFrozenTimes g order frozen
   grown_frozen = record {
     count = grown.settled.count;
@@ -132,6 +137,7 @@ module _ (g : Graph) (urgency : List ℕ) (guards : Guards) (a : IsAdmitted g ur
         count : length (items_of rows) ≡ item_count g
         count = length-map rows (λ (row : Row). row.item) ∙ are.count
 
+    -- the rows of the trees' times are rows that a builder finds
     pub grown_rows_found : AreRowsFound g urgency order frozen rows
     grown_rows_found = record {
       frozen_times = grown_frozen;

@@ -8,8 +8,13 @@ use Rattle.cpg_expand.specs.declared.forest.Ready.TheVariants.{After, At}
 use Rattle.cpg_expand.specs.Sent.{IsItemAdded}
 use Rattle.cpg_expand.specs.Waiting.{ready_of, free_of}
 
+-- given: an item that is added to the trees
+-- `x`, `chooser`: the item, and where its producer is active; `old`, `before`: trees and frozen times before it is
+-- added
+-- `new`, `after`, `added`: those with it
 module _ (g : Graph) (order : List ℕ) (chooser : TreeState Bool) (x : ℕ) (old new : ForestState)
     (before after : List (Option ℕ)) (added : IsItemAdded g order chooser x old new before after) where
+  -- another item's times, all ends, and when each node is ready stay as they were
   pub other_times : (y : ℕ) → y ≢ x → times_of g new y ≡ times_of g old y
   other_times y other = ap (λ (f : ForestState). times_of g f y) added.is
       ∙ get_or-set_other old.times x y added.sent (no_tree g.faults) other
@@ -28,6 +33,7 @@ module _ (g : Graph) (order : List ℕ) (chooser : TreeState Bool) (x : ℕ) (ol
       kept (After q) = refl
       kept (At t) = refl
 
+  -- the free slots of another node stay as they were
   pub other_free : (node : ℕ) → node ≢ home g x → free_of g new node ≡ free_of g old node
   other_free node other = ap (λ (f : ForestState). free_of g f node) added.is
       ∙ get_or-set_other old.free (home g x) node added.freed (no_tree g.faults) other

@@ -11,14 +11,17 @@ use Rattle.cpg_expand.specs.Large.{IsLarge, IsLargeDown, IsLargeWith, ShowsLarge
 use Rattle.cpg_expand.specs.Later.{IsLatest}
 use Rattle.cpg_expand.proofs.LargeShown.{shown_as}
 
+-- given: a guard, what makes a leaf of it too large, and a fault
 module _ {T : Type 0} (large : Activation → Type 0) (fits : Guard → TreeState T → Type 0) (wide : Option ℕ)
     (fault : BuildFault) (guard : Guard) where
   abbrev IsShown : Guard → Type 0
   IsShown part = ShowsLarge wide (IsLargeDown large fits part) fault
 
+  -- a fault for a leaf that is too large is one for the guard
   pub large_leaf : (a : Activation) → guard ≡ Leaf a → ShowsLarge wide (large a) fault → IsShown guard
   large_leaf a is h = subst IsShown (sym is) h
 
+  -- a fault for one side of a test, or for the test's own tree, is one for the guard
   module _ (c : ℕ) (off on : Guard) (is : guard ≡ Test c off on) where
     pub large_off : IsShown off → IsShown guard
     large_off h = subst IsShown (sym is)
@@ -28,21 +31,27 @@ module _ {T : Type 0} (large : Activation → Type 0) (fits : Guard → TreeStat
     large_on h = subst IsShown (sym is)
         (shown_as (IsLargeDown large fits on) (IsLargeDown large fits (Test c off on)) wide fault (λ x. inr (inl x)) h)
 
+    -- a fault for the test's own tree is one for the guard
     pub large_part : (t : TreeState T) → fits (Test c off on) t → ShowsLarge wide (IsLarge t) fault → IsShown guard
     large_part t has_value h = subst IsShown (sym is)
         (shown_as (IsLarge t) (IsLargeDown large fits (Test c off on)) wide fault (λ x. inr (inr (t, has_value, x))) h)
 
+-- given: a list of inputs with a first one, and a fault
+-- `wait`: what the start waits for; `wide`, `fault`: the item that a fault would name, and the fault
+-- `whole`, `e`, `es`, `is`: the inputs, with the first one apart
 module _ (g : Graph) (f : ForestState) (wait : TreeState ℕ) (wide : Option ℕ) (fault : BuildFault) (whole : List ℕ)
     (e : ℕ) (es : List ℕ) (is : whole ≡ e ∷ es) where
   abbrev IsShownWith : List ℕ → Type 0
   IsShownWith edges = ShowsLarge wide (IsLargeWith g f wait edges) fault
 
+  -- an input of the node itself makes no tree, so a fault for the inputs behind it is one for all
   pub large_own : is_message g e ≡ false → IsShownWith es → IsShownWith whole
   large_own own h = subst IsShownWith (sym is)
       (shown_as (IsLargeWith g f wait es) (IsLargeWith g f wait (e ∷ es)) wide fault (λ x. inl (own, x)) h)
 
   module _ (both : TreeState ℕ)
       (made : IsLatest g.faults wait (later_by (input_delay g e) (input_tree g f e)) both) where
+    -- a fault for the tree with one more input, or for those behind it, is one for all
     pub large_both : ShowsLarge wide (IsLarge both) fault → IsShownWith whole
     large_both h = subst IsShownWith (sym is)
         (shown_as (IsLarge both) (IsLargeWith g f wait (e ∷ es)) wide fault (λ x. inr (both, made, inl x)) h)

@@ -24,13 +24,13 @@ pub shown_as : (A B : Type 0) (wide : Option ℕ) (fault : BuildFault) → (A �
 shown_as A B wide (TooWide x) f h = (h.0, f h.1)
 shown_as A B wide OutOfMemory f h = h
 
--- a fault that is handed on
+-- a fault that is handed on shows what it showed
 pub handed_on : {T : Type 0} (P : BuildFault → Type 0) (result : Result T BuildFault) (shown : BuildFault) →
     IsErrAnd result (λ e. e ≡ shown) → P shown → IfErr result P
 handed_on P (Ok x) shown same h = absurd same
 handed_on P (Err e) shown same h = subst P (sym same) h
 
--- for another cause
+-- a fault that is handed on shows any cause that follows from its own
 pub handed_as : {T : Type 0} (A B : Type 0) (wide : Option ℕ) (result : Result T BuildFault) (shown : BuildFault) →
     IsErrAnd result (λ e. e ≡ shown) → (A → B) →
     ShowsLarge wide A shown →
@@ -38,7 +38,7 @@ pub handed_as : {T : Type 0} (A B : Type 0) (wide : Option ℕ) (result : Result
 handed_as A B wide (Ok x) shown same f h = absurd same
 handed_as A B wide (Err e) shown same f h = subst (ShowsLarge wide B) (sym same) (shown_as A B wide shown f h)
 
--- the fault of one name for an item is that of another name for it
+-- a fault that is shown for one name of an item is shown for an equal name
 pub named_as : (A : Type 0) (wide other : Option ℕ) (fault : BuildFault) → wide ≡ other → ShowsLarge wide A fault →
     ShowsLarge other A fault
 named_as A wide other fault e h = subst (λ o. ShowsLarge o A fault) e h
@@ -52,14 +52,14 @@ none_named A is_shown (TooWide x) h = absurd (no_name x h.0)
     no_name x e = cc
 none_named A is_shown OutOfMemory h = tt
 
--- a tree that is too large by one name of a graph and a guard is so by another
+-- a tree that is too large for one name of a graph and a guard is too large for an equal name
 pub thawed_as : (g h : Graph) → h ≡ g → (p : ℕ) (f : ForestState) (guard found : Guard) → found ≡ guard →
     IsLargeThawed h p f found →
     IsLargeThawed g p f guard
 thawed_as g h same p f guard found is large =
     subst (λ (k : Graph). IsLargeThawed k p f guard) same (subst (IsLargeThawed h p f) is large)
 
--- what an item that is sent adds leaves the name
+-- items that are added leave the name of the wide item as it is
 pub added_wide : (g : Graph) (order : List ℕ) (chooser : TreeState Bool) (xs : List ℕ) (old new : ForestState)
     (before after : List (Option ℕ)) →
     AreItemsAdded g order chooser xs old new before after → new.wide ≡ old.wide
@@ -67,11 +67,15 @@ added_wide g order chooser [] old new before after h = ap (λ (f : ForestState).
 added_wide g order chooser (x ∷ xs) old new before after h =
     added_wide g order chooser xs h.0 new h.1 after h.3 ∙ ap (λ (f : ForestState). f.wide) h.2.is
 
+-- a process that begins leaves the name of the wide item as it is
 pub begun_wide : (g : Graph) (order : List ℕ) (guards : Guards) (p : ℕ) (old new : ForestState)
     (before after : List (Option ℕ)) (chooser : TreeState Bool) →
     IsBegun g order guards p old new before after chooser → new.wide ≡ old.wide
 begun_wide g order guards p old new before after chooser begun = ap (λ (f : ForestState). f.wide) begun.is
 
+-- given: an order, the process at one of its places, and the trees so far
+-- `are`: the guards are those of the graph; `order`, `lawful`: an order
+-- `k`, `p`, `within`, `at`: the process at place k; `frozen`, `f`: the frozen times and trees up to there
 module _ (g : Graph) (urgency : List ℕ) (guards : Guards) (are : AreGuardsOf g urgency guards) (order : List ℕ)
     (lawful : IsOrder order) (k p : ℕ) (within : k < length order)
     (at : p ≡ get_or order k 0)
@@ -79,6 +83,7 @@ module _ (g : Graph) (urgency : List ℕ) (guards : Guards) (are : AreGuardsOf g
   stands : place order p ≡ k
   stands = ap (place order) at ∙ place_at order lawful k within
 
+  -- a tree on the way to the process's start and end that is too large is one along the order
   pub large_begun : p < process_count g → IsGrown g order k frozen f → IsLargeBegun g order guards p f →
       HasLargeTree g urgency order
   large_begun l grown large = record {
@@ -91,6 +96,7 @@ module _ (g : Graph) (urgency : List ℕ) (guards : Guards) (are : AreGuardsOf g
     large = inr (inr (p, l, stands, large));
   }
 
+  -- a tree that is too large once the process has sent is one along the order
   pub large_left : (node_of g p < length g.nodes) → IsGrown g order (k + 1) frozen f → IsLargeLeft g order p f →
       HasLargeTree g urgency order
   large_left there grown (inl large) =

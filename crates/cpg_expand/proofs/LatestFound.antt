@@ -28,6 +28,7 @@ use Rattle.cpg_expand.specs.Waited.{stands_before}
 
 -- ---- the greatest time of a tree where another one is true
 
+-- the greatest number of a tree where another is true is the greatest time that a scenario has
 pub top_where : (g : Graph) → process_count g ≤ 128 → (t : TreeState (Option ℕ)) (u : TreeState Bool) → IsTree g t →
     IsTree g u → (o : Option ℕ) →
     IfNone o (IsNowhere t u) →
@@ -47,7 +48,7 @@ top_where g few t u of of_u (Some most) none some =
 -- ---- one thing after another
 
 module _ (g : Graph) (A B : ℕ → Scenario → Type 0) where
-  -- by what comes to the same
+  -- what raises a time raises it by another name of the same cause, too
   pub raised_as : ((n : ℕ) (s : Scenario) → IsScenario g s → B n s → A n s) →
       ((n : ℕ) (s : Scenario) → IsScenario g s → A n s → B n s) → (old new : ℕ) → IsRaised g A old new →
       IsRaised g B old new
@@ -57,11 +58,11 @@ module _ (g : Graph) (A B : ℕ → Scenario → Type 0) where
     found = elim r.found [ inl e ↦ inl e | inr h ↦ inr (h.0, h.1, forth new h.0 h.1 h.2) ];
   }
 
-  -- by nothing
+  -- what no scenario has raises nothing
   pub raised_by_none : ((n : ℕ) (s : Scenario) → A n s → ⊥) → (old : ℕ) → IsRaised g A old old
   raised_by_none none old = record { from = omega arith; above = λ n s law h. absurd (none n s h); found = inl refl }
 
-  -- by the one and then by the other
+  -- what consists of two causes raises a time by the one and then by the other
   pub raised_on : (C : ℕ → Scenario → Type 0) → ((n : ℕ) (s : Scenario) → C n s → A n s ⊎ B n s) →
       ((n : ℕ) (s : Scenario) → A n s → C n s) →
       ((n : ℕ) (s : Scenario) → B n s → C n s) →
@@ -84,6 +85,7 @@ module _ (g : Graph) (A B : ℕ → Scenario → Type 0) where
 
 -- ---- what is there a delay after the time of a tree
 
+-- a latest time is raised to the greatest time of a tree, a delay later
 pub later_raised : (g : Graph) (tree : TreeState (Option ℕ)) (wanted : TreeState Bool) (latest delay : ℕ)
     (o : Option ℕ) →
     IsTop g (HasWhere tree wanted) o →
@@ -127,13 +129,13 @@ module _ (g : Graph) (f : ForestState) (node c : ℕ) (wanted : TreeState Bool) 
       (HasLater (if b then ends_of g f (process_of g c) else times_of g f (broadcast_item g c)) wanted
       (if b then 0 else slot_length g (home g (broadcast_item g c)))) old new) (sym e) is
 
-  -- on its own node by the end of its process
+  -- a condition of the node itself raises the time by the end of its process
   pub heard_by_end : node_of g (process_of g c) ≡ node →
       IsRaised g (HasLater (ends_of g f (process_of g c)) wanted 0) old new →
       IsRaised g (HasLater (heard_tree g f node c) wanted (heard_delay g node c)) old new
   heard_by_end e is = heard_if true (eq-eqb (node_of g (process_of g c)) node e) is
 
-  -- on others by its frame
+  -- a condition of another node raises the time by the end of its frame
   pub heard_by_frame : (node_of g (process_of g c) ≡ node → ⊥) →
       IsRaised g
       (HasLater (times_of g f (broadcast_item g c)) wanted (slot_length g (home g (broadcast_item g c)))) old new →
@@ -142,6 +144,9 @@ module _ (g : Graph) (f : ForestState) (node c : ℕ) (wanted : TreeState Bool) 
 
 -- ---- what the processes of a node test
 
+-- given: a tree of where a process is active, and the processes of a node between two places
+-- `active`, `of_active`: the tree of where the process is active; `node`, `from`, `to`: the span of processes before
+-- it
 module _ (g : Graph) (order : List ℕ) (guards : Guards) (f : ForestState) (active : TreeState Bool)
     (of_active : IsTree g active) (node from to : ℕ) where
   -- the time is a condition's if one of them tests it and the process is active
@@ -202,6 +207,7 @@ module _ (g : Graph) (order : List ℕ) (guards : Guards) (f : ForestState) (act
     found = inl refl;
   }
 
+  -- before any condition is gone over, nothing is raised
   pub none_heard : (first : ℕ) → IsRaised g (HasHeardOf g order guards f active node from to 0) first first
   none_heard first = raised_by_none g (HasHeardOf g order guards f active node from to 0)
       (HasHeardOf g order guards f active node from to 0) (λ n s h. below n s h) first
@@ -209,6 +215,7 @@ module _ (g : Graph) (order : List ℕ) (guards : Guards) (f : ForestState) (act
       below : (n : ℕ) (s : Scenario) → HasHeardOf g order guards f active node from to 0 n s → ⊥
       below n s h = omega (arith, h.below)
 
+  -- one condition more raises the latest time to when that one is heard
   pub next_heard : (c first mid last : ℕ) → IsRaised g (HasHeardOf g order guards f active node from to c) first mid →
       IsRaised g (HasHeard g order guards f active node from to c) mid last →
       IsRaised g (HasHeardOf g order guards f active node from to (c + 1)) first last
@@ -230,18 +237,20 @@ module _ (g : Graph) (order : List ℕ) (guards : Guards) (f : ForestState) (act
 -- ---- the ends of the processes of a node
 
 module _ (g : Graph) (order : List ℕ) (f : ForestState) (active : TreeState Bool) (node from to : ℕ) where
-  -- another process raises nothing
+  -- a process that is not between the two places raises nothing
   pub not_ended : (q latest : ℕ) → (IsBetween g order node from to q → ⊥) →
       IsRaised g (HasEnded g order f active node from to q) latest latest
   not_ended q latest off = raised_by_none g (HasEnded g order f active node from to q)
       (HasEnded g order f active node from to q) (λ n s h. off h.between) latest
 
+  -- a process between the places raises the latest time to its end
   pub one_ended : (q old new : ℕ) → IsBetween g order node from to q →
       IsRaised g (HasLater (ends_of g f q) active 0) old new →
       IsRaised g (HasEnded g order f active node from to q) old new
   one_ended q old new on = raised_as g (HasLater (ends_of g f q) active 0) (HasEnded g order f active node from to q)
       (λ n s law h. h.there) (λ n s law h. record { between = on; there = h }) old new
 
+  -- before any process is gone over, nothing is raised
   pub none_ended : (first : ℕ) → IsRaised g (HasEndedOf g order f active node from to 0) first first
   none_ended first = raised_by_none g (HasEndedOf g order f active node from to 0)
       (HasEndedOf g order f active node from to 0) (λ n s h. below n s h) first
@@ -249,6 +258,7 @@ module _ (g : Graph) (order : List ℕ) (f : ForestState) (active : TreeState Bo
       below : (n : ℕ) (s : Scenario) → HasEndedOf g order f active node from to 0 n s → ⊥
       below n s h = omega (arith, h.below)
 
+  -- one process more raises the latest time to its end
   pub next_ended : (q first mid last : ℕ) → IsRaised g (HasEndedOf g order f active node from to q) first mid →
       IsRaised g (HasEnded g order f active node from to q) mid last →
       IsRaised g (HasEndedOf g order f active node from to (q + 1)) first last
@@ -268,6 +278,7 @@ module _ (g : Graph) (order : List ℕ) (f : ForestState) (active : TreeState Bo
 -- ---- what stands before an item in the queue of its node
 
 module _ (g : Graph) (order : List ℕ) (f : ForestState) (goes : TreeState Bool) (x : ℕ) where
+  -- an item that does not stand before this one raises nothing
   pub not_queued : (y latest : ℕ) → stands_before g order y x ≡ false →
       IsRaised g (HasQueued g order f goes x y) latest latest
   not_queued y latest off = raised_by_none g (HasQueued g order f goes x y) (HasQueued g order f goes x y)
@@ -276,12 +287,14 @@ module _ (g : Graph) (order : List ℕ) (f : ForestState) (goes : TreeState Bool
       apart : true ≡ false → ⊥
       apart e = cc
 
+  -- an item that stands before it raises the latest time to a round after its own time
   pub one_queued : (y old new : ℕ) → stands_before g order y x ≡ true →
       IsRaised g (HasLater (times_of g f y) goes (round g)) old new →
       IsRaised g (HasQueued g order f goes x y) old new
   one_queued y old new on = raised_as g (HasLater (times_of g f y) goes (round g)) (HasQueued g order f goes x y)
       (λ n s law h. h.there) (λ n s law h. record { before = on; there = h }) old new
 
+  -- before any item is gone over, nothing is raised
   pub none_queued : (first : ℕ) → IsRaised g (HasQueuedOf g order f goes x 0) first first
   none_queued first =
       raised_by_none g (HasQueuedOf g order f goes x 0) (HasQueuedOf g order f goes x 0) (λ n s h. below n s h) first
@@ -289,6 +302,7 @@ module _ (g : Graph) (order : List ℕ) (f : ForestState) (goes : TreeState Bool
       below : (n : ℕ) (s : Scenario) → HasQueuedOf g order f goes x 0 n s → ⊥
       below n s h = omega (arith, h.below)
 
+  -- one item more raises the latest time to a round after its own time
   pub next_queued : (y first mid last : ℕ) → IsRaised g (HasQueuedOf g order f goes x y) first mid →
       IsRaised g (HasQueued g order f goes x y) mid last →
       IsRaised g (HasQueuedOf g order f goes x (y + 1)) first last
@@ -316,7 +330,7 @@ module _ (g : Graph) (f : ForestState) (active : TreeState Bool) where
       apart : true ≡ false → ⊥
       apart i = cc
 
-  -- one from another node raises by its frame
+  -- an input from another node raises the time by the end of its frame
   pub input_raised : (e latest last : ℕ) → is_message g e ≡ true →
       IsRaised g
       (HasLater (times_of g f (message_item g e)) active (slot_length g (home g (message_item g e)))) latest last →
@@ -334,6 +348,7 @@ module _ (g : Graph) (f : ForestState) (active : TreeState Bool) where
 
   -- ---- one input after another
 
+  -- before any input is gone over, nothing is raised
   pub none_raised : (first : ℕ) (edges : List ℕ) → IsRaised g (HasInputOf g f active (take 0 edges)) first first
   none_raised first edges = record {
     from = omega arith;
@@ -341,10 +356,13 @@ module _ (g : Graph) (f : ForestState) (active : TreeState Bool) where
     found = inl refl;
   }
 
+  -- one input more raises the latest time to when that one is there
   pub next_raised : (edges : List ℕ) (k e : ℕ) → k < length edges → e ≡ get_or edges k 0 → (first mid last : ℕ) →
       IsRaised g (HasInputOf g f active (take k edges)) first mid →
       IsRaised g (HasInput g f active e) mid last →
       IsRaised g (HasInputOf g f active (take (k + 1) edges)) first last
+  -- a time of one of the first k + 1 inputs is one of the first k, or that of e; the latest time is found where the
+  -- last raise that changed it found it
   next_raised edges k e inside at first mid last before one = record {
     from = omega (arith, before.from, one.from);
     above = λ n s law h. by n s law h.edge h.there (last_of h.edge h.of);
@@ -362,6 +380,7 @@ module _ (g : Graph) (f : ForestState) (active : TreeState Bool) where
     ];
   }
     where
+      -- an input among the first k + 1 is among the first k, or is e
       last_of : (d : ℕ) → Contains (take (k + 1) edges) d → Contains (take k edges) d ⊎ (d ≡ e)
       last_of d c =
           let is : take (k + 1) edges ≡ take k edges ++ get_or edges k 0 ∷ [] =
@@ -374,6 +393,7 @@ module _ (g : Graph) (f : ForestState) (active : TreeState Bool) where
             ]
           ]
 
+      -- no input so far is there later than `last`: the earlier ones by `mid`, e by itself
       by : (n : ℕ) (s : Scenario) → IsScenario g s → (d : ℕ) → HasInput g f active d n s →
           Contains (take k edges) d ⊎ (d ≡ e) → n ≤ last
       by n s law d h (inl c) = omega (arith, before.above n s law (record { edge = d; of = c; there = h }), one.from)

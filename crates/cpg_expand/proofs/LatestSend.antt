@@ -63,6 +63,10 @@ pub record IsSendByTrees (g : Graph) (order : List ℕ) (f : ForestState) (goes 
       HasValueAt (times_of g f y).paths (Some time) s →
       time_later (round g) (Some time) ≤ greatest (send_bounds g order s t x)
 
+-- given: trees that say in each run what the send waits for, and the latest time by each of these alone
+-- `goes`, `of_goes`: where item x goes; `end`, `of_end`: the ends of its producer
+-- `valued`: in each run, these trees and the forest give what the send waits for
+-- `latest`, `top`: the latest time, as it is found by each thing alone
 module _ (g : Graph) (order : List ℕ) (frozen : List (Option ℕ)) (topological : IsTopological g order) (f : ForestState)
     (goes : TreeState Bool) (of_goes : IsTree g goes) (end : TreeState (Option ℕ))
     (of_end : IsTree g end) (x : ℕ)
@@ -122,6 +126,7 @@ module _ (g : Graph) (order : List ℕ) (frozen : List (Option ℕ)) (topologica
     slot_is : slot_at (share_of g (home g x)) (Some r.last) ≡ next_slot g (home g x) r.last
     slot_is = cond-true _ (next_slot g (home g x) r.last) 0 (lt-ltb r.last (2 ^ 59) last_early)
 
+    -- no run sends the item later than the latest time
     slot_above : (s : Scenario) → IsScenario g s → (t : Times) → IsRun g order frozen s t →
         item_active g s.values (item_at g x) ≡ true →
         greatest (send_bounds g order s t x) ≤ m
@@ -150,6 +155,8 @@ module _ (g : Graph) (order : List ℕ) (frozen : List (Option ℕ)) (topologica
         item_active g s.values (item_at g x) ≡ true
     acts_there s law h = let t = a_run g order frozen s topological in acts s law t.0 t.1 h
 
+    -- the latest time is reached by a run: that of the last queued item that raised it, or else that of the latest
+    -- end
     slot_reached : Reached
     slot_reached = elim r.raised.found [
       | inr h ↦ (
@@ -174,6 +181,7 @@ module _ (g : Graph) (order : List ℕ) (frozen : List (Option ℕ)) (topologica
         by_slot : (m a b c all : ℕ) → m ≡ a → a ≡ b → b ≡ c → c ≤ all → m ≤ all
         by_slot m a b c all e f i h = omega (arith, e, f, i, h)
 
+  -- no run would send the item later than the latest time
   pub send_above : (s : Scenario) → IsScenario g s → (t : Times) → IsRun g order frozen s t →
       item_active g s.values (item_at g x) ≡ true →
       (m : ℕ) × (latest ≡ Some m) ×
@@ -185,6 +193,7 @@ module _ (g : Graph) (order : List ℕ) (frozen : List (Option ℕ)) (topologica
       by None e none = absurd (none (end_in t (producer g x)) s law (end_there s law t run on))
       by (Some m) e r = (m, e, omega (arith, (here s law t run).value, slot_above m r s law t run on))
 
+  -- some scenario sends it no earlier than the latest time
   pub send_reached : (m : ℕ) → latest ≡ Some m →
       (s : Scenario) × IsScenario g s × (item_active g s.values (item_at g x) ≡ true) ×
       ((t : Times) → IsRun g order frozen s t → m ≤ unfrozen_time g order s t x)

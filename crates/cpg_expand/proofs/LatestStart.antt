@@ -76,10 +76,14 @@ pub record IsStartByTrees (g : Graph) (order : List ℕ) (guards : Guards) (f : 
   pub valued : (e : ℕ) → Contains (inputs g p) e → is_message g e ≡ true → (x : Path (Option ℕ)) →
       IsOnPath (input_tree g f e).paths s x →
       x.1 ≡ get_or t.times (message_item g e) None
-  -- the others are there once one from the place on has ended
+  -- the inputs from the node itself are there once a process from the place on has ended
   pub own : (e : ℕ) → Contains (inputs g p) e → is_message g e ≡ false → live g s.values e ≡ true →
       HasEndAt g order f from p s (input_there g t e)
 
+-- given: trees that say in each run what the start waits for, and the latest time by each of these alone
+-- `chooser`, `of_chooser`: where p is active; `from`: the place from which on the processes before p are looked at
+-- `valued`: in each run, this tree and the forest give what the start waits for
+-- `latest`, `top`: the latest start, as it is found by each thing alone
 module _ (g : Graph) (order : List ℕ) (guards : Guards) (frozen : List (Option ℕ)) (f : ForestState)
     (chooser : TreeState Bool) (of_chooser : IsTree g chooser) (from p : ℕ)
     (topological : IsTopological g order)
@@ -119,6 +123,7 @@ module _ (g : Graph) (order : List ℕ) (guards : Guards) (frozen : List (Option
       release_under = omega
           (arith, r.top.above (process_at g p).release s law (ready_there on), r.ends.from, r.hears.from, r.raised.from)
 
+      -- an end before the start is no later than the latest end found
       end_under : (n : ℕ) → HasEndAt g order f from p s n → n ≤ m
       end_under n h = omega (
         arith,
@@ -167,7 +172,7 @@ module _ (g : Graph) (order : List ℕ) (guards : Guards) (frozen : List (Option
           (λ e c lives. input_under e c lives (is_message g e) refl) (λ q c a. end_under (end_in t q) (here.ends q c a))
           (λ c k. heard_under c (here.hears c k))
 
-    -- what some scenario has is no later than the start there
+    -- an end of a process before it is no later than the bounds of the start there
     ended_below : (m : ℕ) → HasEndedOf g order f chooser (node_of g p) from (place order p) (process_count g) m s →
         m ≤ bounds
     ended_below m h =
@@ -177,6 +182,7 @@ module _ (g : Graph) (order : List ℕ) (guards : Guards) (frozen : List (Option
         HasHeardOf g order guards f chooser (node_of g p) from (place order p + 1) (condition_count g) m s → m ≤ bounds
     hearing_below m h = omega (arith, h.there.is, here.heard h.condition h.there.time h.there.asked h.there.has)
 
+    -- the time at which an input is there is one of the bounds of the start
     input_below : (m : ℕ) → HasInputOf g f chooser (inputs g p) m s → m ≤ bounds
     input_below m h =
         let e = h.edge in
@@ -201,6 +207,7 @@ module _ (g : Graph) (order : List ℕ) (guards : Guards) (frozen : List (Option
 
   -- ---- in all
 
+  -- no run would start the process later than the latest time
   pub latest_above : (s : Scenario) → IsScenario g s → (t : Times) → IsRun g order frozen s t →
       active g s.values p ≡ true →
       (m : ℕ) × (latest ≡ Some m) × (unfrozen_time g order s t p ≤ m)
@@ -213,6 +220,7 @@ module _ (g : Graph) (order : List ℕ) (guards : Guards) (frozen : List (Option
       by None e none = absurd (none (process_at g p).release s law (ready_there s law t run on))
       by (Some m) e r = (m, e, omega (arith, (here s law t run).value, all_under s law t run m r on))
 
+  -- some scenario starts it no earlier than the latest time
   pub latest_reached : (m : ℕ) → latest ≡ Some m →
       (s : Scenario) × IsScenario g s × (active g s.values p ≡ true) ×
       ((t : Times) → IsRun g order frozen s t → m ≤ unfrozen_time g order s t p)
@@ -222,7 +230,7 @@ module _ (g : Graph) (order : List ℕ) (guards : Guards) (frozen : List (Option
       active_there : (s : Scenario) → IsScenario g s → HasValueAt chooser.paths true s → active g s.values p ≡ true
       active_there s law h = let r = a_run g order frozen s topological in acts s law r.0 r.1 h
 
-      -- no later than the start where some scenario has it
+      -- a time that a scenario has, and that the start there is no earlier than, is reached by the start
       found : (m n : ℕ) (s : Scenario) → IsScenario g s → HasValueAt chooser.paths true s → m ≡ n →
           ((t : Times) → IsRun g order frozen s t → n ≤ greatest (start_bounds g order s t p)) →
           (s : Scenario) × IsScenario g s × (active g s.values p ≡ true) ×

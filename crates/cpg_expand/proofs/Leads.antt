@@ -73,6 +73,7 @@ module _ (g : Graph) (order : List ℕ) (n : ℕ) where
       earlier b other same d l = same d (omega (arith, l, ordered.1)) ∙ get_or-set_other o c d b false
           (λ e. absurd (let at = ap (λ q. place order (process_of g q)) e in omega (arith, l, ordered.1, at)))
 
+-- each leaf of a process's guard is an activation by an edge of the graph, if by one at all
 pub leads_below : (g : Graph) (order : List ℕ) → IsTopological g order → (p : ℕ) → p < process_count g →
     (guard : Guard) → IsGuardOf g order p guard →
     LeadsBelow (edge_count g) guard

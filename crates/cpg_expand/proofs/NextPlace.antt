@@ -32,6 +32,8 @@ use Rattle.cpg_expand.specs.Agreeing.{HasValueFrom}
 use Rattle.cpg_expand.specs.Grown.{IsReadyLine, AreSettledOf}
 use Rattle.cpg_expand.proofs.AgreeingTrees.{agrees_weaker}
 
+-- given: the process at a place of an order
+-- `order`, `topological`: an order of the graph; `i`, `p`, `l`, `at`: the process p at its place i
 module _ (g : Graph) (order : List ℕ) (topological : IsTopological g order) (i p : ℕ) (l : p < process_count g)
     (at : place order p ≡ i) where
   -- ---- what a node carries on
@@ -45,15 +47,18 @@ module _ (g : Graph) (order : List ℕ) (topological : IsTopological g order) (i
   here : p ≡ get_or order i 0
   here = sym (get_or-place order p 0 stands) ∙ ap (λ n. get_or order n 0) at
 
+  -- a process of the node before a place is before the next place too
   pub kept_on : (node q : ℕ) → Contains (on_node g order i node) q → Contains (on_node g order (i + 1) node) q
   kept_on node q j =
       let r = Contains-filter_parts (λ (u : ℕ). node_of g u == node) (take i order) q j in
       Contains-filter (λ (u : ℕ). node_of g u == node) (take (i + 1) order) q r.1 (in_next order i q inside (inl r.0))
 
+  -- so is the process at the place itself, on its own node
   pub here_on : Contains (on_node g order (i + 1) (node_of g p)) p
   here_on = Contains-filter (λ (u : ℕ). node_of g u == node_of g p) (take (i + 1) order) p
       (eq-eqb (node_of g p) (node_of g p) refl) (in_next order i p inside (inr here))
 
+  -- what stands before the process on its node is what the node has before its place
   pub same_before : before_on_node g order p ≡ on_node g order i (node_of g p)
   same_before = ap (λ n. filter (λ q. node_of g q == node_of g p) (take n order)) at
 
@@ -97,7 +102,7 @@ module _ (g : Graph) (order : List ℕ) (topological : IsTopological g order) (i
           by false e = ready_idle g order topological frozen s t run i p l at r h v e
               (ap (λ (b : Bool). if b then end_in t p else max r h) e) ready heard
 
-      -- any other node
+      -- another node is ready when it was before
       pub ready_elsewhere : (node : ℕ) → node ≢ node_of g p → (tree : TreeState ℕ) →
           IsReadyLine g order rows s t i node tree →
           IsReadyLine g order rows s t (i + 1) node tree
@@ -113,12 +118,16 @@ module _ (g : Graph) (order : List ℕ) (topological : IsTopological g order) (i
 
 -- ---- frozen times
 
+-- given: settled frozen times, and one item more that is done
+-- `Done`, `More`: the items that are done, before and after; `frozen`, `settled`: frozen times that are settled for
+-- `Done`
+-- `x`, `l`, `later`: the item that comes next, after all that are done; `grows`, `one`, `only`: `More` adds x alone
 module _ (g : Graph) (order : List ℕ) (topological : IsTopological g order) (within : IsWithinLimits g)
     (Done More : ℕ → Type 0) (frozen : List (Option ℕ))
     (settled : AreSettledOf g order Done frozen) (x : ℕ) (l : x < item_count g)
     (later : (y : ℕ) → y < item_count g → Done y → moment g order y < moment g order x)
     (grows : (y : ℕ) → Done y → More y) (one : More x) (only : (y : ℕ) → More y → Done y ⊎ (y ≡ x)) where
-  -- no frozen time is to be set
+  -- if the item is not frozen, the frozen times stay settled with it
   pub settled_idle : is_frozen g x ≡ false → AreSettledOf g order More frozen
   settled_idle thawed = record {
     count = settled.count;
@@ -130,17 +139,21 @@ module _ (g : Graph) (order : List ℕ) (topological : IsTopological g order) (w
     low = settled.low;
   }
     where
+      -- the two values of a boolean differ
       apart : true ≡ false → ⊥
       apart e = cc
 
+  -- x comes after all items that are done, so it isn't one of them
   not_done : Done x → ⊥
   not_done done = omega (arith, later x l done)
 
-  -- the frozen time of the item is set
+  -- if the item's frozen time is set to its unfrozen time, the frozen times are settled with it
   pub settled_more : is_frozen g x ≡ true → (more : List (Option ℕ)) →
       IsUnfrozenTime g order frozen x (get_or more x None) →
       ((y : ℕ) → y ≢ x → get_or more y None ≡ get_or frozen y None) →
       length more ≡ length frozen → AreSettledOf g order More more
+  -- for x, the frozen time is the one set; for any other item that is done, what it waits for has the times of
+  -- before, so its frozen time stays right; `low`: the time set is low enough, as x's unfrozen time in a run is
   settled_more is_one more is same count = record {
     count = count ∙ settled.count;
     each = λ y h f done. elim (cases_eq y x) [

@@ -12,19 +12,22 @@ use Rattle.cpg_expand.specs.declared.descent.Source.{Source}
 use Rattle.cpg_expand.specs.declared.descent.Source.TheVariants.{At, Alone}
 use Rattle.cpg_expand.specs.declared.descent.KnownGuard.{KnownGuard}
 
--- all activations may be anything
+-- a fact without content holds of all leaves
 pub any_leaves : (guard : Guard) → AreLeaves (λ a. Unit {0}) guard
 any_leaves (Leaf a) = tt
 any_leaves (Test c off on) = (any_leaves off, any_leaves on)
 
+-- the inputs that a guard leads to are below a number: said of its leaves, this is a fact of all of them
 pub leads_leaves : (n : ℕ) (guard : Guard) → LeadsBelow n guard → AreLeaves (λ a. IsByBelow n a) guard
 leads_leaves n (Leaf a) h = h
 leads_leaves n (Test c off on) h = (leads_leaves n off h.0, leads_leaves n on h.1)
 
 module _ {T : Type 0} where
+  -- what one list keeps, and the next one in turn, the last one keeps
   pub kept_still : (old next new : List (KnownGuard T)) → AreKept old next → AreKept next new → AreKept old new
   kept_still old next new first second i g at = second i g (first i g at)
 
+  -- one more tree at the end keeps all trees before it
   pub kept_by : (old new : List (KnownGuard T)) (k : KnownGuard T) → new ≡ old ++ (k ∷ []) → AreKept old new
   kept_by old new k e i g at = subst (λ (xs : List (KnownGuard T)). IsAt xs i g) (sym e) (
     omega (arith, at.0, length-append old (k ∷ [])),
@@ -32,17 +35,20 @@ module _ {T : Type 0} where
   )
 
   module _ (made : TreeState T → Type 0) (fits : Guard → TreeState T → Type 0) where
+    -- what is found is in the list, or stands alone
     pub found_there : (known : List (KnownGuard T)) (g : Guard) (found : Source T) → IsFound made fits known g found →
         IsThere known found
     found_there known g (At i) h = h.0
     found_there known g (Alone t) h = tt
 
+    -- what was found is still found if all trees before it are kept
     pub found_still : (old new : List (KnownGuard T)) (g : Guard) (found : Source T) → AreKept old new →
         IsFound made fits old g found →
         IsFound made fits new g found
     found_still old new g (At i) kept h = kept i g h
     found_still old new g (Alone t) kept h = h
 
+    -- the tree of a guard that is kept at a place is made and fits the guard
     known_at : (known : List (KnownGuard T)) (i : ℕ) (g : Guard) (r : TreeState T) → AreKnown made fits known →
         IsAt known i g →
         HoldsAt (λ (k : KnownGuard T). r ≡ k.tree) known i →
@@ -53,7 +59,7 @@ module _ {T : Type 0} where
           subst (λ (h : Guard). fits h r) (at.1 d) (subst (fits (get_or known i d).guard.now) (sym (is d)) facts.1),
         )
 
-    -- the tree that is found tells of the guard
+    -- the tree that is found is one of the guard
     pub found_has_value : (known : List (KnownGuard T)) (g : Guard) (found : Source T) (r : TreeState T) →
         AreKnown made fits known → IsFound made fits known g found →
         IsTreeOf known found r
@@ -66,6 +72,7 @@ module _ {T : Type 0} where
     one_known : (k : KnownGuard T) → made k.tree → fits k.guard.now k.tree → AreKnown made fits (k ∷ [])
     one_known k m t = search rules
 
+    -- if the tree that is added fits its guard, all trees that are kept still do
     pub added_known : (old new : List (KnownGuard T)) (g : Guard) (tree : TreeState T) (found : Source T) →
         AreKnown made fits old → made tree → fits g tree →
         IsAdded old new g tree found →
@@ -77,12 +84,14 @@ module _ {T : Type 0} where
         (subst (fits h.1.guard.now) (sym h.4) (subst (λ (x : Guard). fits x tree) (sym h.3) t))))
     added_known old new g tree (Alone t) all m is h = subst (AreKnown made fits) (sym h.0) all
 
+    -- adding a tree keeps all trees before it
     pub added_kept : (old new : List (KnownGuard T)) (g : Guard) (tree : TreeState T) (found : Source T) →
         IsAdded old new g tree found → AreKept old new
     added_kept old new g tree (At i) h = kept_by old new h.1 h.2
     added_kept old new g tree (Alone t) h =
         subst (λ (xs : List (KnownGuard T)). AreKept old xs) (sym h.0) (λ i g at. at)
 
+    -- the tree that is added is found
     pub added_found : (old new : List (KnownGuard T)) (g : Guard) (tree : TreeState T) (found : Source T) → made tree →
         fits g tree → IsAdded old new g tree found →
         IsFound made fits new g found
@@ -94,13 +103,14 @@ module _ {T : Type 0} where
         ))
     added_found old new g tree (Alone t) m is h = (subst made (sym h.1) m, subst (fits g) (sym h.1) is)
 
-    -- the tree that was found before more were added
+    -- given: a tree that was found before more trees were added
     module _ (first second slice : List (KnownGuard T)) (kept : AreKept first second) (is : slice ≡ second) (g : Guard)
         (found : Source T) (h : IsFound made fits first g found) where
       still : IsFound made fits slice g found
       still = subst (λ (xs : List (KnownGuard T)). IsFound made fits xs g found) (sym is)
           (found_still first second g found kept h)
 
+      -- what was found before is still there, and its tree still fits the guard
       pub still_there : IsThere slice found
       still_there = found_there slice g found still
 

@@ -22,21 +22,21 @@ use Rattle.cpg_expand.specs.declared.measuring.Peak.{Peak}
 use Rattle.cpg_tree.proofs.OnePath.{scenario_few, the_path}
 use Rattle.cpg_expand.proofs.GuardTrees.{few_of}
 
--- no process, and so no peak
+-- without processes there is no peak
 pub no_peak : (g : Graph) (urgency : List ℕ) (has : ℕ → ℕ → Scenario → Type 0) (peak : Peak) →
     peak ≡ record { time = 0; scenario = zero_scenario g; process = None } →
     IsPeak g urgency 0 has peak
 no_peak g urgency has peak is = subst (IsPeak g urgency 0 has) (sym is)
     (record { time = refl; scenario = refl; none = λ q time s l law h. absurd (omega arith) })
 
--- if all have been gone through
+-- if all processes have been gone over, the peak is that of all
 pub all_processes : (g : Graph) (urgency : List ℕ) (has : ℕ → ℕ → Scenario → Type 0) (n : ℕ) (peak : Peak) →
     n ≡ process_count g →
     IsPeak g urgency n has peak →
     IsPeak g urgency (process_count g) has peak
 all_processes g urgency has n peak e a = subst (λ i. IsPeak g urgency i has peak) e a
 
--- what goes before a time in a scenario, and what doesn't
+-- a time that goes before another is greater, or equal with its scenario first
 later_or_first : (a b : ℕ) (c : Bool) → (if a == b then c else nat_lt a b) ≡ true → (a < b) ⊎ ((a ≡ b) × (c ≡ true))
 later_or_first a b c h = elim (cases_eq a b) [
   | inl e ↦ inr (e, sym (cond-true (a == b) c (nat_lt a b) (eq-eqb a b e)) ∙ h)
@@ -58,7 +58,7 @@ sooner_or_not_first a b c h = elim (cases_eq a b) [
     less a b l n = elim (cases_lt b a) [ inl m ↦ m | inr m ↦ absurd (n (omega arith)) ]
 
 module _ (g : Graph) (urgency : List ℕ) (n : ℕ) (has : ℕ → ℕ → Scenario → Type 0) where
-  -- what is so of the first n and of the next is so of all
+  -- a process among the first n + 1 is among the first n, or the next one
   of_next : (q time : ℕ) (s : Scenario) → q < n + 1 → has q time s → (q < n) ⊎ has n time s
   of_next q time s l h = elim (cases_lt q n) [
     | inl m ↦ inl m
@@ -67,6 +67,7 @@ module _ (g : Graph) (urgency : List ℕ) (n : ℕ) (has : ℕ → ℕ → Scena
 
   -- ---- the peak stays
 
+  -- the peak stays if the next process has no time, or none that goes before it
   stays : (peak : Peak) (o : Option ℕ) → IsPeakBy g urgency n has peak o →
       (o ≡ None → (time : ℕ) (s : Scenario) → IsScenario g s → has n time s → ⊥) →
       ((p : ℕ) → o ≡ Some p → (time : ℕ) (s : Scenario) → IsScenario g s → has n time s →
@@ -94,11 +95,14 @@ module _ (g : Graph) (urgency : List ℕ) (n : ℕ) (has : ℕ → ℕ → Scena
     first = a.first;
   }
 
+  -- a process that has no time leaves the peak as it is
   pub next_none : (peak : Peak) → IsPeak g urgency n has peak →
       ((time : ℕ) (s : Scenario) → IsScenario g s → has n time s → ⊥) →
       IsPeak g urgency (n + 1) has peak
   next_none peak a none = stays peak peak.process a (λ e. none) (λ p e time s law h. absurd (none time s law h))
 
+  -- given: paths with the times that the next process has
+  -- `into`: each time that process n has is a value of the paths; `there`: the greatest value is a time that n has
   module _ (paths : List (Path (Option ℕ)))
       (into : (time : ℕ) (s : Scenario) → IsScenario g s → has n time s → HasValueAt paths (Some time) s)
       (there : (time : ℕ) (s : Scenario) → IsGreatestOf g urgency paths time s → has n time s) where
@@ -124,6 +128,7 @@ module _ (g : Graph) (urgency : List ℕ) (n : ℕ) (has : ℕ → ℕ → Scena
       here : has n time scenario
       here = there time scenario greatest
 
+      -- the next process is the peak if its time goes before those of all processes before it
       comes : ((q other : ℕ) (s : Scenario) → q < n → IsScenario g s → has q other s → other ≤ time) →
           ((q : ℕ) (s : Scenario) → q < n → IsScenario g s → has q time s → is_before g urgency s scenario ≡ false) →
           ((q : ℕ) → q < n → has q time scenario → ⊥) → IsPeakOf g urgency (n + 1) has new n
@@ -162,6 +167,7 @@ module _ (g : Graph) (urgency : List ℕ) (n : ℕ) (has : ℕ → ℕ → Scena
             greatest.least.lawful (q, l, subst (λ i. has q i scenario) (sym same.0) h)) same.1)
       ]
 
+      -- the peak of the first n processes stays one with process n too, if n's greatest time doesn't go before it
       keeps : (peak : Peak) (o : Option ℕ) → IsPeakBy g urgency n has peak o →
           goes_before_by g urgency peak time scenario o ≡ false →
           IsPeakBy g urgency (n + 1) has peak o
@@ -181,6 +187,7 @@ module _ (g : Graph) (urgency : List ℕ) (n : ℕ) (has : ℕ → ℕ → Scena
                 ))
           ]
 
+      -- the peak with the greatest time of the next process is the peak of one process more
       pub or_keeps : (peak : Peak) → IsPeak g urgency n has peak →
           IsPeak g urgency (n + 1) has (or_time g urgency peak time scenario n)
       or_keeps peak a = elim (cases_Bool (goes_before g urgency peak time scenario)) [
@@ -190,6 +197,7 @@ module _ (g : Graph) (urgency : List ℕ) (n : ℕ) (has : ℕ → ℕ → Scena
             (sym (cond-false (goes_before g urgency peak time scenario) new peak f)) (keeps peak peak.process a f)
       ]
 
+    -- the peak with the paths of the next process is the peak of one process more
     pub next_peak : (old next : Peak) → IsPeak g urgency n has old → IsNextPeak g urgency paths n old next →
         IsPeak g urgency (n + 1) has next
     next_peak old next a (inl same) = subst (IsPeak g urgency (n + 1) has) (sym same.same)
@@ -199,6 +207,8 @@ module _ (g : Graph) (urgency : List ℕ) (n : ℕ) (has : ℕ → ℕ → Scena
 
 -- ---- above a bar
 
+-- given: the greatest time that the next process has, and a bar
+-- `n`, `has`: the next process, and the times that it has; `bar`: a bar; `top`, `is_top`: n's greatest time
 module _ (g : Graph) (urgency : List ℕ) (n : ℕ) (has : ℕ → ℕ → Scenario → Type 0) (bar : ℕ) (top : Option ℕ)
     (is_top : IsTop g (has n) top) where
   -- a process whose greatest time is under the bar has none from it on
@@ -208,10 +218,14 @@ module _ (g : Graph) (urgency : List ℕ) (n : ℕ) (has : ℕ → ℕ → Scena
   none_from (Some t) is f time s law h =
       both_ways (nat_le bar t) f (le-leb bar t (omega (arith, h.from, is.above time s law h.is)))
 
+  -- a process whose greatest time is under the bar leaves the peak above the bar as it is
   pub next_under : reaches bar top ≡ false → (peak : Peak) → IsPeak g urgency n (HasFrom bar has) peak →
       IsPeak g urgency (n + 1) (HasFrom bar has) peak
   next_under f peak a = next_none g urgency n (HasFrom bar has) peak a (none_from top is_top f)
 
+  -- given: paths with the times of the next process, which reaches the bar
+  -- `reached`: n's greatest time isn't under the bar; `into`, `from`: the values of the paths are the times that n
+  -- has
   module _ (reached : reaches bar top ≡ true) (paths : List (Path (Option ℕ)))
       (into : (time : ℕ) (s : Scenario) → IsScenario g s → has n time s → HasValueAt paths (Some time) s)
       (from : (time : ℕ) (s : Scenario) → IsScenario g s → HasValueAt paths (Some time) s → has n time s) where
@@ -223,6 +237,7 @@ module _ (g : Graph) (urgency : List ℕ) (n : ℕ) (has : ℕ → ℕ → Scena
         let v = into m is.scenario is.lawful is.there in
         omega (arith, leb-true bar m t, greatest.most v.0 m v.1.stands v.2)
 
+    -- a process that reaches the bar gives the next peak above the bar by its paths
     pub next_from : (old next : Peak) → IsPeak g urgency n (HasFrom bar has) old →
         IsNextPeak g urgency paths n old next →
         IsPeak g urgency (n + 1) (HasFrom bar has) next
@@ -236,14 +251,18 @@ module _ (g : Graph) (urgency : List ℕ) (n : ℕ) (has : ℕ → ℕ → Scena
 
 -- ---- of trees
 
--- who has an excess has an end
+-- a process that has an excess has an end
 pub past_end : (o : Option ℕ) (due x : ℕ) → time_past due o ≡ Some x → (end : ℕ) × (o ≡ Some end)
 past_end None due x e = absurd (none-some x e)
 past_end (Some end) due x e = (end, refl)
 
+-- given: the tree of the next process's ends, and two peaks
+-- `trees`, `n`, `end`, `same`: the trees of the ends, and that of process n; `old`, `next`: the peak before n and
+-- with n
 module _ (g : Graph) (urgency : List ℕ) (trees : List (TreeState (Option ℕ))) (n : ℕ) (end : TreeState (Option ℕ))
     (same : end ≡ tree_at g trees n) (old next : Peak) where
   module _ (bar : ℕ) (top : Option ℕ) (reached : reaches bar top ≡ true) where
+    -- the peak of the ends above the bar grows with the ends of one process more
     pub next_end : IsTop g (EndsAt g trees n) top → IsPeak g urgency n (HasFrom bar (EndsAt g trees)) old →
         IsNextPeak g urgency end.paths n old next →
         IsPeak g urgency (n + 1) (HasFrom bar (EndsAt g trees)) next
@@ -280,6 +299,7 @@ module _ (g : Graph) (urgency : List ℕ) (trees : List (TreeState (Option ℕ))
         )
 
     module _ (bar : ℕ) (top : Option ℕ) (reached : reaches bar top ≡ true) where
+      -- the peak of what is past the dues grows with the excesses of one process more
       pub next_past : IsTop g (EndsPast g trees n) top → IsPeak g urgency n (HasFrom bar (EndsPast g trees)) old →
           IsPeak g urgency (n + 1) (HasFrom bar (EndsPast g trees)) next
       next_past is_top a = next_from g urgency n

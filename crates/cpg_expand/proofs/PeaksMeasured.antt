@@ -1,4 +1,4 @@
--- The peaks of trees that tell the ends of the runs are the greatest finish and the greatest excess.
+-- The peaks of trees that give the ends of the runs are the greatest finish and the greatest excess.
 use Rattle.std.proofs.Common.{◌≡◌, ◌∙◌, ℕ, ◌-◌, ◌<◌, ◌≤◌, ◌⊎◌, false, nat_lt, List, map, length, get_or, All, Option}
 use Rattle.std.proofs.Common.{Some, None, unwrap_or, arith, sym, ap, subst, inl, inr, lt-ltb, le-ltb}
 use Rattle.std.proofs.lemmas.Option.{none-some, same_Some}
@@ -66,6 +66,9 @@ module _ (g : Graph) (order : List ℕ) (top : IsTopological g order) (frozen : 
   abbrev RunHas : (Times → ℕ) → ℕ → Scenario → Type 0
   RunHas most n s = (t : Times) × IsRun g order frozen s t × (most t ≡ n)
 
+  -- given: a value of each process in a run, the greatest of these, and a peak
+  -- `value`, `most`, `m`: the value of each process in a run, and the greatest; `has`, `are`: these values by
+  -- scenario
   module _ (value : Times → ℕ → Option ℕ) (most : Times → ℕ) (m : IsMost value most) (has : ℕ → ℕ → Scenario → Type 0)
       (are : AreValues value has) (urgency : List ℕ) (peak : Peak) where
     run_below : (o : Option ℕ) → IsPeakBy g urgency (process_count g) has peak o → (s : Scenario) (t : Times) →
@@ -80,6 +83,8 @@ module _ (g : Graph) (order : List ℕ) (top : IsTopological g order) (frozen : 
       | inr r ↦ a.most r.0 (most t) s r.1 law (are.from s t law run r.0 (most t) r.1 r.2)
     ]
 
+    -- the peak's scenario is the first one whose run has the greatest value: if no process has the peak, all values
+    -- are 0 and the first scenario of all is the one; otherwise it is the first in which that process has the value
     run_least : (o : Option ℕ) → IsPeakBy g urgency (process_count g) has peak o →
         IsLeast g urgency (RunHas most peak.time) peak.scenario
     run_least None a =
@@ -185,6 +190,7 @@ module _ (g : Graph) (order : List ℕ) (top : IsTopological g order) (frozen : 
     }
 
     module _ (urgency : List ℕ) (peak : Peak) where
+      -- the process of the peak is the least one that ends at its time
       ends_by : (o : Option ℕ) → IsPeakBy g urgency (process_count g) (EndsAt g trees) peak o → (t : Times) →
           IsRun g order frozen peak.scenario t →
           IsLeastEnding g t peak.time o
@@ -202,6 +208,7 @@ module _ (g : Graph) (order : List ℕ) (top : IsTopological g order) (frozen : 
             λ q l e. a.first q l (ends_values.from peak.scenario t law run q peak.time (omega (arith, l, a.there)) e),
           )
 
+      -- the process of the peak is the least one that exceeds by its time
       past_by : (o : Option ℕ) → IsPeakBy g urgency (process_count g) (EndsPast g trees) peak o → (t : Times) →
           IsRun g order frozen peak.scenario t →
           IsLeastExceeding g t peak.time o
@@ -216,7 +223,7 @@ module _ (g : Graph) (order : List ℕ) (top : IsTopological g order) (frozen : 
                 (past_from (get_or t.ends q None) (due g q) peak.time h.0 e)),
           )
 
-      -- the greatest finish
+      -- the peak of the ends is the greatest finish
       pub peak_is_worst : IsPeak g urgency (process_count g) (EndsAt g trees) peak →
           IsWorst g urgency order frozen peak.time peak.scenario peak.process
       peak_is_worst a = record {
@@ -227,7 +234,7 @@ module _ (g : Graph) (order : List ℕ) (top : IsTopological g order) (frozen : 
         by = ends_by peak.process a;
       }
 
-      -- the greatest excess
+      -- the peak of what is past the dues is the greatest excess
       pub peak_is_excess : IsPeak g urgency (process_count g) (EndsPast g trees) peak →
           IsExcess g urgency order frozen peak.time peak.scenario peak.process
       peak_is_excess a = record {

@@ -37,8 +37,11 @@ bar_cases tops = elim (greatest_cases (map (λ o. unwrap_or o 0) tops)) [
     at None m e = inl (sym e)
     at (Some t) m e = inr (m.0, m.1, get_or_default tops m.0 None (Some t) m.1 ∙ m.2 ∙ ap Some e)
 
+-- given: the greatest time of each process, and a peak
+-- `n`, `has`: the processes, and the times that each has; `tops`, `count`, `are`: the greatest time of each
 module _ (g : Graph) (urgency : List ℕ) (n : ℕ) (has : ℕ → ℕ → Scenario → Type 0) (tops : List (Option ℕ))
     (count : length tops ≡ n) (are : HasTops g n has tops) (peak : Peak) where
+  -- if no process has a time from the bar on, none has a time at all
   none_at_all : (q time : ℕ) (s : Scenario) → q < n → IsScenario g s → has q time s →
       ((r : ℕ) (other : ℕ) (u : Scenario) → r < n → IsScenario g u → HasFrom (bar_of tops) has r other u → ⊥) → ⊥
   none_at_all q time s l law h none = elim (bar_cases tops) [
@@ -70,16 +73,21 @@ module _ (g : Graph) (urgency : List ℕ) (n : ℕ) (has : ℕ → ℕ → Scena
     first = λ q l h. a.first q l (record { from = a.is.from; is = h });
   }
 
+  -- the peak of the times above the greatest of these is the peak of all times
   pub peak_of_all : IsPeak g urgency n (HasFrom (bar_of tops) has) peak → IsPeak g urgency n has peak
   peak_of_all = by peak.process
 
 -- ---- the tops of trees
 
+-- the greatest number that is found in a tree, or none if no path has a time, is its top
 pub top_from : (t : TreeState (Option ℕ)) (o : Option ℕ) → IfNone o (All (λ p. p.1 ≡ None) t.paths) →
     IfSome o (IsGreatestNumber t) → IsTopOf t o
 top_from t None none some = none
 top_from t (Some m) none some = some
 
+-- given: the trees of all ends, and the greatest number of each
+-- `trees`, `all`: the trees of the ends; `tops`, `are`: the greatest number of each; `count`: there is a tree per
+-- process
 module _ (g : Graph) (processes : process_count g ≤ 128) (trees : List (TreeState (Option ℕ)))
     (all : All (IsTree g) trees) (tops : List (Option ℕ)) (are : AreTops trees (length trees) tops)
     (count : length trees ≡ process_count g) where
@@ -96,12 +104,14 @@ module _ (g : Graph) (processes : process_count g ≤ 128) (trees : List (TreeSt
         there = r.has;
       }
 
+  -- the tops of the trees of ends are the greatest ends in any scenario
   pub ends_tops : HasTops g (process_count g) (EndsAt g trees) tops
   ends_tops q l =
       let within : q < length trees = omega (arith, l, count) in
       top_of q (All-get_or (IsTree g) trees q (no_tree g.faults) within all) (get_or tops q None)
       (are.each q (no_tree g.faults) within)
 
+-- one more top makes the tops of one tree more
 pub tops_more : (trees : List (TreeState (Option ℕ))) (n : ℕ) (tops new : List (Option ℕ)) (tree : TreeState (Option ℕ))
     (o : Option ℕ) → AreTops trees n tops →
     n < length trees →
@@ -153,12 +163,14 @@ module _ (g : Graph) (trees : List (TreeState (Option ℕ))) where
         absurd (omega (arith, past.0, l, is.above h.0 s law h.1)))
   ]
 
+  -- the tops of what is past the dues are those of the ends, past the dues
   pub past_tops_are : (tops : List (Option ℕ)) → HasTops g (process_count g) (EndsAt g trees) tops →
       HasTops g (process_count g) (EndsPast g trees) (past_tops g tops)
   past_tops_are tops are q l = subst (IsTop g (EndsPast g trees q))
       (sym (get_or-map-below (λ p. time_past (due g p) (get_or tops p None)) (process_count g) q None l))
       (past_top q (get_or tops q None) (are q l))
 
+-- there is a top for each process
 pub past_count : (g : Graph) (tops : List (Option ℕ)) → length (past_tops g tops) ≡ process_count g
 past_count g tops = length-map (numbers_below (process_count g)) (λ q. time_past (due g q) (get_or tops q None))
     ∙ length-range_with_len 0 (process_count g)

@@ -26,6 +26,10 @@ use Rattle.cpg_expand.proofs.AgreeingTrees.{agrees_weaker}
 use Rattle.cpg_expand.proofs.CarriedOn.{end_parts, ready_carried}
 use Rattle.cpg_expand.proofs.StartTimes.{later_exact}
 
+-- given: a process whose guard leads to its activation, by conditions that decide it
+-- `rows`, `s`, `few`, `t`, `small`: rows, a scenario, and its times, which are below 2 ^ 59
+-- `p`, `guard`, `leads`: the guard leads to p's activation there
+-- `on_way`: each condition that the guard tests on its way is one that decides p
 module _ (g : Graph) (order : List ℕ) (topological : IsTopological g order) (rows : List (List Column)) (s : Scenario)
     (few : HasAtMostFaults g.faults s) (t : Times) (small : AreSmall t) (p : ℕ)
     (guard : Guard)

@@ -14,7 +14,7 @@ use Rattle.cpg_expand.specs.Forest.{ForestState, later_tree, no_tree}
 use Rattle.cpg_expand.specs.Waited.{IsQueuedFor, IsReadyOnce}
 use Rattle.cpg_expand.proofs.GuardTrees.{ready_always}
 
--- a tree without paths tells anything
+-- a tree without paths agrees with anything
 none_has_value : {T : Type 0} (k : ℕ) (s : Scenario) (literals : List Literal) (fact : T → Type 0) →
     Agrees s literals fact (no_tree k)
 none_has_value k s literals fact =
@@ -33,7 +33,7 @@ ready_everywhere g f node guard active end always = record {
 
 -- ---- what waits
 
--- one more process is no such one
+-- if none of the first processes waits and the next one does not either, none up to it does
 pub none_waits : (g : Graph) (order : List ℕ) (node at k : ℕ) (b : Bool) →
     ((q : ℕ) → q < k → node_of g q ≡ node → at < place order q → is_frozen g q ≡ false → ⊥) →
     b ≡ (node_of g k == node && (nat_lt at (place order k) && not (is_frozen g k))) → b ≡ false → (q : ℕ) → q < k + 1 →
@@ -53,7 +53,7 @@ none_waits g order node at k b before is off q below there behind thawed = elim 
         (subst (λ n. at < place order n) e behind)) (ap not (ap (is_frozen g) (sym e) ∙ thawed)))) ∙ sym is ∙
         off)
 
--- one more item is none that goes by when slots are free
+-- if none of the first items waits for free slots and the next one does not either, none up to it does
 pub none_goes_by : (g : Graph) (order : List ℕ) (node at k : ℕ) (b : Bool) →
     ((y : ℕ) → y < k → is_sent g y ≡ true → home g y ≡ node → at ≤ place order (producer g y) →
     is_frozen g y ≡ false → ⊥) →
@@ -78,7 +78,7 @@ none_goes_by g order node at k b before is off y below sent there behind thawed 
         (le-leb at (place order (producer g k)) (subst (λ n. at ≤ place order (producer g n)) e behind)))) ∙ sym is
         ∙ off)
 
--- one that does
+-- an item that waits for free slots makes the answer true
 pub one_goes_by : (g : Graph) (order : List ℕ) (node at y : ℕ) (b : Bool) → y < item_count g →
     b ≡ ((is_sent g y && not (is_frozen g y)) && ((home g y == node) && nat_le at (place order (producer g y)))) →
     b ≡ true → IsQueuedFor g order at node

@@ -19,12 +19,16 @@ use Rattle.cpg_expand.specs.WideRows.{DoTablesFit}
 use Rattle.cpg_expand.specs.declared.built_rows.BuiltRows.{BuiltRows}
 use Rattle.cpg_expand.proofs.WideRowsMade.{tables_fit}
 
+-- given: rows that are built under a topological order
+-- `a`, `order`, `topological`: an admitted graph and an order of it; `r`, `are`: the rows that are built under that
+-- order
 module _ (g : Graph) (urgency : List ℕ) (guards : Guards) (a : IsAdmitted g urgency guards) (order : List ℕ)
     (topological : IsTopological g order) (r : BuiltRows)
     (are : AreBuiltRows g urgency order r) where
   admitted : Admitted g urgency order
   admitted = admitted_under g urgency order guards a topological
 
+  -- rows that are built can be written
   pub built_writable : AreWritable g r.rows.items
   built_writable = found_rows_are_writable g urgency order r.frozen r.rows.items a.limits admitted are.found are.fit
 
@@ -33,13 +37,15 @@ module _ (g : Graph) (urgency : List ℕ) (guards : Guards) (a : IsAdmitted g ur
       ∙ length-range_with_len 0 (item_count g)
 
   module _ (t : Tables) (written : AreTablesWith g r.rows.items t) where
+    -- the tables of rows that are built are what a builder answers
     pub built_tables : IsBuiltFor g urgency order (built_of r t)
     built_tables = found_tables_are_built g urgency order r.rows.items (built_of r t) a.limits admitted
         (record { found = are.found; written = written; worst = are.worst; excess = are.excess })
 
+    -- the tables fit
     pub built_fit : DoTablesFit g t.nodes
     built_fit = tables_fit g r.rows.items t count are.fit written
 
-  -- what is assembled of them
+  -- the tables that are assembled of them are what a builder answers
   pub assembled : (b : Built) → IsAssembledOf g r b → IsBuiltFor g urgency order b
   assembled b is = subst (IsBuiltFor g urgency order) (sym is.same) (built_tables b.tables is.written)

@@ -10,7 +10,7 @@ use Rattle.cpg_tree.specs.Tree.{TreeState}
 use Rattle.cpg_expand.specs.Forest.{no_tree}
 use Rattle.cpg_expand.specs.MadeRows.{IsRowOf, AreFirstRows}
 
--- one row more
+-- the row of the next item makes the rows of one item more
 pub rows_more : (g : Graph) (urgency : List ℕ) (times : List (TreeState (Option ℕ))) (n : ℕ) (rows more : List Row)
     (row : Row) →
     AreFirstRows g urgency times n rows →
@@ -33,7 +33,7 @@ rows_more g urgency times n rows more row a new is = record {
 cons_nil : {T : Type 0} (x : T) (rest : List T) → x ∷ rest ≡ [] → ⊥
 cons_nil x rest e = cc
 
--- what is left of a list after one element more
+-- if an element and a rest are left of a list, the element is the next one and the rest is what is left after it
 pub next_left : {T : Type 0} (xs rest : List T) (x d : T) (n : ℕ) → x ∷ rest ≡ drop n xs →
     (get_or xs n d ≡ x) × (rest ≡ drop (n + 1) xs)
 next_left [] rest x d zero e = absurd (cons_nil x rest e)

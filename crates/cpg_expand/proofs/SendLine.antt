@@ -39,6 +39,10 @@ module _ (g : Graph) (order : List ℕ) (rows : List (List Column)) (s : Scenari
           (heard g rows s p) l
           (Contains-append_right (flat_map (passed g rows s) (before_on_node g order p)) (decided g s p) l j))
 
+  -- given: an item, and a tree of where it goes, which says no more than what decides that
+  -- `acts`: item x is active only if its producer is; `goes`, `of_goes`: where x goes, by the literals `says` in the
+  -- scenario
+  -- `at_most`: each of these literals is one that decides the producer, or one by which an active producer sends x
   module _ (x : ℕ) (acts : item_active g s.values (item_at g x) ≡ true → active g s.values (producer g x) ≡ true)
       (says : List Literal) (goes : TreeState Bool)
       (of_goes : HasValueFrom s says (item_active g s.values (item_at g x)) goes)
@@ -55,7 +59,7 @@ module _ (g : Graph) (order : List ℕ) (rows : List (List Column)) (s : Scenari
     thawed_says e l j = subst (λ (f : Bool).
         Contains ((if f then decided g s (producer g x) else unfrozen_says) ++ sent_by_value g s x) l) (sym e) j
 
-    -- the line of a send that isn't frozen
+    -- the tree of a send that is not frozen agrees with what is carried at the send
     pub send_line : is_frozen g x ≡ false →
         (share : ShareState) (end : TreeState (Option ℕ)) (free : TreeState ℕ) (tree : TreeState (Option ℕ))
         (ended : Option ℕ) (y : ℕ) →
@@ -104,7 +108,7 @@ module _ (g : Graph) (order : List ℕ) (rows : List (List Column)) (s : Scenari
               | inr i ↦ of_time (item_active g s.values (item_at g x)) l i
             ]
 
-    -- the line of the time from which the slots are free then
+    -- the tree of when the slots are free after it agrees with what it leaves to the items behind it
     pub free_line : (turn : ℕ) (sent : TreeState (Option ℕ)) (free tree : TreeState ℕ) (time : Option ℕ) (y : ℕ) →
         IsFreeTree g.faults turn goes sent free tree →
         HasValueFrom s (carried_at_send g order rows s x) time sent → HasValueFrom s before_it y free →

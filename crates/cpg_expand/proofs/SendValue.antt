@@ -18,12 +18,16 @@ use Rattle.cpg_run.proofs.Runs.{time_is, has_time, has_end}
 use Rattle.cpg_run.proofs.Sends.{send_is, here_sent}
 use Rattle.cpg_expand.specs.Values.{slot_from}
 
--- the slot after an end
+-- if an end is there, the first free slot is the next one after it, or the free one if that is later
 slot_after : (share : ShareState) (free end : ℕ) (o : Option ℕ) → o ≡ Some end → end < 2 ^ 59 →
     slot_from share free o ≡ Some (max (next_of share end) free)
 slot_after share free end o is early =
     ap (slot_from share free) is ∙ cond-true _ (Some (max (next_of share end) free)) None (lt-ltb end (2 ^ 59) early)
 
+-- given: a run, an item that is not frozen, and from when on the slots of its node are free
+-- `s`, `frozen`, `t`, `run`: a scenario and its run under frozen times; `p`, `l`, `k`, `inside`: the k-th item that p
+-- sends
+-- `free`, `is_free`: from when on its slots are free; `thawed`: the item has no frozen time
 module _ (g : Graph) (order : List ℕ) (topological : IsTopological g order) (s : Scenario) (p : ℕ)
     (l : p < process_count g) (frozen : List (Option ℕ)) (t : Times) (run : IsRun g order frozen s t)
     (k : ℕ) (inside : k < length (queue_of g p)) (free : ℕ) (is_free : IsMost (IsSentBy g order s p k)
@@ -39,7 +43,7 @@ module _ (g : Graph) (order : List ℕ) (topological : IsTopological g order) (s
       let none : frozen_in frozen here ≡ 0 = ap (λ o. unwrap_or o 0) thawed in
       omega (arith, is, none)
 
-  -- the time that the trees tell is the run's
+  -- the time that the trees give is the run's
   pub send_value : AreSmall t → (item_active g s.values (item_at g here) ≡ true → active g s.values p ≡ true) →
       (if item_active g s.values (item_at g here) then slot_from (share_of g (node_of g p)) free (get_or t.ends p None)
       else None) ≡ get_or t.times here None

@@ -65,7 +65,7 @@ use Rattle.cpg_expand.proofs.StartTimes.{later_exact}
 use Rattle.cpg_expand.proofs.SentOne.{item_valued, free_once}
 use Rattle.cpg_expand.proofs.GuardTrees.{ends_tree, times_tree}
 
--- the tree of a guard tells where its process is active, and no more than what decides it
+-- the tree of a guard says where its process is active, and its path says no more than what decides the process
 pub chosen_valued : (g : Graph) (urgency : List ℕ) → IsUrgencyOrder g urgency → IsTopological g urgency →
     (p : ℕ) (guard : Guard) → IsGuardOf g urgency p guard →
     (chooser : TreeState Bool) →
@@ -87,6 +87,7 @@ chosen_valued g urgency is_urgency urgent p guard is_guard chooser actives s law
         (ways_are_deciding g urgency p guard s.values is_urgency urgent is_guard law.values) j) in
         Contains-filter (decides g s.values p) _ c r.1 (Contains-numbers _ c (from_along g urgency c r.0).0)
 
+-- what is carried by an item that is sent is what is carried at its send
 carried_sent : (g : Graph) (order : List ℕ) (rows : List (List Column)) (s : Scenario) (x : ℕ) (i : Item) →
     is_sent_item g i ≡ true →
     carried_by_item g order rows s x i ≡ carried_at_send g order rows s x
@@ -94,10 +95,16 @@ carried_sent g order rows s x (Start p) is = cc
 carried_sent g order rows s x (Message e) is = refl
 carried_sent g order rows s x (Broadcast c) is = refl
 
+-- given: a process that has begun, and the tree of where it is active
+-- `p`, `l`, `on_node`: a process on a node of the graph; `chooser`, `chosen`: the tree of where p is active
 module _ (g : Graph) (limits : IsWithinLimits g) (order : List ℕ) (topological : IsTopological g order) (p : ℕ)
     (l : p < process_count g) (on_node : node_of g p < length g.nodes)
     (chooser : TreeState Bool)
     (chosen : (s : Scenario) → IsScenario g s → HasValueFrom s (decided g s p) (active g s.values p) chooser) where
+  -- given: one of its items, and the trees before and after that one is added
+  -- `k`, `inside`: the k-th item that p sends; `old`, `before`, `sending`: trees and frozen times with the k items
+  -- before it
+  -- `new`, `after`, `added`: those with this item too
   module _ (k : ℕ) (inside : k < length (queue_of g p)) (old new : ForestState) (before after : List (Option ℕ))
       (sending : IsSending g order p k before old)
       (added : IsItemAdded g order chooser (get_or (queue_of g p) k 0) old new before after) where
@@ -199,7 +206,7 @@ module _ (g : Graph) (limits : IsWithinLimits g) (order : List ℕ) (topological
         (λ e. or_right _ _ e)
         (or_cases _ _ b.1)))
 
-    -- what the trees tell of it
+    -- what the trees say of it
     valued_send : (s : Scenario) → IsScenario g s → (t : Times) → IsRun g order before s t →
         IsSendByTrees g order old added.goes (ends_of g old (producer g here)) here s t
     valued_send s law t run =
@@ -285,6 +292,8 @@ module _ (g : Graph) (limits : IsWithinLimits g) (order : List ℕ) (topological
           (sym (other_times g order chooser here old new before after added x (apart x h (inl sooner)))) j) is;
     }
 
+    -- given: rows that hold what the new trees list, and one scenario with its run
+    -- `rows`, `hold`: the rows that hold the new trees; `s`, `law`, `t`, `run`: a scenario and its run
     module _ (rows : List (List Column)) (hold : RowsHold g order (place order p) new rows) (s : Scenario)
         (law : IsScenario g s) (t : Times) (run : IsRun g order after s t) where
       old_lines : SendLines g order rows s t p k old
@@ -312,6 +321,8 @@ module _ (g : Graph) (limits : IsWithinLimits g) (order : List ℕ) (topological
           (λ on. old_lines.ends p l p_ends) old_lines.here refl (omega (arith, within, sending.settled.count)) unset
           (λ is. settled_then.each here within is one_more) q
 
+      -- the lines of the run with k + 1 items: those of before for other items and for all ends, and for this item
+      -- the time that is put
       send_lines : SendLines g order rows s t p (k + 1) new
       send_lines = record {
         times = λ x h done. elim (only x done) [
@@ -372,6 +383,7 @@ module _ (g : Graph) (limits : IsWithinLimits g) (order : List ℕ) (topological
       (next_sent k inside old more.0 before more.1 sending
       (subst (λ y. IsItemAdded g order chooser y old more.0 before more.1) first more.2)) more.3
 
+  -- once all that a process sends is added, the trees are grown up to its place, with all its items sent
   pub all_sent : (old new : ForestState) (before after : List (Option ℕ)) → IsSending g order p 0 before old →
       AreItemsAdded g order chooser (queue_of g p) old new before after →
       IsSending g order p (length (queue_of g p)) after new

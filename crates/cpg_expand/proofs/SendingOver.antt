@@ -29,6 +29,8 @@ use Rattle.cpg_expand.specs.Agreeing.{HasValueFrom}
 use Rattle.cpg_expand.specs.Forest.{ForestState, times_of, ends_of}
 use Rattle.cpg_expand.specs.Grown.{SendLines, IsDone}
 
+-- given: an item that a process sends
+-- `order`, `topological`: an order of the graph; `p`, `l`: a process; `k`, `inside`: the k-th item that it sends
 module _ (g : Graph) (order : List ℕ) (topological : IsTopological g order) (p : ℕ) (l : p < process_count g) (k : ℕ)
     (inside : k < length (queue_of g p)) where
   abbrev here : ℕ
@@ -61,7 +63,7 @@ module _ (g : Graph) (order : List ℕ) (topological : IsTopological g order) (p
       below_first (rank_at g) (queue_of g p) (queue_rises g p) k inside x c in
       omega (arith, at, own, less)
 
-  -- two runs of a scenario that agree before the item
+  -- given: two times of a scenario that agree before the item
   module _ (s : Scenario) (t u : Times) (a : AgreeBefore g order t u (moment g order here)) where
     before_place : AgreeBefore g order t u (place order p * phases g)
     before_place = let at = moment_of_sent here in_here in

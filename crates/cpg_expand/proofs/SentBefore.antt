@@ -27,6 +27,8 @@ use Rattle.cpg_expand.specs.Agreeing.{HasValueFrom}
 use Rattle.cpg_expand.specs.Sent.{sent_before, sent_so_far}
 use Rattle.cpg_expand.proofs.AgreeingTrees.{agrees_weaker}
 
+-- given: an item that a process sends
+-- `order`, `topological`, `s`: an order and a scenario; `p`, `l`, `k`, `inside`: the k-th item that process p sends
 module _ (g : Graph) (order : List ℕ) (topological : IsTopological g order) (s : Scenario) (p : ℕ)
     (l : p < process_count g) (k : ℕ) (inside : k < length (queue_of g p)) where
   abbrev here : ℕ
@@ -35,6 +37,7 @@ module _ (g : Graph) (order : List ℕ) (topological : IsTopological g order) (s
   in_here : Contains (queue_of g p) here
   in_here = here_sent g order topological s p l k inside
 
+  -- what the node has sent so far stands before the item in the queue
   pub so_far_queued : (y : ℕ) → Contains (sent_so_far g order p k) y → Contains (queued_before g order here) y
   so_far_queued y j =
       let x = in_queue g p here in_here in
@@ -62,6 +65,7 @@ module _ (g : Graph) (order : List ℕ) (topological : IsTopological g order) (s
             (lt-ltb _ _ (below_first (rank_at g) (queue_of g p) (queue_rises g p) k inside y first)))))
       ]
 
+  -- only what the node has sent so far stands before the item in the queue
   pub queued_so_far : (y : ℕ) → Contains (queued_before g order here) y → Contains (sent_so_far g order p k) y
   queued_so_far y j =
       let f = Contains-filter_parts (λ y. is_queued_before g order y here) (numbers_below (item_count g)) y j in
@@ -91,8 +95,7 @@ module _ (g : Graph) (order : List ℕ) (topological : IsTopological g order) (s
     abbrev support_all : List ℕ → List Literal
     support_all = flat_map (queued g order rows s)
 
-    -- a tree that tells what is carried from all that the node has sent tells no more than what the next item carries
-    -- on
+    -- a tree that says no more than what all items so far leave says no more than what is left to the next item
     pub has_value_before : (y : ℕ) (tree : TreeState ℕ) →
         HasValueFrom s (flat_map (queued g order rows s) (sent_so_far g order p k)) y tree →
         HasValueFrom s (flat_map (queued g order rows s) (queued_before g order here)) y tree
@@ -102,8 +105,8 @@ module _ (g : Graph) (order : List ℕ) (topological : IsTopological g order) (s
         Contains-flat_map (queued g order rows s) (queued_before g order here) r.0 m (so_far_queued r.0 r.1) r.2)
         (λ z e. e)
 
-    -- a tree that tells what the next item carries on, and that item, tells no more than all that the node has sent
-    -- then
+    -- a tree that says no more than what is left to the next item and what that one leaves says no more than what all
+    -- items sent by then leave
     pub has_value_after : (y : ℕ) (tree : TreeState ℕ) →
         HasValueFrom s
         (flat_map (queued g order rows s) (queued_before g order here) ++ queued g order rows s here) y tree →

@@ -1,4 +1,5 @@
--- The trees of an item that is added tell its time in the run, and from when on the slots of its node are free then.
+-- The trees of an item that is added give its time in the run, and from when on the slots of its node are free after
+-- it.
 use Rattle.std.proofs.Common.{ℕ, ◌+◌, ◌<◌, ◌≡◌, Bool, true, false, if◌then◌else◌, List, [], ◌++◌, length, flat_map}
 use Rattle.std.proofs.Common.{get_or, set, Option, Some, None, unwrap_or, Contains, ◌⊎◌, arith, refl, sym, ap}
 use Rattle.std.proofs.Common.{◌∙◌, subst, inl, inr, get_or-set_same}
@@ -44,6 +45,9 @@ use Rattle.cpg_expand.proofs.SendValue.{send_value}
 use Rattle.cpg_expand.proofs.SentBefore.{has_value_before, has_value_after}
 use Rattle.cpg_expand.proofs.StartTimes.{later_exact}
 
+-- given: one scenario with its run, and an item that a process sends
+-- `s`, `law`, `few`: a scenario; `frozen`, `t`, `run`, `small`: its run under frozen times, with small times
+-- `p`, `l`, `k`, `inside`: the k-th item that process p sends
 module _ (g : Graph) (limits : IsWithinLimits g) (order : List ℕ) (topological : IsTopological g order)
     (rows : List (List Column)) (s : Scenario) (law : IsScenario g s)
     (few : HasAtMostFaults g.faults s)
@@ -67,6 +71,13 @@ module _ (g : Graph) (limits : IsWithinLimits g) (order : List ℕ) (topological
   acts : item_active g s.values (item_at g here) ≡ true → active g s.values (producer g here) ≡ true
   acts = producer_active g s.values (item_at g here)
 
+  -- given: an item that is added to the trees, with what the trees said before
+  -- `old`, `before`, `trees`: trees and frozen times without the item; `new`, `after`, `added`: those with it
+  -- `on_node`: p is on a node of the graph; `chosen`: the chooser says where p is active; `ended`: the old trees have
+  -- p's end
+  -- `once`: they have when its slots are free, if an item waits for that
+  -- `same`, `long`, `unset`: the item had no frozen time, and has that of the run now
+  -- `settled`: a frozen item's time is the greatest that it would have
   module _ (chooser : TreeState Bool) (old new : ForestState) (before after : List (Option ℕ)) (trees : HasTrees g old)
       (added : IsItemAdded g order chooser here old new before after)
       (on_node : node_of g p < length g.nodes)
@@ -120,6 +131,7 @@ module _ (g : Graph) (limits : IsWithinLimits g) (order : List ℕ) (topological
 
     -- ---- its times
 
+    -- the tree of an item that is not frozen gives its time in the run
     of_thawed : IsFreeOnce g order rows s t p k old → is_frozen g here ≡ false → after ≡ before →
         IsSentTree g.faults (share_of g (home g here)) added.goes (ends_of g old (producer g here))
         (free_of g old (home g here)) added.sent →
@@ -176,7 +188,7 @@ module _ (g : Graph) (limits : IsWithinLimits g) (order : List ℕ) (topological
     times_is = ap (λ (f : ForestState). times_of g f here) added.is
         ∙ get_or-set_same old.times here added.sent (no_tree g.faults) (omega (arith, within, trees.times))
 
-    -- the trees of the item tell its time in the run
+    -- the tree of the item gives its time in the run
     pub item_valued : HasValueFrom s (carried_at_send g order rows s here) (get_or t.times here None)
         (times_of g new here)
     item_valued = subst (λ (u : TreeState (Option ℕ)).
@@ -197,6 +209,7 @@ module _ (g : Graph) (limits : IsWithinLimits g) (order : List ℕ) (topological
         IsFreeTree g.faults (round g) added.goes added.sent (free_of g old (home g here)) added.freed
     frees_here q = added.frees (subst (λ r. IsQueuedFor g order (place order r) (node_of g r)) (sym by) q)
 
+    -- the new tree of free slots agrees with what all items sent by then leave
     free_has_value : (o : IsFreeOnce g order rows s t p k old) → IsQueuedFor g order (place order p) (node_of g p) →
         HasValueFrom s (flat_map (queued g order rows s) (sent_so_far g order p (k + 1))) (free_then o) added.freed
     free_has_value o q = has_value_after g order topological s p l k inside rows (free_then o) added.freed
@@ -204,6 +217,7 @@ module _ (g : Graph) (limits : IsWithinLimits g) (order : List ℕ) (topological
         (free_of g old (home g here)) added.freed (get_or t.times here None) o.time
         (frees_here q) sends_valued (waits o))
 
+    -- the slots are free by the new item if it goes, and else as before
     most_then : (o : IsFreeOnce g order rows s t p k old) (b : Bool) → item_active g s.values (item_at g here) ≡ b →
         IsMost (IsSentBy g order s p (k + 1)) (free_after g t)
         (if b then time_later (round g) (get_or t.times here None) else o.time)
@@ -212,6 +226,7 @@ module _ (g : Graph) (limits : IsWithinLimits g) (order : List ℕ) (topological
         (free_next g order topological s p l k inside frozen t run o.time o.is on)
     most_then o false off = free_same g order topological s p l k inside t o.time off o.is
 
+    -- with the item the tree still says when the slots are free
     pub free_once : IsQueuedFor g order (place order p) (node_of g p) → IsFreeOnce g order rows s t p (k + 1) new
     free_once q = record {
       time = free_then (once q);

@@ -16,7 +16,7 @@ use Rattle.cpg_expand.specs.Waited.{IsQueuedFor}
 use Rattle.cpg_expand.specs.Waiting.{free_of}
 use Rattle.cpg_expand.proofs.FrozenFound.{set_count}
 
--- slots by what is read
+-- a tree of slots that is found for some share and trees is one for equal ones
 pub slots_read : (k m : ℕ) (share here : ShareState) (goes : TreeState Bool) (end of_end : TreeState (Option ℕ))
     (free of_free : TreeState ℕ) (t : TreeState (Option ℕ)) → k ≡ m → share ≡ here →
     end ≡ of_end → free ≡ of_free → IsSentTree k share goes end free t → IsSentTree m here goes of_end of_free t
@@ -25,6 +25,7 @@ slots_read k m share here goes end of_end free of_free t e f i j is =
     (subst (λ h. IsSentTree k h goes of_end of_free t) f
     (subst (λ u. IsSentTree k share goes u of_free t) i (subst (λ u. IsSentTree k share goes end u t) j is)))
 
+-- a latest time that is found for some share and end is one for equal ones
 pub latest_read : (g : Graph) (order : List ℕ) (f : ForestState) (share here : ShareState) (goes : TreeState Bool)
     (end of_end : TreeState (Option ℕ)) (x : ℕ) (latest : Option ℕ) → share ≡ here →
     end ≡ of_end → IsLatestSend g order f share goes end x latest → IsLatestSend g order f here goes of_end x latest
@@ -32,6 +33,7 @@ latest_read g order f share here goes end of_end x latest e i is =
     subst (λ h. IsLatestSend g order f h goes of_end x latest) e
     (subst (λ u. IsLatestSend g order f share goes u x latest) i is)
 
+-- a tree of free slots that is found for some round and trees is one for equal ones
 pub free_then_read : (k m turn here : ℕ) (goes : TreeState Bool) (sent : TreeState (Option ℕ))
     (free of_free t : TreeState ℕ) → k ≡ m → turn ≡ here →
     free ≡ of_free →
@@ -39,13 +41,14 @@ pub free_then_read : (k m turn here : ℕ) (goes : TreeState Bool) (sent : TreeS
 free_then_read k m turn here goes sent free of_free t e f j is = subst (λ n. IsFreeTree n here goes sent of_free t) e
     (subst (λ h. IsFreeTree k h goes sent of_free t) f (subst (λ u. IsFreeTree k turn goes sent u t) j is))
 
--- what is frozen has its place set, and no other
+-- there are as many frozen times after the send as before it
 pub sent_count : (g : Graph) (order : List ℕ) (goes : TreeState Bool) (x : ℕ) (f : ForestState)
     (before after : List (Option ℕ)) (t : TreeState (Option ℕ)) →
     IsSentFor g order goes x f before after t → length after ≡ length before
 sent_count g order goes x f before after t (inl th) = ap length th.1
 sent_count g order goes x f before after t (inr fz) = ap length fz.1.frozen.set ∙ set_count before x fz.1.latest
 
+-- the trees of an item that is sent and of its node's free slots, put in their places, add the item
 pub item_added : (g : Graph) (order : List ℕ) (chooser : TreeState Bool) (x at : ℕ) → at ≡ home g x →
     (old new : ForestState) (before after : List (Option ℕ)) (goes : TreeState Bool) →
     IsTree g goes → IsGoesTree g x chooser goes →
@@ -82,6 +85,7 @@ item_added g order chooser x at there old new before after goes goes_tree goes_w
 -- ---- one after another
 
 module _ (g : Graph) (order : List ℕ) (chooser : TreeState Bool) where
+  -- no item is added to the trees as they stand
   pub none_added : (f : ForestState) (frozen : List (Option ℕ)) → AreItemsAdded g order chooser [] f f frozen frozen
   none_added f frozen = (refl, refl)
 
@@ -99,6 +103,7 @@ module _ (g : Graph) (order : List ℕ) (chooser : TreeState Bool) where
   one_more (y ∷ ys) x old mid new before between after first last =
       (first.0, first.1, first.2, one_more ys x first.0 mid new first.1 between after first.3 last)
 
+  -- one item more is added after the first k
   pub next_added : (xs : List ℕ) (k : ℕ) → k < length xs →
       (old mid new : ForestState) (before between after : List (Option ℕ)) →
       AreItemsAdded g order chooser (take k xs) old mid before between →

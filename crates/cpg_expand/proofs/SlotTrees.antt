@@ -28,11 +28,18 @@ wide_through k x y a b z of_a of_b of_z = record {
   high = λ v. omega (arith, of_a.high v, of_b.high v, of_z.high v);
 }
 
+-- given: the slot asked for, the later of it and when slots are free, and that where there is an end
+-- `share`: the node's share of the bus; `end`, `free`: when the item is there, and when the slots are free
+-- `asked`, `both`, `r`: the slot asked for, the later of it and `free`, and that where there is an end; `each_asked`
+-- and
+-- `each_both` say that these have one path each; `first`, `second`, `third`: how each tree is made of those before
 module _ (share : ShareState) (end : TreeState (Option ℕ)) (free asked both : TreeState ℕ)
     (each_asked : HasOnePathEach asked.faults asked.paths) (each_both : HasOnePathEach both.faults both.paths)
     (r : TreeState (Option ℕ))
     (first : IsMap (λ x z. z ≡ slot_at share x) end asked) (second : IsJoin (λ x y z. z ≡ max x y) asked free both)
     (third : IsJoin (λ x y z. z ≡ slot_if y x) end both r) where
+  -- given: one scenario, and its paths in the trees
+  -- `s`, `few`: the scenario; `x`, `y`, `z`, `on_x`, `on_y`, `on_z`: its paths in `end`, in `free` and in `r`
   module _ (s : Scenario) (few : HasAtMostFaults end.faults s) (x : Path (Option ℕ)) (on_x : IsOnPath end.paths s x)
       (y : Path ℕ) (on_y : IsOnPath free.paths s y) (z : Path (Option ℕ))
       (on_z : IsOnPath r.paths s z) where
@@ -64,6 +71,7 @@ module _ (share : ShareState) (end : TreeState (Option ℕ)) (free asked both : 
         (second.ranges s a.0 y b.0 few_asked a.1 on_y b.1))
         (third.ranges s x b.0 z few on_x b.1 on_z)
 
+  -- the three steps together are the first free slots
   pub slots_joined : IsJoin (λ x y z. z ≡ slot_from share y x) end free r
   slots_joined = record {
     faults = third.faults;

@@ -1,4 +1,4 @@
--- a start in one scenario with its run, by the values of the trees.
+-- A start in one scenario with its run, by the values of the trees.
 use Rattle.std.proofs.Common.{ℕ, ◌+◌, ◌<◌, ◌≤◌, ◌≡◌, ◌⊎◌, ◌==◌, Bool, true, false, if◌then◌else◌, List, [], ◌∷◌, ◌++◌}
 use Rattle.std.proofs.Common.{length, flat_map, get_or, Option, Some, None, unwrap_or, option_map, Contains}
 use Rattle.std.proofs.Common.{arith, refl, sym, ap, ◌∙◌, subst, inl, inr}
@@ -68,7 +68,7 @@ heard_each g f has node c low = by (node_of g (process_of g c) == node)
     by true = (ends_tree g f has (process_of g c) (process_of_below g c low)).each
     by false = (times_tree g f has (broadcast_item g c) within).each
 
--- a guard that is always active comes to being active
+-- a guard that is always active leads to an active leaf
 always_acts : (guard : Guard) (o : List Bool) → is_always guard ≡ true → is_active (outcome_at guard o) ≡ true
 always_acts (Leaf a) o e = e
 always_acts (Test c off on) o e =
@@ -80,6 +80,13 @@ always_acts (Test c off on) o e =
     by true high low = high
     by false high low = low
 
+-- given: one scenario with its run, and trees that give its lines before the place of a process
+-- `urgency`, `is_urgency`, `urgent`: the urgency order; `s`, `law`, `frozen`, `t`, `run`, `small`: a scenario and its
+-- run
+-- `f`, `has`, `valued`, `lines`: trees that give the times and literals of that run, for the processes before p's
+-- place
+-- `p`, `l`, `nodes`: a process; `guards`, `are`: the guards of the graph; `chooser`, `actives`: where p is active
+-- `from`, `cut`: the place from which on the processes before p on its node have to be looked at
 module _ (g : Graph) (limits : IsWithinLimits g) (order : List ℕ) (topological : IsTopological g order)
     (joins : HasSingleJoins g) (urgency : List ℕ) (is_urgency : IsUrgencyOrder g urgency)
     (urgent : IsTopological g urgency)
@@ -179,7 +186,7 @@ module _ (g : Graph) (limits : IsWithinLimits g) (order : List ℕ) (topological
     item_is acts m = (and_parts (is_message g e) (live g s.values e)
         (subst (λ x. item_active g s.values x ≡ true) (item_at-message g e parts.0) acts)).1
 
-    -- an input from another node
+    -- given: an input from another node
     module _ (m : is_message g e ≡ true) where
       acts : live g s.values e ≡ true → item_active g s.values (item_at g (message_item g e)) ≡ true
       acts lives = subst (λ x. item_active g s.values x ≡ true) (sym (item_at-message g e parts.0))
@@ -212,7 +219,7 @@ module _ (g : Graph) (limits : IsWithinLimits g) (order : List ℕ) (topological
           else ends_of g f (source g e)).paths s x.0) (sym m) x.1 in
           (x.0, on, its_value x.0 on)
 
-    -- an input of the node itself
+    -- given: a live input of the node itself
     module _ (own : is_message g e ≡ false) (lives : live g s.values e ≡ true) where
       untrue : true ≡ false → ⊥
       untrue i = cc
@@ -262,7 +269,7 @@ module _ (g : Graph) (limits : IsWithinLimits g) (order : List ℕ) (topological
     line_of = heard_valued g limits order topological joins urgency is_urgency urgent rows s law.values few t small f q
         k nodes (valued_there q k no_later) (tree_of guards q) (are q k) c j
 
-    -- it has been heard
+    -- the node has heard the condition
     when_heard : (time : ℕ) × (heard_time g limits t small (node_of g q) c ≡ Some time)
     when_heard = by (node_of g (process_of g c) == node_of g q) refl
       where
@@ -297,7 +304,9 @@ module _ (g : Graph) (limits : IsWithinLimits g) (order : List ℕ) (topological
     heard_value time h = sym (heard_exact g limits t small (node_of g q) c)
         ∙ ap (time_later (heard_delay g (node_of g q) c)) (sym (line_of.value h.0 h.1) ∙ h.2)
 
-  -- what decides one of them has been heard
+  -- given: a condition that decides a process of the node at the place or before it
+  -- `q`, `k`, `there`, `no_later`: a process on p's node at p's place or before it; `c`, `low`, `d`: a condition that
+  -- decides q
   module _ (q : ℕ) (k : q < process_count g) (there : node_of g q ≡ node_of g p)
       (no_later : place order q ≤ place order p) (c : ℕ) (low : c < condition_count g)
       (d : decides g s.values q c ≡ true) where
@@ -305,6 +314,8 @@ module _ (g : Graph) (limits : IsWithinLimits g) (order : List ℕ) (topological
     Heard node = (time : ℕ) × HasValueAt (heard_tree g f node c).paths (Some time) s ×
         (heard_there g t node c ≡ time_later (heard_delay g node c) (Some time))
 
+    -- a condition that decides a process from the cut on is tested by its guard, and heard on p's node by the time of
+    -- its tree
     heard_at : from ≤ place order q → IsHeardAt g order guards f from p s t c
     heard_at after =
         let j = on_its_way q k no_later c low d in
@@ -403,6 +414,7 @@ module _ (g : Graph) (limits : IsWithinLimits g) (order : List ℕ) (topological
             (acts_end q b.within b.sooner time is),
       )
 
+  -- the trees say of the start in this run all that it waits for
   pub start_is_valued : IsStartByTrees g order guards f chooser from p s t
   start_is_valued = record {
     acts = λ x on. (actives s few).value x on ∙ ap is_active ((are p l).is s.values law.values);

@@ -79,6 +79,12 @@ frame_sent g s p l nodes c low acts e = subst (λ x. item_active g s.values x �
     apart : true ≡ false → ⊥
     apart e = cc
 
+-- given: one scenario with its times, trees that give these before the place of a process, and the guard of the
+-- process
+-- `urgency`, `is_urgency`, `urgent`: the urgency order; `s`, `long`, `few`, `t`, `small`: a scenario and its small
+-- times
+-- `f`, `valued`: trees that give these times for the processes before p's place
+-- `p`, `l`, `nodes`: a process, on a node of the graph; `guard`, `is_guard`: its guard
 module _ (g : Graph) (limits : IsWithinLimits g) (order : List ℕ) (topological : IsTopological g order)
     (joins : HasSingleJoins g) (urgency : List ℕ) (is_urgency : IsUrgencyOrder g urgency)
     (urgent : IsTopological g urgency)
@@ -95,7 +101,7 @@ module _ (g : Graph) (limits : IsWithinLimits g) (order : List ℕ) (topological
       Contains-filter (decides g s.values p) _ c r.1
       (Contains-numbers (condition_count g) c (from_along g urgency c r.0).0)
 
-  -- what tells when the node hears one of them
+  -- the tree of when the node hears one of them gives the run's time
   pub heard_valued : (c : ℕ) → Contains (way guard s.values) c →
       HasValueFrom s (heard_support g order topological rows s (node_of g p) c)
       (heard_time g limits t small (node_of g p) c)
@@ -128,7 +134,7 @@ module _ (g : Graph) (limits : IsWithinLimits g) (order : List ℕ) (topological
       by false e = let r = hears_earlier g order topological s p c decides_it in
           valued.sends (broadcast_item g c) r.0 (omega arith) r.1 (sent_at e)
 
-  -- what tells when a live input is there
+  -- the tree of when a live input is there gives the run's time
   input_valued : (e : ℕ) → Contains (inputs g p) e → live g s.values e ≡ true →
       HasValueFrom s (input_support g order topological rows s e) (input_time g limits t small e) (input_tree g f e)
   input_valued e j on = by (is_message g e) refl
@@ -150,6 +156,7 @@ module _ (g : Graph) (limits : IsWithinLimits g) (order : List ℕ) (topological
           (and_from (is_message g e) (live g s.values e) m on))
       by false m = valued.ends (source g e) (source_in_order g order topological e parts.0) earlier (and_parts _ _ on).0
 
+  -- given: the tree of what the process waits for on its node, and when that node is ready
   module _ (wait : TreeState ℕ) (waits : IsWaitTree g f (node_of g p) guard wait) (r : ℕ)
       (is_ready : IsReady g order s t (place order p) (node_of g p) r)
       (ready : HasValueFrom s (flat_map (passed g rows s) (before_on_node g order p)) r
@@ -160,7 +167,7 @@ module _ (g : Graph) (limits : IsWithinLimits g) (order : List ℕ) (topological
     abbrev wait_says : List Literal
     wait_says = flat_map (passed g rows s) (before_on_node g order p) ++ decided g s p ++ heard g rows s p
 
-    -- the line of the time for which a process waits on its node
+    -- the tree of how long the process waits on its node agrees with what is carried there
     pub wait_line : HasValueFrom s wait_says waited wait
     wait_line = agrees_weaker s wait (flat_map (passed g rows s) (before_on_node g order p)
         ++ support_of s (heard_support g order topological rows s (node_of g p)) (way guard s.values)) wait_says
@@ -184,6 +191,7 @@ module _ (g : Graph) (limits : IsWithinLimits g) (order : List ℕ) (topological
                   tests_carried g order topological rows s urgency is_urgency urgent p (way guard s.values) on_way x i
             ]
 
+    -- the leaf that the guard comes to is the process's activation
     pub leads : outcome_at guard s.values ≡ activation g s.values p
     leads = is_guard.is s.values long
 
@@ -228,7 +236,7 @@ module _ (g : Graph) (limits : IsWithinLimits g) (order : List ℕ) (topological
         same_node (inl same) = same
         same_node (inr sends) = absurd (untrue (sym sends ∙ own))
 
-    -- the line of a start that isn't frozen
+    -- the tree of a start that is not frozen agrees with what is carried at the start
     pub start_line : (start : TreeState (Option ℕ)) →
         IsStartTree g f wait (process_at g p).release (inputs g p) guard start →
         (process_at g p).frozen ≡ false →

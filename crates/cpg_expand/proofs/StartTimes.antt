@@ -1,4 +1,4 @@
--- The times that the trees behind a start tell are those of the run.
+-- The times that the trees behind a start give are those of the run.
 use Rattle.std.proofs.Common.{ℕ, ◌+◌, ◌^◌, ◌<◌, ◌≤◌, ◌≡◌, ◌==◌, max, Bool, true, false, if◌then◌else◌, List, [], ◌∷◌}
 use Rattle.std.proofs.Common.{length, map, filter, get_or, Option, Some, None, unwrap_or, arith, refl, sym, ap}
 use Rattle.std.proofs.Common.{ap₂, ◌∙◌, subst}
@@ -25,6 +25,7 @@ use Rattle.cpg_expand.specs.Guarded.{awaited, latest_of, start_at}
 
 -- ---- a delay after a time
 
+-- a time of a run has room for a delay, so nothing is cut off
 pub later_exact : (x : Option ℕ) (delay : ℕ) → unwrap_or x 0 < 2 ^ 59 → delay ≤ 16000000000 →
     time_later delay x ≡ unwrap_or x 0 + delay
 later_exact x delay h k = omega (arith, h, k)
@@ -33,10 +34,11 @@ module _ (g : Graph) (limits : IsWithinLimits g) (t : Times) (small : AreSmall t
   slot_short : (node : ℕ) → slot_length g node ≤ 16000000000
   slot_short node = omega (arith, slot_length-le g node, round-le g limits)
 
-  -- what tells when an input is there
+  -- the time from which an input is there, before its delay
   abbrev pub input_time : ℕ → Option ℕ
   input_time e = if is_message g e then get_or t.times (message_item g e) None else get_or t.ends (source g e) None
 
+  -- the time at which an input is there, by its frame or by its source's end, is the run's
   pub input_exact : (e : ℕ) → time_later (input_delay g e) (input_time e) ≡ input_there g t e
   input_exact e = go (is_message g e)
     where
@@ -48,11 +50,12 @@ module _ (g : Graph) (limits : IsWithinLimits g) (t : Times) (small : AreSmall t
           (small.times (message_item g e)) (slot_short (home g (message_item g e)))
       go false = later_exact (get_or t.ends (source g e) None) 0 (small.ends (source g e)) (omega arith) ∙ omega arith
 
-  -- what tells when a node hears a condition
+  -- the time at which a node hears a condition, before its delay
   abbrev pub heard_time : ℕ → ℕ → Option ℕ
   heard_time node c = if node_of g (process_of g c) == node then get_or t.ends (process_of g c) None
       else get_or t.times (broadcast_item g c) None
 
+  -- the time at which a node hears a condition is the run's
   pub heard_exact : (node c : ℕ) → time_later (heard_delay g node c) (heard_time node c) ≡ heard_there g t node c
   heard_exact node c = go (node_of g (process_of g c) == node)
     where
@@ -65,7 +68,7 @@ module _ (g : Graph) (limits : IsWithinLimits g) (t : Times) (small : AreSmall t
       go false = later_exact (get_or t.times (broadcast_item g c) None) (slot_length g (home g (broadcast_item g c)))
           (small.times (broadcast_item g c)) (slot_short (home g (broadcast_item g c)))
 
-  -- the latest of these
+  -- the latest of the inputs is there at the run's time
   pub latest_inputs : (es : List ℕ) → latest_of (input_delay g) input_time es ≡ greatest (map (input_there g t) es)
   latest_inputs es =
       ap greatest (same_map (λ e. time_later (input_delay g e) (input_time e)) (input_there g t) es input_exact)
@@ -74,6 +77,7 @@ module _ (g : Graph) (limits : IsWithinLimits g) (t : Times) (small : AreSmall t
       same_map f h [] e = refl
       same_map f h (x ∷ xs) e = ap₂ (λ y ys. y ∷ ys) (e x) (same_map f h xs e)
 
+  -- the time at which it has heard all of a list is the run's
   pub latest_heard : (node : ℕ) (cs : List ℕ) →
       latest_of (heard_delay g node) (heard_time node) cs ≡ greatest (map (heard_there g t node) cs)
   latest_heard node cs = ap greatest (same_map (λ c. time_later (heard_delay g node c) (heard_time node c))
@@ -104,6 +108,7 @@ awaited_all : (is_live : ℕ → Bool) (xs : List ℕ) (b : Bool) → list_all i
 awaited_all is_live xs true e on = sym (all_kept is_live xs e)
 awaited_all is_live xs false e on = absurd (untrue on)
 
+-- an active activation awaits those of the inputs that are live
 pub awaited_is : (join : Bool) (xs : List ℕ) (is_live : ℕ → Bool) → (join ≡ true → length (filter is_live xs) ≤ 1) →
     is_active (activation_by join xs is_live) ≡ true →
     awaited xs (activation_by join xs is_live) ≡ filter is_live xs
@@ -112,9 +117,12 @@ awaited_is false [] is_live h on = refl
 awaited_is true (e ∷ es) is_live h on = awaited_first (e ∷ es) (filter is_live (e ∷ es)) (h refl) on
 awaited_is false (e ∷ es) is_live h on = awaited_all is_live (e ∷ es) (list_all is_live (e ∷ es)) refl on
 
+-- given: a process of a graph, and small times of one scenario
+-- `joins`: at most one input of a join is live; `s`, `long`, `t`, `small`: a scenario and its times
 module _ (g : Graph) (limits : IsWithinLimits g) (order : List ℕ) (topological : IsTopological g order)
     (joins : HasSingleJoins g) (s : Scenario) (long : length s.values ≡ condition_count g)
     (t : Times) (small : AreSmall t) (p : ℕ) (l : p < process_count g) where
+  -- an active process of the graph awaits those of its inputs that are live
   pub awaits_live : active g s.values p ≡ true →
       awaited (inputs g p) (activation g s.values p) ≡ filter (live g s.values) (inputs g p)
   awaits_live on =
@@ -122,7 +130,7 @@ module _ (g : Graph) (limits : IsWithinLimits g) (order : List ℕ) (topological
       ap (awaited (inputs g p)) is ∙ awaited_is (process_at g p).join (inputs g p) (live g s.values)
       (λ e. joins p s.values l e long) (subst (λ (a : Activation). is_active a ≡ true) is on)
 
-  -- the start that the trees tell, if the node would be ready at a time
+  -- the start that the trees give, if the node would be ready at a time
   pub start_exact : (w : ℕ) →
       start_at w (process_at g p).release (input_delay g) (input_time g limits t small) (inputs g p)
       (activation g s.values p)

@@ -66,6 +66,9 @@ by_test : (b : Bool) (n m : ℕ) (o : Option ℕ) → o ≡ (if b then Some n el
 by_test true n m o is e = ap (λ k. Some k) (e refl ∙ ap (λ p. unwrap_or p 0) is) ∙ sym is
 by_test false n m o is e = sym is
 
+-- given: one scenario with its run, the guard of a process, and when its node is ready
+-- `urgency`, `is_urgency`, `urgent`: the urgency order; `frozen`, `s`, `long`, `t`, `run`: a scenario and its run
+-- `p`, `l`, `guard`, `is_guard`: a process and its guard; `r`, `ready`: from when on its node is ready for it
 module _ (g : Graph) (order : List ℕ) (topological : IsTopological g order) (urgency : List ℕ)
     (is_urgency : IsUrgencyOrder g urgency) (urgent : IsTopological g urgency) (frozen : List (Option ℕ))
     (s : Scenario) (long : length s.values ≡ condition_count g) (t : Times) (run : IsRun g order frozen s t) (p : ℕ)
@@ -78,7 +81,7 @@ module _ (g : Graph) (order : List ℕ) (topological : IsTopological g order) (u
   unfolding known
   knows = settled_knows g order t (place order p)
 
-  -- when the node has heard all that decides the process
+  -- the latest of the tests on the guard's way to be heard is the latest of all that decides the process
   pub most : IsMost (λ c. (c < condition_count g) × (decides g s.values p c ≡ true)) (heard_there g t (node_of g p))
       (greatest (map (heard_there g t (node_of g p)) (way guard s.values)))
   most = most_deciding (heard_there g t (node_of g p)) g urgency urgent s.values p
@@ -126,7 +129,7 @@ module _ (g : Graph) (order : List ℕ) (topological : IsTopological g order) (u
       let ends = end_active g order frozen s t run p l on in
       omega (arith, found, ends)
 
-  -- the start that the trees tell is the run's
+  -- the start that the trees give is the run's
   pub start_value : get_or frozen p None ≡ None →
       (if active g s.values p then Some (max (max waited (process_at g p).release) (greatest (input_bounds g s t p)))
       else None) ≡ get_or t.times p None
@@ -148,13 +151,16 @@ ended_by : (ds : List ℕ) (n d : ℕ) (o : Option ℕ) → get_or ds n 0 ≡ d 
 ended_by ds n d None e h k = refl
 ended_by ds n d (Some start) e h k = ap (λ m. Some m) (omega (arith, e, h, k))
 
+-- given: one scenario with its run, and a process that has no more faults than the graph allows
+-- `frozen`, `s`, `law`, `t`, `run`, `small`: a scenario and its run with small times
+-- `p`, `l`, `few`: a process that has no more faults there than the graph allows
 module _ (g : Graph) (limits : IsWithinLimits g) (order : List ℕ) (frozen : List (Option ℕ)) (s : Scenario)
     (law : IsScenario g s) (t : Times) (run : IsRun g order frozen s t) (small : AreSmall t)
     (p : ℕ) (l : p < process_count g) (few : fault_of s p ≤ g.faults) where
   count_is : number_of s p ≡ fault_of s p
   count_is = cond-true _ (fault_of s p) _ (lt-ltb p 128 (let m = limits.few_processes in omega arith))
 
-  -- the end that the trees tell is the run's
+  -- the end that the trees give is the run's
   pub end_value : ended (durations_of g p) (number_of s p) (get_or t.times p None) ≡ get_or t.ends p None
   end_value = ap (λ n. ended (durations_of g p) n (get_or t.times p None)) count_is
       ∙ ended_by (durations_of g p) (fault_of s p) (duration g p (fault_of s p)) (get_or t.times p None)
@@ -162,7 +168,7 @@ module _ (g : Graph) (limits : IsWithinLimits g) (order : List ℕ) (frozen : Li
       (duration_short g limits p (fault_of s p) l few) (small.times p)
       ∙ sym (ap (λ es. get_or es p None) run.ends ∙ get_or-map-below (end_by g s t) (process_count g) p None l)
 
-  -- the line of an end
+  -- the tree of the end agrees with what is carried at the end
   pub end_line : (rows : List (List Column)) (start end : TreeState (Option ℕ)) → HasAtMostFaults g.faults s →
       IsEndTree g p start end →
       HasValueFrom s (carried_at_start g order rows s p) (get_or t.times p None) start →

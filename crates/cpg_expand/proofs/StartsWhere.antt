@@ -27,6 +27,10 @@ use Rattle.cpg_expand.proofs.GuardTrees.{support_as_first}
 
 -- ---- the later of two where a chooser is true
 
+-- given: a tree that is made of the greater number of two where a chooser is true, and one scenario
+-- `number`, `other_number`: how the two trees are read as numbers; `makes`, `none`: what is made of the greater one
+-- where the chooser is true, and what stands elsewhere; `of_chooser`, `of_a`, `of_b`: the trees are of the graph
+-- `made`: t is that tree; `s`, `few`, `given`: a scenario, and literals
 module _ {T U V : Type 0} (g : Graph) (number : T → ℕ) (other_number : U → ℕ) (makes : ℕ → V) (none : V)
     (chooser : TreeState Bool) (a : TreeState T) (b : TreeState U) (t : TreeState V)
     (of_chooser : IsTree g chooser) (of_a : IsTree g a) (of_b : IsTree g b)
@@ -45,7 +49,7 @@ module _ {T U V : Type 0} (g : Graph) (number : T → ℕ) (other_number : U →
       (each_of g chooser.faults a of_chooser.faults of_a) (each_of g chooser.faults b of_chooser.faults of_b)
       made (λ v w z d e i. i ∙ ap₂ (λ m n. makes (max m n)) d e) on has_value other
 
-  -- what the second tells stands first
+  -- the same, with the literals of the second tree first
   made_where_turned : (first second : List Literal) (x y : ℕ) → HasValueFrom s given true chooser →
       Agrees s first (λ v. number v ≡ x) a →
       Agrees s second (λ w. other_number w ≡ y) b →
@@ -67,7 +71,9 @@ module _ {T U V : Type 0} (g : Graph) (number : T → ℕ) (other_number : U →
       (few_of g.faults chooser.faults s of_chooser.faults few)
       (each_of g chooser.faults chooser of_chooser.faults of_chooser) made off
 
--- the value of a tree that is read of a forest
+-- given: a tree that is read from a forest, the delay that is added to its times, and a chooser
+-- `release`, `delay`, `d`, `same_delay`: the release, and the delay with its other name
+-- `times`, `read`, `is`, `of_times`: the tree with its other name; `chooser`, `of_chooser`: the chooser
 module _ (g : Graph) (release delay d : ℕ) (same_delay : delay ≡ d) (times read : TreeState (Option ℕ))
     (is : times ≡ read) (of_times : IsTree g times) (chooser : TreeState Bool)
     (of_chooser : IsTree g chooser) where
@@ -87,7 +93,8 @@ module _ (g : Graph) (release delay d : ℕ) (same_delay : delay ≡ d) (times r
         (time_later delay) start_of None chooser wait times t of_chooser of_wait of_times made s few given off;
   }
 
-  -- the value of a tree that is read of a forest and of ends
+  -- what is made of a tree that is read from a forest and of ends is the later of the two and the release, where the
+  -- chooser is true
   pub ends_where : (end read_end t : TreeState (Option ℕ)) → end ≡ read_end → IsTree g end →
       IsJoinWhere (λ x y z. z ≡ Some (max (max (time_later delay x) (time_later 0 y)) release)) None
       chooser times end t →
@@ -103,7 +110,7 @@ module _ (g : Graph) (release delay d : ℕ) (same_delay : delay ≡ d) (times r
         (time_later 0) start_of None chooser times end t of_chooser of_times of_end made s few given off;
   }
 
--- a frame that brings an input
+-- an input from another node is there by the end of its frame
 pub input_where : (g : Graph) (f : ForestState) (e release : ℕ) (chooser : TreeState Bool) (wait : TreeState ℕ)
     (t : TreeState (Option ℕ)) →
     is_message g e ≡ true →
@@ -117,9 +124,11 @@ input_where g f e release chooser wait t message starts =
 
 -- ---- starts after inputs
 
+-- given: a chooser, a wait, and a tree of starts
+-- `f`: the forest; `chooser`: where the process is active; `wait`: what it waits for; `t`, `release`: its starts
 module _ (g : Graph) (f : ForestState) (chooser : TreeState Bool) (wait : TreeState ℕ) (t : TreeState (Option ℕ))
     (release : ℕ) where
-  -- none
+  -- if no inputs are left, the starts are picked where the chooser is true
   pub picked_where : (start never : TreeState (Option ℕ)) → IsTree g chooser → IsTree g start → IsTree g never →
       IsStartAfter g f wait release [] start →
       IsConstant None g.faults never →
@@ -146,7 +155,7 @@ module _ (g : Graph) (f : ForestState) (chooser : TreeState Bool) (wait : TreeSt
           (each_of g chooser.faults start of_chooser.faults of_start)
           (each_of g chooser.faults never of_chooser.faults of_never) made of_c of_picked
 
-  -- one that the node sends itself
+  -- an input from the node itself is there once the node is ready, so the starts without it are those with it
   pub own_where : (e : ℕ) (es : List ℕ) → is_message g e ≡ false → IsStartWhere g f chooser wait release es t →
       IsStartWhere g f chooser wait release (e ∷ es) t
   own_where e es own starts = record {
@@ -154,7 +163,7 @@ module _ (g : Graph) (f : ForestState) (chooser : TreeState Bool) (wait : TreeSt
     off = starts.off;
   }
 
-  -- one that another node sends
+  -- for an input from another node, the starts after the later of it and the wait are those with it
   pub one_where : (there both : TreeState ℕ) (e : ℕ) (es : List ℕ) →
       IsLaterTree g.faults (input_delay g e) (input_tree g f e) there →
       IsLatest g.faults wait there both →
@@ -166,7 +175,8 @@ module _ (g : Graph) (f : ForestState) (chooser : TreeState Bool) (wait : TreeSt
         off = starts.off;
       }
 
-  -- the last that another node sends
+  -- if only inputs from the node itself are left, the starts after the wait and the last other input are those with
+  -- all
   pub last_where : (e : ℕ) (es : List ℕ) → All (λ d. is_message g d ≡ false) es →
       IsReleasedWhere g.faults chooser wait (later_by (input_delay g e) (input_tree g f e)) release t →
       IsStartWhere g f chooser wait release (e ∷ es) t
@@ -188,6 +198,7 @@ outcome_waits (Test c off on) o all = by (get_or o c false) (outcome_waits off o
     by true low high = high
     by false low high = low
 
+-- if each leaf waits for all inputs, the starts made where the guard is active are those of the guard
 pub active_starts : (g : Graph) (f : ForestState) (chooser : TreeState Bool) (wait : TreeState ℕ) (release : ℕ)
     (inputs : List ℕ) (guard : Guard) (t : TreeState (Option ℕ)) →
     AreLeaves WaitsForAll guard → IsActiveTree g.faults guard chooser →

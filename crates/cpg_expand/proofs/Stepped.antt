@@ -35,7 +35,7 @@ stepped g urgency guards a order p l old mid new before between after chooser be
     between after sending added)
 
 module _ (g : Graph) (order : List ℕ) (topological : IsTopological g order) where
-  -- the process at a place is gone over
+  -- if the process at a place is gone over, the trees are grown up to the next place
   pub next_grown : IsOrder order → (k p : ℕ) → k < length order → p ≡ get_or order k 0 →
       (old new : ForestState) (before after : List (Option ℕ)) →
       IsGrown g order k before old →
@@ -45,7 +45,7 @@ module _ (g : Graph) (order : List ℕ) (topological : IsTopological g order) wh
       subst (λ n. IsGrown g order (n + 1) after new) stands
       (by topological (subst (λ n. IsGrown g order n before old) (sym stands) grown))
 
-  -- all are gone over
+  -- once all processes are gone over, the trees are grown along the whole order
   pub all_grown : (k : ℕ) → k ≡ length order → (frozen : List (Option ℕ)) (f : ForestState) →
       IsGrown g order k frozen f →
       IsGrown g order (process_count g) frozen f

@@ -11,11 +11,12 @@ use Rattle.cpg_expand.specs.Agreeing.{HasValueFrom}
 use Rattle.cpg_expand.specs.Guarded.{IsTestedOn, PicksByValue, is_tested, values_known}
 use Rattle.cpg_expand.proofs.AgreeingTrees.{agrees_constant, agrees_weaker}
 
+-- a leaf tests no condition
 pub tested_leaf : (k : ℕ) (a : Activation) (c : ℕ) (t : TreeState Bool) → IsConstant false k t →
     IsTestedOn k (Leaf a) c t
 tested_leaf k a c t is s few = agrees_constant s false k t (λ y. y ≡ false) refl is
 
--- if the first test is of the condition, everywhere
+-- if the first test is of the condition, the guard tests it everywhere
 pub tested_first : (k c : ℕ) (off on : Guard) (wanted : ℕ) (t : TreeState Bool) → c ≡ wanted → IsConstant true k t →
     IsTestedOn k (Test c off on) wanted t
 tested_first k c off on wanted t same always s few =
@@ -28,7 +29,7 @@ tested_first k c off on wanted t same always s few =
     found = ap (λ (b : Bool). b || list_any (λ d. d == wanted)
         (if get_or s.values c false then way on s.values else way off s.values)) (eq-eqb c wanted same)
 
--- if it is of another one, as further down
+-- if the first test is of another condition, the guard tests it where the side that is picked does
 pub tested_further : (k c : ℕ) (off on : Guard) (wanted : ℕ) (f y t : TreeState Bool) → (c ≡ wanted → ⊥) →
     IsTestedOn k off wanted f → IsTestedOn k on wanted y →
     PicksByValue k c y f t →
@@ -51,6 +52,7 @@ tested_further k c off on wanted f y t other of_off of_on picks s few = go (get_
 
 -- ---- what is tested is on the way
 
+-- a condition that is tested is on the guard's way, and each one on the way is tested
 pub tested_parts : (guard : Guard) (o : List Bool) (c : ℕ) → is_tested guard o c ≡ true → Contains (way guard o) c
 tested_parts guard o c is =
     let found = list_any_parts (λ d. d == c) (way guard o) is in

@@ -37,7 +37,7 @@ use Rattle.cpg_expand.specs.Agreeing.{Agrees}
 use Rattle.cpg_expand.specs.TreeRows.{AreListedOf, IsTreeOf}
 use Rattle.cpg_tree.proofs.OnePath.{scenario_few, the_path}
 
--- what is listed as it is found
+-- tidy columns that are those of the tree's paths are the columns listed of the tree
 pub listed_all : (g : Graph) (t : TreeState (Option ℕ)) (columns : List Column) → HasOnePathEach g.faults t.paths →
     columns ≡ columns_of_paths t.paths →
     All (IsTidyColumn g) columns →
@@ -78,6 +78,9 @@ no_more (p ∷ ps) s =
     (filter (λ (c : Column). matches c.cube s) (columns_of_paths ps)) in
     omega (arith, split, one_more (matches p.0 s) p.1 p.0 s refl, path_count (matches p.0 s) p ps s refl, no_more ps s)
 
+-- given: the columns listed of a tree
+-- `few`, `urgency`, `all`: the urgency order has each of at most 128 processes; `t`, `columns`, `are`: a tree and its
+-- columns
 module _ (g : Graph) (few : process_count g ≤ 128) (urgency : List ℕ)
     (all : IsPermutation (numbers_below (process_count g)) urgency)
     (t : TreeState (Option ℕ)) (columns : List Column) (are : AreListedOf g t columns) where
@@ -106,7 +109,7 @@ module _ (g : Graph) (few : process_count g ≤ 128) (urgency : List ℕ)
             ));
       })
 
-  -- they can be merged
+  -- the columns can be merged
   pub mergeable : AreMergeable g columns
   mergeable = record {
     cubes = every (λ (c : Column). IsCube g c.cube) columns (λ c j. (tidy_at c j).cube);
@@ -119,7 +122,7 @@ module _ (g : Graph) (few : process_count g ≤ 128) (urgency : List ℕ)
     apart = single;
   }
 
-  -- a column comes of a path
+  -- each column is that of a path
   path_of : (c : Column) → Contains columns c →
       (x : Path (Option ℕ)) × Contains t.paths x × (x.1 ≡ Some c.time) × (x.0 ≡ c.cube)
   path_of c j =
@@ -146,9 +149,14 @@ module _ (g : Graph) (few : process_count g ≤ 128) (urgency : List ℕ)
       (Contains-flat_map (λ (p : Path (Option ℕ)). column_of p.0 p.1) t.paths x column j
       (subst (λ o. Contains (column_of x.0 o) column) (sym e) (Contains-first column [])))
 
+  -- given: rows, and a tree of an item's times that agrees with what is carried beside them
+  -- `order`, `frozen`, `timed`: an order of the admitted graph with its frozen times; `x`, `tree`: an item and its
+  -- tree
+  -- `same_faults`: the tree has the faults of the graph
   module _ (order : List ℕ) (frozen : List (Option ℕ)) (timed : IsTimed g urgency order frozen)
       (rows : List (List Column)) (x : ℕ) (tree : IsTreeOf g order frozen rows x t)
       (same_faults : t.faults ≡ g.faults) where
+    -- in each run the columns that match have the item's time, if it has one, and no other
     pub times : (s : Scenario) (run : Times) → IsScenario g s → IsRun g order frozen s run →
         times_in columns s ≡ option_to_list (get_or run.times x None)
     times s run law ran = by_time (get_or run.times x None) refl
@@ -156,6 +164,7 @@ module _ (g : Graph) (few : process_count g ≤ 128) (urgency : List ℕ)
         agrees : Agrees s (carried g order rows s x) (λ time. time ≡ get_or run.times x None) t
         agrees = tree s run law ran
 
+        -- no time in the run: no column matches; one time: the column of the scenario's path matches, and no other
         by_time : (o : Option ℕ) → get_or run.times x None ≡ o → times_in columns s ≡ option_to_list o
         by_time None e = ap (map (λ (c : Column). c.time))
             (filter_none (λ (c : Column). matches c.cube s) columns (λ c j. false_from_ne_true (matches c.cube s) (λ m.
@@ -175,6 +184,7 @@ module _ (g : Graph) (few : process_count g ≤ 128) (urgency : List ℕ)
             (Contains-filter (λ (c : Column). matches c.cube s) columns (record { time = n; cube = p.0.0 }) p.1.matched
             (column_there p.0 n p.1.stands value)))
 
+    -- the cube of a column that matches says no more than what is carried beside the item's time
     pub columns_carry : (s : Scenario) (c : Column) → IsScenario g s → Contains columns c → matches c.cube s ≡ true →
         ContainsKept g.faults c.cube (carried g order rows s x)
     columns_carry s c law j m =
@@ -185,7 +195,7 @@ module _ (g : Graph) (few : process_count g ≤ 128) (urgency : List ℕ)
         subst (λ (ls : List Literal). ContainsKept g.faults ls (carried g order rows s x)) p.3
         (subst (λ k. ContainsKept k p.0.0 (carried g order rows s x)) same_faults kept)
 
-    -- the row of a send
+    -- if the columns stand by their least scenarios, the row of a send carries what it has to
     pub tree_row_carries : AreByLows (λ (c : Column). c.cube) g urgency columns → row_at rows x ≡ columns →
         IsCarryingRow g urgency order frozen rows x
     tree_row_carries by_lows is = record {
@@ -204,7 +214,7 @@ module _ (g : Graph) (few : process_count g ≤ 128) (urgency : List ℕ)
       ordered = subst (AreOrdered g urgency) (sym is) (are_ordered g few urgency all columns good single by_lows);
     }
 
-    -- the row of a start: its columns, merged
+    -- the merged columns of a start are a row that carries what it has to
     pub merged_row_carries : IsMergeOf g urgency columns (row_at rows x) → IsCarryingRow g urgency order frozen rows x
     merged_row_carries merge = record {
       times = λ s run law ran. merge.times s law ∙ times s run law ran;

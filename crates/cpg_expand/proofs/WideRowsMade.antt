@@ -42,6 +42,8 @@ same_sum f h n same = omega (
   sum_by-le_each h f (numbers_below n) (λ x c. let e = same x (numbers-Contains n x c) in omega (arith, e)),
 )
 
+-- given: rows of the first n items, and one more
+-- `rows`, `n`, `long`: the rows of the first n items; `more`, `row`, `is`: those with one more row
 module _ (g : Graph) (rows more : List Row) (row : Row) (n : ℕ) (long : length rows ≡ n)
     (is : more ≡ rows ++ row ∷ []) where
   row_before : (x : ℕ) → x < n → row_for more x ≡ row_for rows x
@@ -50,6 +52,7 @@ module _ (g : Graph) (rows more : List Row) (row : Row) (n : ℕ) (long : length
   row_last : row_for more n ≡ row
   row_last = ap₂ row_for is (sym long) ∙ get_or-append_seam rows row [] no_row
 
+  -- a row more adds its columns, times the rows that its item has in tables, to the load
   pub load_more : rows_load g more (n + 1) ≡ rows_load g rows n + length row.columns * rows_of_item g (item_at g n)
   load_more = ap (sum_by (row_load g more)) (below_push n) ∙ sum_by_push (row_load g more) (numbers_below n) n
       ∙ ap₂ ◌+◌ (same_sum (row_load g more) (row_load g rows) n
@@ -59,6 +62,7 @@ module _ (g : Graph) (rows more : List Row) (row : Row) (n : ℕ) (long : length
   one_few : length row.columns ≤ MOST_COLUMNS → All (λ (r : Row). length r.columns ≤ MOST_COLUMNS) (row ∷ [])
   one_few h = search rules
 
+  -- if the row is within the limits, the rows with it are still few
   pub few_more : (wide : Option ℕ) (load sum : ℕ) → AreFewIf wide g rows n load → IsLoadIf wide g row n load sum →
       AreFewIf wide g more (n + 1) sum
   few_more None load sum a new = tt
@@ -69,13 +73,13 @@ module _ (g : Graph) (rows more : List Row) (row : Row) (n : ℕ) (long : length
     within = new.within;
   }
 
--- no rows are few
+-- without rows there are no columns
 pub few_first : (wide : Option ℕ) (g : Graph) (rows : List Row) → length rows ≡ 0 → AreFewIf wide g rows 0 0
 few_first None g rows none = tt
 few_first (Some item) g rows none =
     record { few = λ i d l. absurd (omega (arith, l, none)); is = refl; within = omega arith }
 
--- all rows are
+-- if all rows are made, they are few
 pub few_all : (wide : Option ℕ) (g : Graph) (rows : List Row) (n load : ℕ) → n ≡ item_count g →
     AreFewIf wide g rows n load →
     IfSome wide (λ item. DoRowsFit g rows)
@@ -83,7 +87,7 @@ few_all None g rows n load end a = tt
 few_all (Some item) g rows n load end a =
     record { few = a.few; loads = subst (λ m. rows_load g rows m ≤ MOST_LOAD) end (omega (arith, a.is, a.within)) }
 
--- a row more is too many
+-- a fault for too many columns with one row more is one for the rows that are too wide
 pub wide_rows : (g : Graph) (urgency : List ℕ) (times : List (TreeState (Option ℕ))) (rows : List Row) (row : Row)
     (n item load : ℕ) → n < item_count g →
     AreFirstRows g urgency times n rows →
@@ -100,6 +104,7 @@ wide_rows g urgency times rows row n item load l made new few (inr many) = inr (
   many = omega (arith, many, few.is, load_more g rows (rows ++ row ∷ []) row n made.count refl);
 })
 
+-- a fault for a row of too many columns, or for too large a load with it, is one for rows that are too wide
 pub wide_shown : (wide : Option ℕ) (fault : BuildFault) (g : Graph) (urgency : List ℕ)
     (times : List (TreeState (Option ℕ))) (rows : List Row) (row : Row) (n load : ℕ) →
     n < item_count g →
@@ -125,6 +130,9 @@ wide_shown (Some item) OutOfMemory g urgency times rows row n load l made new fe
 
 -- ---- tables of rows
 
+-- given: rows that are found for an order
+-- `order`, `frozen`, `rows`, `found`: the rows found for an order and its frozen times; `limits`, `admitted`: the
+-- graph's
 module _ (g : Graph) (urgency order : List ℕ) (frozen : List (Option ℕ)) (rows : List Row) (limits : IsWithinLimits g)
     (admitted : Admitted g urgency order)
     (found : AreRowsFound g urgency order frozen rows) where
@@ -134,6 +142,7 @@ module _ (g : Graph) (urgency order : List ℕ) (frozen : List (Option ℕ)) (ro
       found_rows_fit g urgency order frozen rows limits admitted found (none_too_wide g order narrow)
   rows_fit (Some item) least few = few
 
+-- tables that are written of rows that fit do fit
 pub tables_fit : (g : Graph) (rows : List Row) (tables : Tables) → length rows ≡ item_count g → DoRowsFit g rows →
     AreTablesWith g rows tables →
     DoTablesFit g tables.nodes

@@ -8,6 +8,7 @@ use Rattle.cpg_tree.specs.Tree.{Path, TreeState, IsOnPath, HasOnePathEach, DoPat
 use Rattle.cpg_tree.specs.Variables.{is_variable}
 use Rattle.cpg_run.specs.Carrying.{ContainsKept}
 
+-- in a scenario the tree's value has a fact, and its path says no more than these literals
 pub record Agrees {T : Type 0} (s : Scenario) (literals : List Literal) (fact : T → Type 0)
     (t : TreeState T) : Type 0 where
   pub value : (x : Path T) → IsOnPath t.paths s x → fact x.1

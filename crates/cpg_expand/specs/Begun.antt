@@ -16,20 +16,25 @@ use Rattle.cpg_expand.specs.Waited.{IsReadyIfWaited}
 use Rattle.cpg_expand.specs.Waiting.{IsWaitTree}
 use Rattle.cpg_expand.specs.declared.forest.Ready.{Ready}
 
--- if it is active, its start and its end, and when its node goes on after it, if a later process waits for that; the
--- start comes about somehow, by where it is active
+-- Where the process is active, its start and its end; and, if a later process waits for that, when its node goes on
+-- after it. `how` says what the start follows from.
 pub record IsBegunBy (how : TreeState Bool → TreeState (Option ℕ) → Type 0) (g : Graph) (order : List ℕ)
     (p : ℕ) (guard : Guard)
     (old new : ForestState) (chooser : TreeState Bool) : Type 0 where
+  -- where the process is active
   pub chooser_tree : IsTree g chooser
   pub actives : IsActiveTree g.faults guard chooser
+  -- its start, which follows as `how` says
   pub start : TreeState (Option ℕ)
   pub starts : how chooser start
+  -- its end
   pub end : TreeState (Option ℕ)
   pub ends : IsEndTree g p start end
+  -- when its node goes on after it, which is made only if a later process waits for that
   pub ready : Ready
   pub ready_after : IsReadyAfter g p ready
   pub readies : IsReadyIfWaited g order old p guard chooser end (goes_on end ready)
+  -- each of these is put in its place; the other trees stay
   pub is : new ≡ record {
     times = slice_set old.times p start;
     ends = slice_set old.ends p end;
@@ -38,17 +43,18 @@ pub record IsBegunBy (how : TreeState Bool → TreeState (Option ℕ) → Type 0
     wide = old.wide;
   }
 
--- by all that it waits for in each scenario
+-- a start that waits for all that the process waits for in each scenario
 pub record IsThawedStart (g : Graph) (p : ℕ) (f : ForestState) (guard : Guard)
     (start : TreeState (Option ℕ)) : Type 0 where
   pub wait : TreeState ℕ
   pub waits : IsWaitTree g f (node_of g p) guard wait
   pub is : IsStartTree g f wait (process_at g p).release (inputs g p) guard start
 
+-- the same, as a way to a start
 abbrev pub thawed_start : Graph → ℕ → ForestState → Guard → TreeState Bool → TreeState (Option ℕ) → Type 0
 thawed_start g p f guard chooser start = IsThawedStart g p f guard start
 
--- at the latest time of all
+-- a frozen start, at the latest time of all scenarios
 pub record IsFrozenStart (g : Graph) (order : List ℕ) (guards : Guards) (p : ℕ) (f : ForestState)
     (before after : List (Option ℕ))
     (chooser : TreeState Bool) (start : TreeState (Option ℕ)) : Type 0 where
@@ -59,6 +65,7 @@ pub record IsFrozenStart (g : Graph) (order : List ℕ) (guards : Guards) (p : �
       (inputs g p) chooser latest
   pub frozen : IsFrozenBy p latest chooser before after start
 
+-- the start of a process: by all that it waits for if it is not frozen, and at the latest time if it is
 abbrev pub any_start : Graph → List ℕ → Guards → ℕ → ForestState → List (Option ℕ) → List (Option ℕ) → TreeState Bool →
     TreeState (Option ℕ) → Type 0
 any_start g order guards p f before after chooser start =
@@ -66,14 +73,17 @@ any_start g order guards p f before after chooser start =
     ((is_frozen g p ≡ true) ×
     IsFrozenStart g order guards p f before after chooser start)
 
+-- a process that is not frozen has begun
 abbrev pub IsBegunThawed : Graph → List ℕ → ℕ → Guard → ForestState → ForestState → TreeState Bool → Type 0
 IsBegunThawed g order p guard old new chooser = IsBegunBy (thawed_start g p old guard) g order p guard old new chooser
 
+-- a frozen process has begun
 abbrev pub IsBegunFrozen : Graph → List ℕ → Guards → ℕ → ForestState → ForestState → List (Option ℕ) → List (Option ℕ) →
     TreeState Bool → Type 0
 IsBegunFrozen g order guards p old new before after chooser =
     IsBegunBy (IsFrozenStart g order guards p old before after) g order p (tree_of guards p) old new chooser
 
+-- a process has begun, frozen or not
 abbrev pub IsBegun : Graph → List ℕ → Guards → ℕ → ForestState → ForestState → List (Option ℕ) → List (Option ℕ) →
     TreeState Bool → Type 0
 IsBegun g order guards p old new before after chooser =

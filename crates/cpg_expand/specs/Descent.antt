@@ -26,7 +26,7 @@ IsAt {T} known i g = (i < length known) × HoldsAt (λ (k : KnownGuard T). k.gua
 abbrev pub AreKept : {T : Type 0} → List (KnownGuard T) → List (KnownGuard T) → Type 0
 AreKept old new = (i : ℕ) (g : Guard) → IsAt old i g → IsAt new i g
 
--- there is what is found
+-- if the tree that is found is in the list, its place is one of the list's
 abbrev pub IsThere : {T : Type 0} → List (KnownGuard T) → Source T → Type 0
 IsThere known (At i) = i < length known
 IsThere known (Alone t) = Unit {0}

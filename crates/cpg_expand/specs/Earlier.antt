@@ -24,12 +24,13 @@ pub record AreAlong (g : Graph) (guards : Guards) (order : List ℕ) : Type 0 wh
   pub conditions : guards.conditions ≡ condition_count g
   pub places : length order ≡ process_count g
 
--- whether a guard comes to being active on each way
+-- whether a guard leads to an active leaf on each way
 abbrev pub is_always : Guard → Bool
 is_always (Leaf a) = is_active a
 is_always (Test c off on) = is_always off && is_always on
 
--- nothing stands before a place, or a process from there on is always active: what stands before waits for that one
+-- nothing stands before a place, or some process from there on is always active, and then what stands before has
+-- ended once that one has
 abbrev pub IsCut : Graph → List ℕ → Guards → ℕ → ℕ → ℕ → Type 0
 IsCut g order guards node to from =
     (from ≡ 0) ⊎ ((z : ℕ) × IsBetween g order node from to z × (is_always (tree_of guards z) ≡ true))
@@ -42,7 +43,7 @@ pub record IsAskedOf (g : Graph) (order : List ℕ) (guards : Guards) (node from
   pub between : IsBetween g order node from to process
   pub tested : is_tested (tree_of guards process) o c ≡ true
 
--- a tree is true exactly where one does
+-- a tree is true exactly where one of these processes tests the condition
 abbrev pub IsAskedTree : Graph → List ℕ → Guards → ℕ → ℕ → ℕ → ℕ → ℕ → TreeState Bool → Type 0
 IsAskedTree g order guards node from to c k t =
     (s : Scenario) → HasAtMostFaults g.faults s → (x : Path Bool) → IsOnPath t.paths s x →

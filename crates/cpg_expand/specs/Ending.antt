@@ -36,6 +36,7 @@ abbrev pub IsReadyAfter : Graph → ℕ → Ready → Type 0
 IsReadyAfter g p (After q) = q ≡ p
 IsReadyAfter g p (At t) = IsTree g t
 
+-- the tree of when a node goes on: the ends, read as times, or a tree of its own
 abbrev pub goes_on : TreeState (Option ℕ) → Ready → TreeState ℕ
 goes_on end (After q) = later_tree end
 goes_on end (At t) = t

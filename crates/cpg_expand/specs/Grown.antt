@@ -1,5 +1,5 @@
--- What is kept along an order: the trees so far tell each run under the frozen times so far, whatever rows hold what
--- they list.
+-- What is kept along an order: the trees so far give each run under the frozen times so far, for any rows that hold
+-- what the trees list.
 use Rattle.std.specs.Prelude.{ℕ, ◌+◌, ◌≡◌, ◌≢◌, ◌<◌, ◌≤◌, ◌⊎◌, true, false, List, Option, Some, None, All, Contains}
 use Rattle.std.specs.Prelude.{take, length, get_or}
 use Rattle.std.specs.List.{flat_map}
@@ -24,37 +24,41 @@ use Rattle.cpg_expand.specs.Waiting.{ready_of, free_of}
 use Rattle.cpg_expand.specs.declared.forest.Ready.{Ready}
 use Rattle.cpg_expand.specs.declared.forest.Ready.TheVariants.{After, At}
 
--- rows in which what is sent for the processes before the place i has the columns that its tree lists
+-- rows that hold, for each item that a process before the place i sends, the columns that its tree lists
 pub record RowsHold (g : Graph) (order : List ℕ) (i : ℕ) (f : ForestState) (rows : List (List Column)) : Type 0 where
   pub sends : (x : ℕ) → x < item_count g → process_count g ≤ x → place order (producer g x) < i →
       (path : Path (Option ℕ)) (time : ℕ) →
       Contains (times_of g f x).paths path → path.1 ≡ Some time →
       (c : Column) × Contains (row_at rows x) c × (c.cube ≡ path.0)
 
--- a tree tells when a node is ready, and no more than what the node carries on
+-- a tree says when a node is ready, and its path says no more than what the node carries on
 pub record IsReadyLine (g : Graph) (order : List ℕ) (rows : List (List Column)) (s : Scenario) (t : Times) (i node : ℕ)
     (tree : TreeState ℕ) : Type 0 where
   pub time : ℕ
   pub is : IsReady g order s t i node time
   pub has_value : HasValueFrom s (flat_map (passed g rows s) (on_node g order i node)) time tree
 
--- a tree tells when its slots are free, and no more than what is sent leaves to those behind it
+-- a tree says when the node's slots are free, and its path says no more than what is sent leaves to those behind it
 pub record IsFreeLine (g : Graph) (order : List ℕ) (rows : List (List Column)) (s : Scenario) (t : Times) (i node : ℕ)
     (tree : TreeState ℕ) : Type 0 where
   pub time : ℕ
   pub is : IsFree g order s t i node time
   pub has_value : HasValueFrom s (flat_map (queued g order rows s) (sent_before g order i node)) time tree
 
--- in one scenario with its run the trees tell the times and ends before the place i, and when nodes are ready there and
--- slots are free, if that is waited for
+-- in one scenario with its run the trees give the times and ends before the place i, and, if something waits for
+-- that, when nodes are ready and slots are free there
 pub record Lines (g : Graph) (order : List ℕ) (rows : List (List Column)) (s : Scenario) (t : Times) (i : ℕ)
     (f : ForestState) : Type 0 where
+  -- the times of items of earlier processes
   pub times : (x : ℕ) → x < item_count g → place order (producer g x) < i →
       HasValueFrom s (carried g order rows s x) (get_or t.times x None) (times_of g f x)
+  -- the ends of earlier processes
   pub ends : (q : ℕ) → q < process_count g → place order q < i →
       HasValueFrom s (carried_at_end g order rows s q) (get_or t.ends q None) (ends_of g f q)
+  -- when each node is ready, if a process at the place i or later waits for it
   pub ready : (node : ℕ) → node < length g.nodes → IsWaitedFor g order i node →
       IsReadyLine g order rows s t i node (ready_of g f node)
+  -- when each node's slots are free, if an item of a process at the place i or later waits for them
   pub free : (node : ℕ) → node < length g.nodes → IsQueuedFor g order i node →
       IsFreeLine g order rows s t i node (free_of g f node)
 
@@ -66,7 +70,8 @@ IsEarlier g order i x = place order (producer g x) < i
 abbrev pub IsDone : Graph → List ℕ → ℕ → ℕ → ℕ → Type 0
 IsDone g order p k x = IsEarlier g order (place order p) x ⊎ ((x ≡ p) ⊎ Contains (take k (queue_of g p)) x)
 
--- the trees tell of all processes before one, of its start and its end, and of the first k items that it sends
+-- the trees give the times of all processes before one, of its start and its end, and of the first k items that it
+-- sends
 pub record SendLines (g : Graph) (order : List ℕ) (rows : List (List Column)) (s : Scenario) (t : Times) (p k : ℕ)
     (f : ForestState) : Type 0 where
   pub times : (x : ℕ) → x < item_count g → IsDone g order p k x →
@@ -75,15 +80,21 @@ pub record SendLines (g : Graph) (order : List ℕ) (rows : List (List Column)) 
       HasValueFrom s (carried_at_end g order rows s q) (get_or t.ends q None) (ends_of g f q)
   pub ready : (node : ℕ) → node < length g.nodes → IsWaitedFor g order (place order p + 1) node →
       IsReadyLine g order rows s t (place order p + 1) node (ready_of g f node)
+  -- the slots of p's own node are free behind what p has sent so far
   pub here : IsQueuedFor g order (place order p) (node_of g p) → IsFreeOnce g order rows s t p k f
+  -- those of any other node are free as before
   pub free : (node : ℕ) → node < length g.nodes → node ≢ node_of g p → IsQueuedFor g order (place order p) node →
       IsFreeLine g order rows s t (place order p) node (free_of g f node)
 
 -- the frozen items of these have their frozen times, and no other item has one
 pub record AreSettledOf (g : Graph) (order : List ℕ) (Done : ℕ → Type 0) (frozen : List (Option ℕ)) : Type 0 where
+  -- there is an entry for each item
   pub count : length frozen ≡ item_count g
+  -- a frozen item that is done has the greatest time that it would have
   pub each : (x : ℕ) → x < item_count g → is_frozen g x ≡ true → Done x → IsFrozenTime g order frozen x
+  -- any other item has none
   pub others : (x : ℕ) → (x < item_count g → is_frozen g x ≡ true → Done x → ⊥) → get_or frozen x None ≡ None
+  -- each frozen time is low, by a bound that grows with the place of its item in the order
   pub low : AreLow 0 g order frozen
 
 -- an edge within a node has no times
@@ -93,9 +104,13 @@ LeavesUnsent g f =
 
 -- the trees are grown up to the place i
 pub record IsGrown (g : Graph) (order : List ℕ) (i : ℕ) (frozen : List (Option ℕ)) (f : ForestState) : Type 0 where
+  -- there is a tree of the graph for each item, process and node
   pub trees : HasTrees g f
+  -- edges within a node have no times
   pub unsent : LeavesUnsent g f
+  -- the items of earlier processes have their frozen times, and no others
   pub settled : AreSettledOf g order (IsEarlier g order i) frozen
+  -- in each scenario the trees give the run, for any rows that hold what they list
   pub lines : (rows : List (List Column)) → RowsHold g order i f rows → (s : Scenario) → IsScenario g s → (t : Times) →
       IsRun g order frozen s t → Lines g order rows s t i f
 

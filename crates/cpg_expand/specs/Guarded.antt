@@ -1,4 +1,5 @@
--- Trees down guards.
+-- Trees that are made down the guards of processes (docs/MODEL.md has the words): where a process is active, what its
+-- node has heard, and its starts. A guard leads on its way through tests of conditions to an activation.
 use Rattle.std.specs.Prelude.{ℕ, ◌<◌, ◌≤◌, ◌≡◌, ◌==◌, max, Bool, false, true, List, [], ◌∷◌, ◌++◌, Option, Some, None}
 use Rattle.std.specs.Prelude.{map, if◌then◌else◌, Contains, get_or}
 use Rattle.std.specs.List.{flat_map, list_any}
@@ -26,12 +27,13 @@ abbrev pub values_known : Scenario → List ℕ → List Literal
 values_known s cs = map (value_known s) cs
 
 -- the tree that the value of a condition picks
+-- `k`: the faults; `c`: the condition; `high`, `low`: the trees for true and false; `t`: the tree made of them
 abbrev pub PicksByValue : {T : Type 0} → ℕ → ℕ → TreeState T → TreeState T → TreeState T → Type 0
 PicksByValue {T} k c high low t = (s : Scenario) → HasAtMostFaults k s → (literals : List Literal) (x : T) →
     HasValueFrom s literals x (if get_or s.values c false then high else low) →
     HasValueFrom s (value_known s c ∷ literals) x t
 
--- where a guard comes to an activation
+-- a tree that is true where a guard leads to an active leaf
 abbrev pub IsActiveTree : ℕ → Guard → TreeState Bool → Type 0
 IsActiveTree k guard t = (s : Scenario) → HasAtMostFaults k s →
     HasValueFrom s (values_known s (way guard s.values)) (is_active (outcome_at guard s.values)) t
@@ -40,7 +42,7 @@ IsActiveTree k guard t = (s : Scenario) → HasAtMostFaults k s →
 abbrev pub is_tested : Guard → List Bool → ℕ → Bool
 is_tested guard o c = list_any (λ d. d == c) (way guard o)
 
--- where it does
+-- a tree that is true where the guard tests the condition
 abbrev pub IsTestedOn : ℕ → Guard → ℕ → TreeState Bool → Type 0
 IsTestedOn k guard c t = (s : Scenario) → HasAtMostFaults k s →
     HasValueFrom s (values_known s (way guard s.values)) (is_tested guard s.values c) t
@@ -53,7 +55,7 @@ support_of s support cs = flat_map (λ c. support c ++ value_known s c ∷ []) c
 abbrev pub latest_of : (ℕ → ℕ) → (ℕ → Option ℕ) → List ℕ → ℕ
 latest_of delay time xs = greatest (map (λ x. time_later (delay x) (time x)) xs)
 
--- when a node has heard all that a guard tests, by what tells when it hears each condition on the way
+-- when a node has heard all that a guard tests, given trees that say when it hears each condition on the way
 abbrev pub IsHeardTree : Graph → ForestState → ℕ → Guard → TreeState ℕ → Type 0
 IsHeardTree g f node guard t =
     (s : Scenario) → HasAtMostFaults g.faults s → (support : ℕ → List Literal) (time : ℕ → Option ℕ) →
@@ -66,6 +68,8 @@ abbrev pub AreThere : Graph → (ℕ → Option ℕ) → ℕ → List ℕ → Ty
 AreThere g time ready edges = (e : ℕ) → Contains edges e → is_message g e ≡ false → time_later 0 (time e) ≤ ready
 
 -- the starts of a scenario after a release and after these inputs are there, too, with other literals first
+-- `first`: literals known before; `wait`: when the node is ready; `edges`: the inputs; `base`, `support`: what the
+-- wait and each input say; `x`, `time`: when they are over
 abbrev pub StartsAfter : Graph → ForestState → Scenario → List Literal → TreeState ℕ → ℕ → List ℕ →
     TreeState (Option ℕ) → Type 0
 StartsAfter g f s first wait release edges t =
@@ -74,16 +78,20 @@ StartsAfter g f s first wait release edges t =
     HasValueFrom s (first ++ (base ++ flat_map support edges))
     (Some (max (max x release) (latest_of (input_delay g) time edges))) t
 
+-- the starts after a release and after these inputs are there
 abbrev pub IsStartAfter : Graph → ForestState → TreeState ℕ → ℕ → List ℕ → TreeState (Option ℕ) → Type 0
 IsStartAfter g f wait release edges t =
     (s : Scenario) → HasAtMostFaults g.faults s → StartsAfter g f s [] wait release edges t
 
 -- the starts after a release and after these inputs are there, if a chooser is true, and no starts if it is false
+-- `wait`, `release`, `edges`: what the start waits for
 pub record IsStartWhere (g : Graph) (f : ForestState) (chooser : TreeState Bool) (wait : TreeState ℕ) (release : ℕ)
     (edges : List ℕ)
     (t : TreeState (Option ℕ)) : Type 0 where
+  -- where the chooser is true, the starts, with the literals by which it is true
   pub on : (s : Scenario) → HasAtMostFaults g.faults s → (given : List Literal) → HasValueFrom s given true chooser →
       StartsAfter g f s given wait release edges t
+  -- where it is false, no start
   pub off : (s : Scenario) → HasAtMostFaults g.faults s → (given : List Literal) → HasValueFrom s given false chooser →
       HasValueFrom s given None t
 
@@ -97,10 +105,12 @@ awaited inputs (By e) = e ∷ []
 abbrev pub start_says : List Literal → (ℕ → List Literal) → List ℕ → Activation → List Literal
 start_says base support inputs a = if is_active a then base ++ flat_map support (awaited inputs a) else []
 
+-- the start: the latest of the wait, the release and the awaited inputs, or none if the process is inactive
 abbrev pub start_at : ℕ → ℕ → (ℕ → ℕ) → (ℕ → Option ℕ) → List ℕ → Activation → Option ℕ
 start_at wait release delay time inputs a = if is_active a
     then Some (max (max wait release) (latest_of delay time (awaited inputs a))) else None
 
+-- the starts of a process with an activation
 abbrev pub IsStartBy : Graph → ForestState → TreeState ℕ → ℕ → List ℕ → Activation → TreeState (Option ℕ) → Type 0
 IsStartBy g f wait release inputs a t =
     (s : Scenario) → HasAtMostFaults g.faults s → (base : List Literal) (x : ℕ) → HasValueFrom s base x wait →
@@ -109,6 +119,7 @@ IsStartBy g f wait release inputs a t =
     HasValueFrom s (start_says base support inputs a) (start_at x release (input_delay g) time inputs a) t
 
 -- the starts of a process with a guard
+-- the literals are those of the guard's way and, if the process is active, those of what it waits for
 abbrev pub IsStartTree : Graph → ForestState → TreeState ℕ → ℕ → List ℕ → Guard → TreeState (Option ℕ) → Type 0
 IsStartTree g f wait release inputs guard t =
     (s : Scenario) → HasAtMostFaults g.faults s → (base : List Literal) (x : ℕ) → HasValueFrom s base x wait →

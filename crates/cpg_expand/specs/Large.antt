@@ -1,5 +1,5 @@
--- Trees that have too many leaves, where they are counted: what such a one tells, and where along an order it comes
--- about.
+-- Trees that have too many leaves, if leaves are counted: what such a tree is of, and where along an order it is
+-- made.
 use Rattle.std.specs.Prelude.{ℕ, ◌+◌, ◌≡◌, ◌<◌, ◌⊎◌, false, true, List, [], ◌∷◌, Option, Some, Contains, length}
 use Rattle.cpg_base.specs.Graph.{Graph, process_at, process_count, item_count, node_of, inputs, is_frozen, is_message}
 use Rattle.cpg_base.specs.Order.{place}
@@ -25,7 +25,7 @@ use Rattle.cpg_expand.specs.declared.bounding.TheConstants.{MOST_LEAVES}
 abbrev pub IsLarge : {T : Type 0} → TreeState T → Type 0
 IsLarge t = MOST_LEAVES < length t.paths
 
--- a fault names the item that it was to name, and there is this cause
+-- a fault names the item that it has to name, and there is this cause
 abbrev pub ShowsLarge : Option ℕ → Type 0 → BuildFault → Type 0
 ShowsLarge wide why fault = ShowsBuildFault (λ x. (wide ≡ Some x) × why) fault
 
@@ -37,24 +37,24 @@ IsLargeDown large fits (Leaf a) = large a
 IsLargeDown {T} large fits (Test c off on) =
     IsLargeDown large fits off ⊎ (IsLargeDown large fits on ⊎ ((t : TreeState T) × fits (Test c off on) t × IsLarge t))
 
--- a tree has too many leaves that tells when a node has heard what a part of a guard tests
+-- the tree of when a node has heard what a part of a guard tests has too many leaves
 abbrev pub IsLargeHeard : Graph → ForestState → ℕ → Guard → Type 0
 IsLargeHeard g f node guard = IsLargeDown (λ a. ⊥) (IsHeardTree g f node) guard
 
--- a tree has too many leaves that tells when a node is ready, or has heard what a guard tests, or both
+-- the tree of when a node is ready, or has heard what a guard tests, or both, has too many leaves
 abbrev pub IsLargeWait : Graph → ForestState → ℕ → Guard → Type 0
 IsLargeWait g f node guard =
     IsLarge (ready_of g f node) ⊎
     (IsLargeHeard g f node guard ⊎ ((wait : TreeState ℕ) × IsWaitTree g f node guard wait × IsLarge wait))
 
--- a tree has too many leaves that tells when the wait is over and the first of these inputs are there, taken one by one
+-- the tree of when the wait is over and the first of these inputs are there, taken one by one, has too many leaves
 abbrev pub IsLargeWith : Graph → ForestState → TreeState ℕ → List ℕ → Type 0
 IsLargeWith g f wait [] = ⊥
 IsLargeWith g f wait (e ∷ es) = ((is_message g e ≡ false) × IsLargeWith g f wait es)
     ⊎ ((both : TreeState ℕ) × IsLatest g.faults wait (later_by (input_delay g e) (input_tree g f e)) both ×
     (IsLarge both ⊎ IsLargeWith g f both es))
 
--- a tree has too many leaves that tells the starts with a guard, or with a part of it
+-- the tree of the starts with a guard, or with a part of it, has too many leaves
 abbrev pub IsLargeStart : Graph → ForestState → TreeState ℕ → ℕ → List ℕ → Guard → Type 0
 IsLargeStart g f wait release inputs guard = (AreLeaves WaitsForAll guard × IsLargeWith g f wait inputs)
     ⊎ IsLargeDown (λ a. IsLargeWith g f wait (awaited inputs a)) (IsStartTree g f wait release inputs) guard
@@ -63,6 +63,7 @@ IsLargeStart g f wait release inputs guard = (AreLeaves WaitsForAll guard × IsL
 abbrev pub IsLargeEnd : Graph → ℕ → TreeState (Option ℕ) → Type 0
 IsLargeEnd g p start = IsLarge start ⊎ ((end : TreeState (Option ℕ)) × IsEndTree g p start end × IsLarge end)
 
+-- the tree of the starts after a wait, or that of their ends, has too many leaves
 abbrev pub IsLargeOf : Graph → ℕ → ForestState → Guard → TreeState ℕ → Type 0
 IsLargeOf g p f guard wait =
     (start : TreeState (Option ℕ)) × IsStartTree g f wait (process_at g p).release (inputs g p) guard start ×
@@ -71,9 +72,12 @@ IsLargeOf g p f guard wait =
 -- a tree has too many leaves after what a process waits for: that with its inputs, or that of its starts or its ends
 pub record IsLargeAfter (g : Graph) (p : ℕ) (f : ForestState) (guard : Guard) : Type 0 where
   pub wait : TreeState ℕ
+  -- what the process waits for, once its node is ready and has heard what its guard tests
   pub waits : IsWaitTree g f (node_of g p) guard wait
+  -- with its inputs, or in its starts or ends
   pub large : IsLargeStart g f wait (process_at g p).release (inputs g p) guard ⊎ IsLargeOf g p f guard wait
 
+-- a tree on the way to the start and the end of a process that is not frozen has too many leaves
 abbrev pub IsLargeThawed : Graph → ℕ → ForestState → Guard → Type 0
 IsLargeThawed g p f guard = IsLargeWait g f (node_of g p) guard ⊎ IsLargeAfter g p f guard
 
@@ -116,9 +120,11 @@ IsLargeAt g order guards i f = ((x : ℕ) × (x < item_count g) × IsEarlier g o
 -- a tree has too many leaves somewhere along the order
 pub record HasLargeTree (g : Graph) (urgency order : List ℕ) : Type 0 where
   pub guards : Guards
+  -- the trees and frozen times are those up to the place `reached`
   pub are : AreGuardsOf g urgency guards
   pub reached : ℕ
   pub frozen : List (Option ℕ)
   pub forest : ForestState
   pub grown : IsGrown g order reached frozen forest
+  -- the tree with too many leaves is made there
   pub large : IsLargeAt g order guards reached forest

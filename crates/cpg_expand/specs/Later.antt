@@ -7,6 +7,7 @@ use Rattle.cpg_tree.specs.Tree.{TreeState}
 use Rattle.cpg_expand.specs.Agreeing.{HasValueFrom}
 use Rattle.cpg_expand.specs.Values.{time_later}
 
+-- the times of a tree, 0 if there are none, later by a delay
 abbrev pub IsLaterTree : ℕ → ℕ → TreeState (Option ℕ) → TreeState ℕ → Type 0
 IsLaterTree k delay tree t =
     (s : Scenario) → HasAtMostFaults k s → (literals : List Literal) (x : Option ℕ) → HasValueFrom s literals x tree →
@@ -29,7 +30,7 @@ IsReleased k one two release t = (s : Scenario) → HasAtMostFaults k s → (fir
     HasValueFrom s first x one → HasValueFrom s second y two →
     HasValueFrom s (first ++ second) (Some (max (max x y) release)) t
 
--- where a chooser is true, they are, and elsewhere there are none
+-- such times if a chooser is true, and otherwise none
 pub record IsReleasedWhere (k : ℕ) (chooser : TreeState Bool) (one two : TreeState ℕ) (release : ℕ)
     (t : TreeState (Option ℕ)) : Type 0 where
   pub on : (s : Scenario) → HasAtMostFaults k s → (given first second : List Literal) (x y : ℕ) →

@@ -28,12 +28,13 @@ pub record HasLater (tree : TreeState (Option ℕ)) (wanted : TreeState Bool) (d
   pub is : n ≡ time_later delay (Some time)
 
 -- in a scenario in which a process is active one of a node between two places has ended
+-- `node`, `from`, `to`: the node and the places of the span; `q`: the process; `n`: its end in scenario s
 pub record HasEnded (g : Graph) (order : List ℕ) (f : ForestState) (active : TreeState Bool) (node from to q n : ℕ)
     (s : Scenario) : Type 0 where
   pub between : IsBetween g order node from to q
   pub there : HasLater (ends_of g f q) active 0 n s
 
--- one of the first k processes has
+-- one of the first k processes has ended
 pub record HasEndedOf (g : Graph) (order : List ℕ) (f : ForestState) (active : TreeState Bool) (node from to k n : ℕ)
     (s : Scenario) : Type 0 where
   pub process : ℕ
@@ -42,6 +43,7 @@ pub record HasEndedOf (g : Graph) (order : List ℕ) (f : ForestState) (active :
 
 -- in a scenario in which a process is active a node has heard a condition that a guard of one of its processes between
 -- two places tests
+-- `c`: the condition; `n`: when the node has heard it in scenario s
 pub record HasHeard (g : Graph) (order : List ℕ) (guards : Guards) (f : ForestState) (active : TreeState Bool)
     (node from to c n : ℕ)
     (s : Scenario) : Type 0 where
@@ -51,7 +53,7 @@ pub record HasHeard (g : Graph) (order : List ℕ) (guards : Guards) (f : Forest
   pub has : HasValueAt (heard_tree g f node c).paths (Some time) s
   pub is : n ≡ time_later (heard_delay g node c) (Some time)
 
--- one of the first k conditions
+-- the node has heard such a condition, one of the first k
 pub record HasHeardOf (g : Graph) (order : List ℕ) (guards : Guards) (f : ForestState) (active : TreeState Bool)
     (node from to k n : ℕ)
     (s : Scenario) : Type 0 where
@@ -60,13 +62,14 @@ pub record HasHeardOf (g : Graph) (order : List ℕ) (guards : Guards) (f : Fore
   pub there : HasHeard g order guards f active node from to condition n s
 
 -- in a scenario in which a process is active an input from another node is there
+-- `e`: the edge; `n`: when its frame is there in scenario s
 pub record HasInput (g : Graph) (f : ForestState) (active : TreeState Bool) (e n : ℕ) (s : Scenario) : Type 0 where
   pub message : is_message g e ≡ true
   pub time : ℕ
   pub has : HasWhere (input_tree g f e) active time s
   pub is : n ≡ time_later (input_delay g e) (Some time)
 
--- one of these inputs is
+-- one of these inputs is there
 pub record HasInputOf (g : Graph) (f : ForestState) (active : TreeState Bool) (edges : List ℕ) (n : ℕ)
     (s : Scenario) : Type 0 where
   pub edge : ℕ
@@ -75,8 +78,11 @@ pub record HasInputOf (g : Graph) (f : ForestState) (active : TreeState Bool) (e
 
 -- no less than before, no scenario has a greater one, and some scenario has it if it is greater than before
 pub record IsRaised (g : Graph) (has : ℕ → Scenario → Type 0) (old new : ℕ) : Type 0 where
+  -- no less than before
   pub from : old ≤ new
+  -- no scenario has a greater one
   pub above : (n : ℕ) (s : Scenario) → IsScenario g s → has n s → n ≤ new
+  -- it is the old one, or some scenario has it
   pub found : (new ≡ old) ⊎ ((s : Scenario) × IsScenario g s × has new s)
 
 -- the greatest of a release, of when each process before the place i has ended, of when the node has heard each
@@ -84,12 +90,16 @@ pub record IsRaised (g : Graph) (has : ℕ → Scenario → Type 0) (old new : �
 pub record IsLatestAt (g : Graph) (order : List ℕ) (guards : Guards) (f : ForestState) (node from i : ℕ)
     (ready : TreeState (Option ℕ))
     (edges : List ℕ) (active : TreeState Bool) (latest : ℕ) : Type 0 where
+  -- the release
   pub first : ℕ
   pub top : IsTopAt g (HasWhere ready active) first
+  -- raised to the ends of the processes before it on its node
   pub ended : ℕ
   pub ends : IsRaised g (HasEndedOf g order f active node from i (process_count g)) first ended
+  -- raised to when the node has heard what their guards and its own test
   pub heard : ℕ
   pub hears : IsRaised g (HasHeardOf g order guards f active node from (i + 1) (condition_count g)) ended heard
+  -- raised to when its inputs are there
   pub raised : IsRaised g (HasInputOf g f active edges) heard latest
 
 -- the greatest time at which all that a process waits for is there, and none if it is never active
@@ -99,7 +109,7 @@ IsLatestOf g order guards f node from i ready edges active None = IsTop g (HasWh
 IsLatestOf g order guards f node from i ready edges active (Some latest) =
     IsLatestAt g order guards f node from i ready edges active latest
 
--- by a tree of a release
+-- the latest start of a process, given its release as a tree of one time
 pub record IsLatestStart (g : Graph) (order : List ℕ) (guards : Guards) (f : ForestState) (node from i release : ℕ)
     (edges : List ℕ)
     (active : TreeState Bool) (latest : Option ℕ) : Type 0 where
@@ -111,12 +121,13 @@ pub record IsLatestStart (g : Graph) (order : List ℕ) (guards : Guards) (f : F
 -- ---- sends
 
 -- in a scenario in which an item goes one that stands before it in the queue of its node was sent a round before
+-- `x`: the item that is sent; `y`: the one before it; `n`: a round after y's time in scenario s
 pub record HasQueued (g : Graph) (order : List ℕ) (f : ForestState) (goes : TreeState Bool) (x y n : ℕ)
     (s : Scenario) : Type 0 where
   pub before : stands_before g order y x ≡ true
   pub there : HasLater (times_of g f y) goes (round g) n s
 
--- one of the first k items
+-- such an item, one of the first k
 pub record HasQueuedOf (g : Graph) (order : List ℕ) (f : ForestState) (goes : TreeState Bool) (x k n : ℕ)
     (s : Scenario) : Type 0 where
   pub item : ℕ
@@ -127,10 +138,13 @@ pub record HasQueuedOf (g : Graph) (order : List ℕ) (f : ForestState) (goes : 
 pub record IsSlotAt (g : Graph) (order : List ℕ) (f : ForestState) (share : ShareState) (goes : TreeState Bool)
     (end : TreeState (Option ℕ))
     (x latest : ℕ) : Type 0 where
+  -- the greatest end of its producer where the item goes
   pub last : ℕ
   pub ends : IsTopAt g (HasWhere end goes) last
+  -- the slot from there on, raised to a round after what stands before it
   pub raised : IsRaised g (HasQueuedOf g order f goes x (item_count g)) (slot_at share (Some last)) latest
 
+-- the latest time of an item that is sent, and none if it never goes
 abbrev pub IsLatestSend : Graph → List ℕ → ForestState → ShareState → TreeState Bool → TreeState (Option ℕ) → ℕ →
     Option ℕ → Type 0
 IsLatestSend g order f share goes end x None = IsTop g (HasWhere end goes) None

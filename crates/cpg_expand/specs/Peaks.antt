@@ -17,6 +17,7 @@ use Rattle.cpg_expand.specs.declared.measuring.Peak.{Peak}
 
 -- ---- what processes have in a scenario
 
+-- the tree of a process's ends
 abbrev pub tree_at : Graph → List (TreeState (Option ℕ)) → ℕ → TreeState (Option ℕ)
 tree_at g trees q = get_or trees q (no_tree g.faults)
 
@@ -28,7 +29,7 @@ EndsAt g trees q time s = HasValueAt (tree_at g trees q).paths (Some time) s
 abbrev pub EndsPast : Graph → List (TreeState (Option ℕ)) → ℕ → ℕ → Scenario → Type 0
 EndsPast g trees q excess s = (end : ℕ) × EndsAt g trees q end s × (time_past (due g q) (Some end) ≡ Some excess)
 
--- each tree tells when its process ends in every run
+-- each tree says when its process ends in every run
 abbrev pub GiveEnds : Graph → List ℕ → List (Option ℕ) → List (TreeState (Option ℕ)) → Type 0
 GiveEnds g order frozen trees =
     (s : Scenario) (t : Times) → IsScenario g s → IsRun g order frozen s t → (q : ℕ) → q < process_count g →
@@ -41,6 +42,7 @@ abbrev pub SomeHas : ℕ → (ℕ → ℕ → Scenario → Type 0) → ℕ → S
 SomeHas n has time s = (q : ℕ) × (q < n) × has q time s
 
 -- none of the first n processes has a time in any scenario
+-- `n`: how many processes; `has q time s`: process q has the time in scenario s
 pub record IsNoPeak (g : Graph) (n : ℕ) (has : ℕ → ℕ → Scenario → Type 0) (peak : Peak) : Type 0 where
   pub time : peak.time ≡ 0
   pub scenario : peak.scenario ≡ zero_scenario g
@@ -49,12 +51,16 @@ pub record IsNoPeak (g : Graph) (n : ℕ) (has : ℕ → ℕ → Scenario → Ty
 -- the time of the peak is the greatest, its scenario the least that has it, and p the least process that has it there
 pub record IsPeakOf (g : Graph) (urgency : List ℕ) (n : ℕ) (has : ℕ → ℕ → Scenario → Type 0) (peak : Peak)
     (p : ℕ) : Type 0 where
+  -- no process has a greater time
   pub most : (q time : ℕ) (s : Scenario) → q < n → IsScenario g s → has q time s → time ≤ peak.time
+  -- the scenario is the first, along the urgency order, in which some process has it
   pub least : IsLeast g urgency (SomeHas n has peak.time) peak.scenario
+  -- p has it there, and no process before p
   pub there : p < n
   pub is : has p peak.time peak.scenario
   pub first : (q : ℕ) → q < p → has q peak.time peak.scenario → ⊥
 
+-- a peak with or without a process
 abbrev pub IsPeakBy : Graph → List ℕ → ℕ → (ℕ → ℕ → Scenario → Type 0) → Peak → Option ℕ → Type 0
 IsPeakBy g urgency n has peak None = IsNoPeak g n has peak
 IsPeakBy g urgency n has peak (Some p) = IsPeakOf g urgency n has peak p
@@ -71,9 +77,11 @@ goes_before_by g urgency peak time s None = true
 goes_before_by g urgency peak time s (Some p) = if peak.time == time then is_before g urgency s peak.scenario
     else nat_lt peak.time time
 
+-- whether a time that a later process has goes before the peak
 abbrev pub goes_before : Graph → List ℕ → Peak → ℕ → Scenario → Bool
 goes_before g urgency peak time s = goes_before_by g urgency peak time s peak.process
 
+-- the peak with that time, if it goes before
 abbrev pub or_time : Graph → List ℕ → Peak → ℕ → Scenario → ℕ → Peak
 or_time g urgency peak time s p = if goes_before g urgency peak time s
     then record { time = time; scenario = s; process = Some p } else peak
@@ -91,11 +99,11 @@ pub record IsLaterPeak (g : Graph) (urgency : List ℕ) (paths : List (Path (Opt
   pub greatest : IsGreatestOf g urgency paths time scenario
   pub is : new ≡ or_time g urgency old time scenario p
 
--- with the times of the paths too
+-- the peak with the times of the paths too
 abbrev pub IsNextPeak : Graph → List ℕ → List (Path (Option ℕ)) → ℕ → Peak → Peak → Type 0
 IsNextPeak g urgency paths p old new = IsSamePeak paths old new ⊎ IsLaterPeak g urgency paths p old new
 
--- with how far the times of the tree are past the due of the process too
+-- the peak with how far the times of the tree are past the process's due, too
 pub record IsNextExcess (g : Graph) (urgency : List ℕ) (end : TreeState (Option ℕ)) (p : ℕ)
     (old new : Peak) : Type 0 where
   pub tree : TreeState (Option ℕ)
@@ -105,13 +113,13 @@ pub record IsNextExcess (g : Graph) (urgency : List ℕ) (end : TreeState (Optio
 
 -- ---- measures of runs
 
--- the greatest finish, under any order and frozen times whose runs end as the trees tell
+-- the greatest finish, under any order and frozen times whose runs end as the trees say
 abbrev pub IsWorstOfTrees : Graph → List ℕ → List (TreeState (Option ℕ)) → Peak → Type 0
 IsWorstOfTrees g urgency trees peak =
     (order : List ℕ) (frozen : List (Option ℕ)) → IsTopological g order → GiveEnds g order frozen trees →
     IsWorst g urgency order frozen peak.time peak.scenario peak.process
 
--- the greatest excess, likewise
+-- the greatest excess, under any such order and frozen times
 abbrev pub IsExcessOfTrees : Graph → List ℕ → List (TreeState (Option ℕ)) → Peak → Type 0
 IsExcessOfTrees g urgency trees peak =
     (order : List ℕ) (frozen : List (Option ℕ)) → IsTopological g order → GiveEnds g order frozen trees →

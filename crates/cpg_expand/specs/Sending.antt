@@ -15,7 +15,7 @@ use Rattle.cpg_expand.specs.Agreeing.{HasValueFrom}
 use Rattle.cpg_expand.specs.Guarded.{value_known}
 use Rattle.cpg_expand.specs.Values.{slot_from, time_later}
 
--- where a tree is true and a condition has a value
+-- a tree that is true where another is true and a condition has a value
 abbrev pub IsTestedTree : ℕ → ℕ → Bool → TreeState Bool → TreeState Bool → Type 0
 IsTestedTree k c wanted active t =
     (s : Scenario) → HasAtMostFaults k s → (b : Bool) (first : List Literal) → HasValueFrom s first b active →
@@ -28,17 +28,18 @@ asked_by None condition = None
 asked_by (Some wanted) None = None
 asked_by (Some wanted) (Some condition) = Some (condition, wanted)
 
+-- the condition and the value that an edge asks for, if it does
 abbrev pub asked : Graph → ℕ → Option (ℕ × Bool)
 asked g e = asked_by (edge_at g e).when (condition_of g (source g e))
 
--- where an edge is live, by where its source is active
+-- a tree that is true where an edge is live, given where its source is active
 abbrev pub IsLiveTree : Graph → ℕ → TreeState Bool → TreeState Bool → Type 0
 IsLiveTree g e chooser t = (s : Scenario) → HasAtMostFaults g.faults s → (first : List Literal) →
     HasValueFrom s first (active g s.values (source g e)) chooser →
     HasValueFrom s (first ++ (if active g s.values (source g e) then map (number_known s) (source_value g e) else []))
     (live g s.values e) t
 
--- where an item is sent, by where its producer is active
+-- a tree that is true where an item is sent, given where its producer is active
 abbrev pub IsGoesTree : Graph → ℕ → TreeState Bool → TreeState Bool → Type 0
 IsGoesTree g x chooser t = (s : Scenario) → HasAtMostFaults g.faults s → (first : List Literal) →
     HasValueFrom s first (active g s.values (producer g x)) chooser →
@@ -54,7 +55,7 @@ IsSentTree k share goes end free t =
     (b ≡ true → HasValueFrom s second x end × HasValueFrom s third y free) →
     HasValueFrom s (first ++ (if b then second ++ third else [])) (if b then slot_from share y x else None) t
 
--- when the slots are free then: a round after what is sent
+-- when the slots are free after that: a round after what is sent
 abbrev pub IsFreeTree : ℕ → ℕ → TreeState Bool → TreeState (Option ℕ) → TreeState ℕ → TreeState ℕ → Type 0
 IsFreeTree k turn goes sent free t = (s : Scenario) → HasAtMostFaults k s →
     (b : Bool) (first second : List Literal) (x : Option ℕ) (w v : ℕ) → HasValueFrom s first b goes →

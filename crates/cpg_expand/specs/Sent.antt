@@ -22,11 +22,11 @@ use Rattle.cpg_expand.specs.Sending.{IsGoesTree, IsSentTree, IsFreeTree}
 use Rattle.cpg_expand.specs.Waited.{IsQueuedFor}
 use Rattle.cpg_expand.specs.Waiting.{free_of}
 
--- for the processes before the place i
+-- what a node has sent for the processes before the place i
 abbrev pub sent_before : Graph → List ℕ → ℕ → ℕ → List ℕ
 sent_before g order i node = flat_map (queue_of g) (filter (λ q. node_of g q == node) (take i order))
 
--- for the processes before p, and the first k items of p
+-- what it has sent for the processes before p, with the first k items of p
 abbrev pub sent_so_far : Graph → List ℕ → ℕ → ℕ → List ℕ
 sent_so_far g order p k = sent_before g order (place order p) (node_of g p) ++ take k (queue_of g p)
 
@@ -34,8 +34,10 @@ sent_so_far g order p k = sent_before g order (place order p) (node_of g p) ++ t
 -- sent
 pub record IsFreeOnce (g : Graph) (order : List ℕ) (rows : List (List Column)) (s : Scenario) (t : Times) (p k : ℕ)
     (f : ForestState) : Type 0 where
+  -- when the last of these is sent and its round is over
   pub time : ℕ
   pub is : IsMost (IsSentBy g order s p k) (free_after g t) time
+  -- the tree says so, by no more literals than are carried from these items
   pub has_value : HasValueFrom s (flat_map (queued g order rows s) (sent_so_far g order p k)) time
       (free_of g f (node_of g p))
 
@@ -43,8 +45,10 @@ pub record IsFreeOnce (g : Graph) (order : List ℕ) (rows : List (List Column))
 pub record IsFrozenSend (g : Graph) (order : List ℕ) (goes : TreeState Bool) (x : ℕ) (f : ForestState)
     (before after : List (Option ℕ))
     (sent : TreeState (Option ℕ)) : Type 0 where
+  -- the latest time that it would have, if it ever goes
   pub latest : Option ℕ
   pub top : IsLatestSend g order f (share_of g (home g x)) goes (ends_of g f (producer g x)) x latest
+  -- that time is set, and the tree has it wherever the item goes
   pub frozen : IsFrozenBy x latest goes before after sent
 
 -- the times of an item that is sent: those of a frozen one, or those by its producer's end and when the slots are
@@ -59,16 +63,20 @@ IsSentFor g order goes x f before after sent =
 -- an item is added to the trees: its times, and when the slots of its node are free then, if one waits for that
 pub record IsItemAdded (g : Graph) (order : List ℕ) (chooser : TreeState Bool) (x : ℕ) (old new : ForestState)
     (before after : List (Option ℕ)) : Type 0 where
+  -- where the item goes
   pub goes : TreeState Bool
   pub goes_tree : IsTree g goes
   pub goes_where : IsGoesTree g x chooser goes
+  -- its times
   pub sent : TreeState (Option ℕ)
   pub sent_tree : IsTree g sent
   pub sends : IsSentFor g order goes x old before after sent
+  -- when the slots are free behind it, which counts only if a later item waits for that
   pub freed : TreeState ℕ
   pub freed_tree : IsTree g freed
   pub frees : IsQueuedFor g order (place order (producer g x)) (home g x) →
       IsFreeTree g.faults (round g) goes sent (free_of g old (home g x)) freed
+  -- the two trees are put in their places; the other trees stay
   pub is : new ≡ record {
     times = slice_set old.times x sent;
     ends = old.ends;

@@ -43,6 +43,7 @@ pub record IsTopAt (g : Graph) (has : ℕ → Scenario → Type 0) (top : ℕ) :
   pub lawful : IsScenario g scenario
   pub there : has top scenario
 
+-- the greatest time that a scenario has, if any has one
 abbrev pub IsTop : Graph → (ℕ → Scenario → Type 0) → Option ℕ → Type 0
 IsTop g has None = (time : ℕ) (s : Scenario) → IsScenario g s → has time s → ⊥
 IsTop g has (Some top) = IsTopAt g has top

@@ -15,7 +15,7 @@ pub record AreListedOf (g : Graph) (t : TreeState (Option ℕ)) (columns : List 
   pub all : IsPermutation (columns_of_paths t.paths) columns
   pub tidy : All (IsTidyColumn g) columns
 
--- in every scenario a tree has the time of an item in the run, and says no more than what is carried there
+-- in every scenario a tree has the item's time in the run, and its path says no more than what is carried there
 abbrev pub IsTreeOf : Graph → List ℕ → List (Option ℕ) → List (List Column) → ℕ → TreeState (Option ℕ) → Type 0
 IsTreeOf g order frozen rows x t = (s : Scenario) (run : Times) → IsScenario g s → IsRun g order frozen s run →
     Agrees s (carried g order rows s x) (λ time. time ≡ get_or run.times x None) t

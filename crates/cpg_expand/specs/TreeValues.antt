@@ -10,7 +10,7 @@ use Rattle.cpg_run.specs.Carried.{carried_by_row, carried_at_end}
 use Rattle.cpg_expand.specs.Agreeing.{HasValueFrom}
 use Rattle.cpg_expand.specs.Forest.{ForestState, times_of, ends_of}
 
--- the trees tell the ends of the active processes before the place i, and the times of what they send
+-- the trees give the ends of the active processes before the place i, and the times of what they send
 pub record HasTreeValues (g : Graph) (order : List ℕ) (rows : List (List Column)) (s : Scenario) (t : Times) (i : ℕ)
     (f : ForestState) : Type 0 where
   pub ends : (q : ℕ) → q < process_count g → place order q < i → active g s.values q ≡ true →

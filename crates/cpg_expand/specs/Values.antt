@@ -3,7 +3,7 @@ use Rattle.std.specs.Prelude.{ℕ, ◌+◌, ◌-◌, ◌^◌, min, max, nat_lt, 
 use Rattle.cpg_bus.specs.Share.{ShareState, next_of}
 pub use Rattle.cpg_tree.specs.Later.{time_later}
 
--- the time, if it is so
+-- the time, if the value is true
 abbrev pub time_if : ℕ → Bool → Option ℕ
 time_if time is = if is then Some time else None
 

@@ -11,9 +11,11 @@ use Rattle.cpg_expand.specs.Forest.{ForestState, no_tree, ready_at, ready_by, he
 use Rattle.cpg_expand.specs.declared.forest.Ready.{Ready}
 use Rattle.cpg_expand.specs.Guarded.{support_of, latest_of}
 
+-- the tree of when a node is ready
 abbrev pub ready_of : Graph → ForestState → ℕ → TreeState ℕ
 ready_of g f node = ready_by g f (ready_at g f node)
 
+-- the tree of when a node's slots are free
 abbrev pub free_of : Graph → ForestState → ℕ → TreeState ℕ
 free_of g f node = get_or f.free node (no_tree g.faults)
 

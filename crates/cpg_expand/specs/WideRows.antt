@@ -34,6 +34,7 @@ pub record AreWideRows (g : Graph) (urgency : List ℕ) (times : List (TreeState
   pub made : AreFirstRows g urgency times count rows
   pub many : MOST_LOAD < rows_load g rows count
 
+-- one row has too many columns, or the rows of the first items have too many together
 abbrev pub HaveWideRows : Graph → List ℕ → List (TreeState (Option ℕ)) → Type 0
 HaveWideRows g urgency times = IsWideRow g urgency times ⊎ AreWideRows g urgency times
 
@@ -46,6 +47,7 @@ pub record AreFewSoFar (g : Graph) (rows : List Row) (n load : ℕ) : Type 0 whe
   pub is : load ≡ rows_load g rows n
   pub within : load ≤ MOST_LOAD
 
+-- the rows are within the limits, if there is an item to name
 abbrev pub AreFewIf : Option ℕ → Graph → List Row → ℕ → ℕ → Type 0
 AreFewIf None g rows n load = Unit {0}
 AreFewIf (Some item) g rows n load = AreFewSoFar g rows n load
@@ -56,6 +58,7 @@ pub record IsLoadWith (g : Graph) (row : Row) (x before after : ℕ) : Type 0 wh
   pub is : after ≡ before + length row.columns * rows_of_item g (item_at g x)
   pub within : after ≤ MOST_LOAD
 
+-- one more row is within the limits, if there is an item to name
 abbrev pub IsLoadIf : Option ℕ → Graph → Row → ℕ → ℕ → ℕ → Type 0
 IsLoadIf None g row x before after = Unit {0}
 IsLoadIf (Some item) g row x before after = IsLoadWith g row x before after

@@ -11,7 +11,7 @@ use cpg_rules::Admitted;
 use cpg_tree::Tree;
 use std::alloc::Global;
 
-/// Where an item that is started or sent is active.
+/// A tree that is true where an item that is started or sent is active.
 pub fn active_item(alloc: Global, admitted: &Admitted, item: u32) -> Result<Tree<bool>, OutOfMemory>
     requires item { item < item_count admitted.now.graph }
     requires acts { process_count admitted.now.graph ≤ item → is_sent admitted.now.graph item ≡ true }

@@ -52,14 +52,14 @@ fn put_begun(
     forest.ready[node as usize] = ready;
 }
 
-/// The ends of a process, and when its node goes on after it.
+/// The ends of a process, and the tree of when its node goes on after it.
 #[derive(Drop)]
 struct EndAndReady {
     end: Tree<Option<u64>>,
     ready: Ready,
 }
 
-/// What follows of the starts of a process.
+/// What follows from the starts of a process: its ends, and when its node goes on after it.
 fn follow(
     alloc: Global,
     problem: &Problem,
@@ -80,6 +80,7 @@ fn follow(
     ensures ready { IfOk result (λ e. IsReadyTree problem.now.faults active.now e.end (ready_by problem.now forest.now wait.now) (goes_on e.end e.ready)) }
     ensures fault { IfErr result (ShowsLarge forest.now.wide (IsLargeEnd problem.now process start.now)) }
 {
+    // a tree with too many leaves is refused before the next one is made of it
     few(start, forest.wide)?;
     let end = end(alloc, problem, start, process)?;
     few(&end, forest.wide)?;
@@ -87,7 +88,8 @@ fn follow(
     Ok(EndAndReady { end, ready })
 }
 
-/// Adds the start and the end of a process that isn't frozen, and when its node goes on after it. Shows where it is active.
+/// Adds the start and the end of a process that isn't frozen, and when its node goes on after it. Returns the tree of
+/// where it is active.
 fn begin_thawed(
     alloc: Global,
     admitted: &Admitted,
@@ -107,6 +109,7 @@ fn begin_thawed(
     let guard = admitted.guards().guard_of(process);
     let node = problem.node_of(process);
     let inputs = plan.inputs(problem, process);
+    // where it is active, what it waits for, its start, and what follows from that
     let active = active(alloc, problem, guard)?;
     let heard = waiting(alloc, problem, forest, node, guard)?;
     let wait = wait_for(problem, forest, node, &heard);
@@ -116,8 +119,8 @@ fn begin_thawed(
     Ok(active)
 }
 
-/// When the node of a frozen process goes on after it. Made only if a process waits for that: a tree of all that its guard
-/// tests may be far wider than its row.
+/// When the node of a frozen process goes on after it. It is made only if a process waits for it, since a tree of all
+/// that the guard tests can be far wider than the row.
 fn ready_after(
     alloc: Global,
     admitted: &Admitted,
@@ -138,9 +141,11 @@ fn ready_after(
     ensures fault { IfErr result (ShowsLarge forest.now.wide (IsLargeFrozen admitted.now.graph order.now process forest.now (tree_of admitted.now.guards process))) }
 {
     let problem = admitted.problem();
+    // an always active process has ended before the node goes on, whatever was waited for
     if active.is_true() {
         return Ok(Ready::After(process));
     }
+    // nothing reads the tree, so any tree is right
     if !is_waited_for(problem, order, process) {
         let never = Tree::constant(alloc, 0, problem.faults())?;
         return Ok(Ready::At(never));
@@ -153,8 +158,8 @@ fn ready_after(
     Ok(ready)
 }
 
-/// Adds the start and the end of a frozen process, its frozen time, and when its node goes on after it. Shows where it is
-/// active.
+/// Adds the start and the end of a frozen process, its frozen time, and when its node goes on after it. Returns the
+/// tree of where it is active.
 fn begin_frozen(
     alloc: Global,
     admitted: &Admitted,
@@ -179,6 +184,7 @@ fn begin_frozen(
     let node = problem.node_of(process);
     let inputs = plan.inputs(problem, process);
     let active = active(alloc, problem, guards.guard_of(process))?;
+    // a frozen process starts at one time: the latest that it would have in any scenario
     let span = span_before(problem, guards, order, node, order.place(process));
     let latest = latest_start(alloc, &span, forest, inputs, &active, process)?;
     let start = freeze(problem, frozen, process, &active, latest)?;
@@ -188,7 +194,8 @@ fn begin_frozen(
     Ok(active)
 }
 
-/// Adds the start and the end of a process, its frozen time, and when its node goes on after it. Shows where it is active.
+/// Adds the start and the end of a process, its frozen time, and when its node goes on after it. Returns the tree of
+/// where it is active.
 fn begin(
     alloc: Global,
     admitted: &Admitted,
@@ -208,6 +215,7 @@ fn begin(
     ensures begun { IfOk result (IsBegun admitted.now.graph order.now admitted.now.guards process forest.old forest.new frozen.old frozen.new) }
     ensures fault { IfErr result (ShowsLarge forest.old.wide (IsLargeBegun admitted.now.graph order.now admitted.now.guards process forest.old)) }
 {
+    // frozen or not
     if admitted.problem().is_frozen(process) {
         let active = begin_frozen(alloc, admitted, plan, order, frozen, forest, process)?;
         return Ok(active);
@@ -238,6 +246,7 @@ pub(crate) fn step(
     ensures fault { IfErr result (ShowsLarge forest.old.wide (IsLargeBegun admitted.now.graph order.now admitted.now.guards process forest.old)) }
 {
     let problem = admitted.problem();
+    // first the process itself, then what it sends
     let active = begin(alloc, admitted, plan, order, frozen, forest, process)?;
     let course = PlannedCourse {
         problem,

@@ -21,12 +21,12 @@ pub struct BuiltRows {
     pub frozen: FrozenTimes,
     /// The greatest finish of all runs, in time units, with its first scenario by the urgency order.
     pub worst: Peak,
-    /// The greatest excess of all runs, likewise.
+    /// The greatest excess of all runs, with its first scenario by the urgency order.
     pub excess: Peak,
 }
 
 impl BuiltRows {
-    /// The tables of the rows, with the frozen times and the measures.
+    /// The tables that are assembled of the rows, with the frozen times and the measures.
     pub fn assemble(self, alloc: Global, admitted: &Admitted) -> Result<Built, OutOfMemory>
         requires { AreWritable admitted.now.graph self.rows.items }
         ensures { IfOk result (IsAssembledOf admitted.now.graph self) }

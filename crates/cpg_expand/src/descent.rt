@@ -15,10 +15,10 @@ use cpg_run::BuildFault;
 use cpg_tree::Tree;
 use std::alloc::Global;
 
-/// The trees of at most this many parts of a guard are kept, in case that an equal part comes again.
+/// The trees of at most this many parts of a guard are kept, in case an equal part comes again.
 const KEPT: usize = 64;
 
-/// What holds of the tree of a guard, and how it is made of those of its sides.
+/// What holds of the tree of a guard, and how that is made from the trees of its sides.
 pub(crate) trait Descent<T> {
     ghost begun: { Self → Type 0 };
 
@@ -68,7 +68,7 @@ struct KnownGuard<'a, T> {
 enum Source<T> {
     /// At a place among those that are kept.
     At(usize),
-    /// Nowhere else.
+    /// In no list: the tree itself.
     Alone(Tree<T>),
 }
 
@@ -149,7 +149,7 @@ fn keep<'a, T: Copy>(
     Ok(Source::At(place))
 }
 
-/// The tree of a guard, of whose equal parts it is made but once.
+/// The tree of a guard. Parts of the guard that are equal share one tree.
 fn found<'a, T: Copy + Eq, D: Descent<T>>(
     descent: &D,
     guard: &'a GuardTree,

@@ -21,7 +21,7 @@ pub(crate) struct NodeSpan<'a> {
     pub(crate) from: u32,
 }
 
-/// Whether a process is on the node of a span, and stands from a place on and before another one.
+/// Whether a process is on the node of a span and stands between two places.
 pub(crate) fn stands_between(span: &NodeSpan<'_>, from: u32, to: u32, other: u32) -> bool
     requires other { other < process_count span.now.problem.now }
     requires order { length span.now.order.now ≡ process_count span.now.problem.now }
@@ -32,7 +32,7 @@ pub(crate) fn stands_between(span: &NodeSpan<'_>, from: u32, to: u32, other: u32
     span.problem.node_of(other) == span.node && (from <= at && at < to)
 }
 
-/// Whether a guard comes to being active on each way.
+/// Whether a guard leads to an active leaf on each way.
 fn is_always(guard: &GuardTree) -> bool
     ensures { result ≡ is_always guard.now }
 {
@@ -46,7 +46,8 @@ fn is_always(guard: &GuardTree) -> bool
     }
 }
 
-/// The place of a process that is always active, if it is one from a place on and before another one, or else the first of these.
+/// The place of a process that is always active, if that is one between two places, and otherwise the first of the
+/// two places.
 fn later_cut(span: &NodeSpan<'_>, from: u32, to: u32, other: u32) -> u32
     requires along { AreAlong span.now.problem.now span.now.guards.now span.now.order.now }
     requires other { other < process_count span.now.problem.now }
@@ -62,7 +63,7 @@ fn later_cut(span: &NodeSpan<'_>, from: u32, to: u32, other: u32) -> u32
     span.order.place(other)
 }
 
-/// The place before another one from which on the processes of a node need be looked at.
+/// The first place from which on the processes of a node before another place have to be looked at.
 fn cut(span: &NodeSpan<'_>, to: u32) -> u32
     requires along { AreAlong span.now.problem.now span.now.guards.now span.now.order.now }
     ensures { IsCut span.now.problem.now span.now.order.now span.now.guards.now span.now.node to result }
@@ -74,7 +75,7 @@ fn cut(span: &NodeSpan<'_>, to: u32) -> u32
     from
 }
 
-/// The processes of a node that need be looked at before a place.
+/// The processes of a node before a place that have to be looked at.
 pub(crate) fn span_before<'a>(
     problem: &'a Problem,
     guards: &'a GuardTrees,
@@ -105,7 +106,7 @@ pub(crate) fn span_before<'a>(
     }
 }
 
-/// A tree, or where a process of a span tests a condition too.
+/// A tree that is true where a given one is, or where a process of a span tests a condition.
 fn or_asked(
     alloc: Global,
     span: &NodeSpan<'_>,
@@ -131,7 +132,7 @@ fn or_asked(
     Ok(either)
 }
 
-/// Where a process of a span before a place tests a condition.
+/// A tree that is true where a process of a span before a place tests a condition.
 pub(crate) fn asked(
     alloc: Global,
     span: &NodeSpan<'_>,

@@ -64,7 +64,7 @@ fn end_or(
     Ok(ready)
 }
 
-/// When the node of a process goes on that isn't active everywhere.
+/// When the node of a process that is not always active goes on.
 fn ready_at(
     problem: &Problem,
     forest: &Forest,

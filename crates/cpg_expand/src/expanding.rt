@@ -21,7 +21,7 @@ use cpg_rules::Admitted;
 use cpg_run::{BuildFault, Built};
 use std::alloc::Global;
 
-/// All that is found under an order but its rows: the trees that they are made of, and how good the order is.
+/// All that is found under an order except its rows: the trees that the rows are made of, and how good the order is.
 #[derive(Drop)]
 pub struct Grown {
     /// The order.
@@ -31,11 +31,11 @@ pub struct Grown {
     pub(crate) trees: GrownForest,
     /// The greatest finish of all runs, in time units, with its first scenario by the urgency order.
     pub worst: Peak,
-    /// The greatest excess of all runs, likewise.
+    /// The greatest excess of all runs, with its first scenario by the urgency order.
     pub excess: Peak,
 }
 
-/// How good an order is, by its trees.
+/// How good an order is, measured by its trees.
 fn measured(
     alloc: Global,
     admitted: &Admitted,
@@ -81,7 +81,7 @@ fn grow_with(
     Ok(grown)
 }
 
-/// As `grow`, if no item is too wide.
+/// Does what `grow` does, if no item is too wide.
 pub fn grow_narrow(alloc: Global, admitted: &Admitted, order: Order) -> Result<Grown, OutOfMemory>
     requires topological { IsTopological admitted.now.graph order }
     requires narrow { IsNarrow admitted.now.graph order }
@@ -109,8 +109,8 @@ pub fn grow(alloc: Global, admitted: &Admitted, order: Order) -> Result<Grown, B
     Ok(grown)
 }
 
-/// As `grow`, but an item isn't refused for its views. If one has too many, the leaves of trees are counted on the
-/// way, and `TooWide` shows the least such item if a tree has more than 147,456.
+/// Does what `grow` does, but does not refuse an item for its views. If one has too many, the leaves of trees are
+/// counted on the way, and `TooWide` shows the least such item if a tree has more than 147,456.
 pub fn grow_bounded(alloc: Global, admitted: &Admitted, order: Order) -> Result<Grown, BuildFault>
     requires topological { IsTopological admitted.now.graph order }
     ensures grown { IfOk result (IsGrownFor admitted.now.graph admitted.now.order order) }
@@ -155,7 +155,7 @@ impl Grown {
         })
     }
 
-    /// As `build_bounded`, if no item has too many views.
+    /// Does what `build_bounded` does, if no item has too many views.
     pub fn build(self, alloc: Global, admitted: &Admitted) -> Result<BuiltRows, OutOfMemory>
         requires topological { IsTopological admitted.now.graph self.order }
         requires narrow { IsNarrow admitted.now.graph self.order }

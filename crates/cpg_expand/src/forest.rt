@@ -21,7 +21,7 @@ use std::marker::Model;
 /// From when on a node is ready for its next process.
 #[derive(Drop)]
 pub(crate) enum Ready {
-    /// From the ends of a process on: their tree isn't copied.
+    /// From the ends of a process on. Their tree is not copied.
     After(u32),
     /// From the times of a tree on.
     At(Tree<u64>),
@@ -95,7 +95,7 @@ fn ready_first(alloc: Global, problem: &Problem, count: usize) -> Result<Vec<Rea
 }
 
 impl Forest {
-    /// Nothing is found of a graph.
+    /// A forest in which nothing is found yet.
     pub(crate) fn none(
         alloc: Global,
         problem: &Problem,
@@ -115,7 +115,7 @@ impl Forest {
         })
     }
 
-    /// The times of the items, without all else.
+    /// The times of the items. Everything else is dropped.
     pub(crate) fn into_times(self) -> Vec<Tree<Option<u64>>>
         ensures { result.items ≡ self.times }
     {
@@ -153,6 +153,7 @@ impl Forest {
             (later_by (heard_delay problem.now node condition) (heard_tree problem.now self.now node condition)) further.now) }
     {
         let process = problem.process_of(condition);
+        // an own condition is heard when its process ends, any other at the end of its broadcast
         if problem.node_of(process) == node {
             let both = later_or(&self.ends[process as usize], 0, further)?;
             Ok(both)
@@ -178,12 +179,14 @@ impl Forest {
         ensures both { IfOk result (IsLatest problem.now.faults (ready_by problem.now self.now ready.now) there.now) }
     {
         match ready {
+            // the node goes on when that process ends, 0 if it isn't active
             Ready::After(process) => {
                 // called for its contract: the graph is within its limits
                 let _processes = problem.processes();
                 let both = there.max_later(&self.ends[*process as usize], 0)?;
                 Ok(both)
             }
+            // the node is ready by a tree
             Ready::At(tree) => {
                 let both = tree.max(there)?;
                 Ok(both)
@@ -208,10 +211,12 @@ impl Forest {
         let delay = problem.slot_length(problem.home(item));
         let times = &self.times[item as usize];
         match ready {
+            // the node goes on when that process ends, 0 if it isn't active
             Ready::After(process) => {
                 let both = later_of(times, delay, &self.ends[*process as usize])?;
                 Ok(both)
             }
+            // the node is ready by a tree
             Ready::At(tree) => {
                 let both = tree.max_later(times, delay)?;
                 Ok(both)
@@ -256,10 +261,12 @@ impl Forest {
         let delay = problem.slot_length(problem.home(item));
         let times = &self.times[item as usize];
         match ready {
+            // the node goes on when that process ends, 0 if it isn't active
             Ready::After(process) => {
                 let start = started_of(times, delay, &self.ends[*process as usize], release)?;
                 Ok(start)
             }
+            // the node is ready by a tree
             Ready::At(tree) => {
                 let start = started_or(tree, times, delay, release)?;
                 Ok(start)
@@ -288,7 +295,8 @@ impl Forest {
         Ok(start)
     }
 
-    /// If a process is active, its starts on a node once it is ready and a frame is there, and at a release or later.
+    /// The starts of a process where it is active, and no time elsewhere: once its node is ready and a frame is
+    /// there, and at a release or later.
     fn started_by_frame_where(
         &self,
         problem: &Problem,
@@ -308,11 +316,13 @@ impl Forest {
         let delay = problem.slot_length(problem.home(item));
         let times = &self.times[item as usize];
         match ready {
+            // the node goes on when that process ends, 0 if it isn't active
             Ready::After(process) => {
                 let end = &self.ends[*process as usize];
                 let start = started_of_where(active, times, delay, end, release)?;
                 Ok(start)
             }
+            // the node is ready by a tree
             Ready::At(tree) => {
                 let start = started_or_where(active, tree, times, delay, release)?;
                 Ok(start)
@@ -320,8 +330,8 @@ impl Forest {
         }
     }
 
-    /// If a process is active, its starts on a node once it is ready and an input from another node is there, and at a
-    /// release or later.
+    /// The starts of a process where it is active, and no time elsewhere: once its node is ready and an input from
+    /// another node is there, and at a release or later.
     pub(crate) fn started_by_input_where(
         &self,
         problem: &Problem,
@@ -357,12 +367,14 @@ impl Forest {
         ensures start { IfOk result (IsStartAfter problem.now self.now (ready_by problem.now self.now ready.now) release []) }
     {
         match ready {
+            // the node goes on when that process ends, 0 if it isn't active
             Ready::After(process) => {
                 // called for its contract: the graph is within its limits
                 let _processes = problem.processes();
                 let start = self.ends[*process as usize].no_earlier(release)?;
                 Ok(start)
             }
+            // the node is ready by a tree
             Ready::At(tree) => {
                 let start = started(tree, release)?;
                 Ok(start)
@@ -370,7 +382,8 @@ impl Forest {
         }
     }
 
-    /// If a process is active, its starts on a node once it is ready and at a release or later.
+    /// The starts of a process where it is active, and no time elsewhere: once its node is ready, and at a release or
+    /// later.
     pub(crate) fn started_where(
         &self,
         problem: &Problem,
@@ -384,6 +397,7 @@ impl Forest {
         ensures tree { IfOk result (IsTree problem.now) }
         ensures start { IfOk result (IsStartWhere problem.now self.now active.now (ready_by problem.now self.now ready.now) release []) }
     {
+        // a start without regard to the activity, which is then cut to where the process is active
         let start = self.started(problem, ready, release)?;
         let never = Tree::constant(active.alloc(), None, problem.faults())?;
         let there = Tree::pick(active, &start, &never)?;

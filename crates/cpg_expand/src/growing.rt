@@ -17,7 +17,7 @@ use cpg_rules::Admitted;
 use cpg_run::{BuildFault, FrozenTimes};
 use std::alloc::Global;
 
-/// Trees, and the frozen times under which they tell the runs.
+/// Trees, and the frozen times under which they give the runs.
 #[derive(Drop)]
 pub(crate) struct GrownForest {
     pub(crate) frozen: FrozenTimes,
@@ -60,7 +60,7 @@ fn few_free(
     few(&forest.free[node as usize], forest.wide)
 }
 
-/// Refuses what a process has left if a tree of it has too many leaves.
+/// Refuses the trees that a process leaves behind, if one of them has too many leaves.
 fn few_left(
     problem: &Problem,
     plan: &Plan,

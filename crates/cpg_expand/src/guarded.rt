@@ -40,7 +40,7 @@ fn by_value<T: Copy + Eq>(
     Ok(picked)
 }
 
-/// Where a guard comes to an activation.
+/// A tree that is true where a guard leads to an active leaf.
 #[derive(Clone, Copy)]
 struct Activity<'a> {
     alloc: Global,
@@ -62,6 +62,7 @@ impl Descent<bool> for Activity<'_> {
 
     ghost large = { λ a b. ⊥ };
 
+    // nothing can be too wide here, so leaves aren't counted
     fn wide(&self) -> Option<u32> {
         None
     }
@@ -82,7 +83,7 @@ impl Descent<bool> for Activity<'_> {
     }
 }
 
-/// Where a guard comes to an activation.
+/// A tree that is true where a guard leads to an active leaf.
 pub(crate) fn active(
     alloc: Global,
     problem: &Problem,
@@ -96,12 +97,13 @@ pub(crate) fn active(
     let activity = Activity { alloc, problem };
     match tree_down(alloc, &activity, guard) {
         Ok(active) => Ok(active),
+        // `wide` is `None`, so no tree is refused as too wide
         Err(BuildFault::TooWide(_)) => unreachable!(),
         Err(BuildFault::OutOfMemory) => Err(OutOfMemory),
     }
 }
 
-/// Where a guard tests a condition.
+/// A tree that is true where a guard tests a condition.
 pub(crate) fn tested_on(
     alloc: Global,
     problem: &Problem,
@@ -114,15 +116,18 @@ pub(crate) fn tested_on(
     ensures tested { IfOk result (IsTestedOn problem.now.faults guard.now wanted) }
 {
     match guard.top() {
+        // no test stands on this way
         GuardTop::Leaf(_) => {
             let never = Tree::constant(alloc, false, problem.faults())?;
             Ok(never)
         }
         GuardTop::Test { condition, no, yes } => {
+            // the test is here, so it is on each way from here on
             if condition == wanted {
                 let always = Tree::constant(alloc, true, problem.faults())?;
                 return Ok(always);
             }
+            // otherwise it may be on either side
             let no = tested_on(alloc, problem, no, wanted)?;
             let yes = tested_on(alloc, problem, yes, wanted)?;
             let picked = by_value(alloc, problem, condition, &yes, &no)?;
@@ -160,6 +165,7 @@ impl Descent<u64> for GuardHearing<'_> {
         forest.wide
     }
 
+    // a leaf tests nothing, so there is nothing to wait for
     fn leaf(&self, _activation: Activation) -> Result<Tree<u64>, BuildFault> {
         let constant = Tree::constant(self.alloc, 0, self.problem.faults())?;
         Ok(constant)
@@ -171,6 +177,7 @@ impl Descent<u64> for GuardHearing<'_> {
         no: &Tree<u64>,
         yes: &Tree<u64>,
     ) -> Result<Tree<u64>, OutOfMemory> {
+        // the value decides which further tests follow; this condition has to be heard before them
         let further = by_value(self.alloc, self.problem, condition, yes, no)?;
         let both = self
             .forest
@@ -209,6 +216,7 @@ fn are_own(problem: &Problem, edges: &[u32]) -> bool
     requires { All (λ e. e < edge_count problem.now) edges.now }
     ensures { OnTrue result (All (λ e. is_message problem.now e ≡ false) edges.now) }
 {
+    // no input is left
     let Some((edge, others)) = edges.split_first() else {
         return true;
     };
@@ -218,7 +226,7 @@ fn are_own(problem: &Problem, edges: &[u32]) -> bool
     are_own(problem, others)
 }
 
-/// The starts of a process that waits until its node is ready, its release and for these inputs.
+/// The starts of a process that waits for its node, its release and these inputs.
 fn start_after(
     problem: &Problem,
     forest: &Forest,
@@ -233,19 +241,22 @@ fn start_after(
     ensures start { IfOk result (IsStartAfter problem.now forest.now (ready_by problem.now forest.now wait.now) release edges.now) }
     ensures fault { IfErr result (ShowsLarge forest.now.wide (IsLargeWith problem.now forest.now (ready_by problem.now forest.now wait.now) edges.now)) }
 {
+    // no input is left, so the node and the release alone are waited for
     let Some((edge, others)) = edges.split_first() else {
         let start = forest.started(problem, wait, release)?;
         return Ok(start);
     };
-    // what comes from the node itself is there once the node is ready
+    // an input from the node itself is there once the node is ready
     if !problem.is_message(*edge) {
         let start = start_after(problem, forest, wait, release, others)?;
         return Ok(start);
     }
+    // this is the last input from another node, so the starts are made at once, with no tree of the wait before
     if are_own(problem, others) {
         let start = forest.started_by_input(problem, wait, *edge, release)?;
         return Ok(start);
     }
+    // further messages follow, so this one becomes a part of the wait
     let there = forest.ready_and_input(problem, wait, *edge)?;
     few(&there, forest.wide)?;
     let both = Ready::At(there);
@@ -253,7 +264,8 @@ fn start_after(
     Ok(start)
 }
 
-/// If a process is active, its starts when it waits until its node is ready, its release and for these inputs.
+/// The starts of a process where it is active, and no time elsewhere, if it waits for its node, its release and these
+/// inputs.
 fn start_where(
     problem: &Problem,
     forest: &Forest,
@@ -270,19 +282,22 @@ fn start_where(
     ensures start { IfOk result (IsStartWhere problem.now forest.now active.now (ready_by problem.now forest.now wait.now) release edges.now) }
     ensures fault { IfErr result (ShowsLarge forest.now.wide (IsLargeWith problem.now forest.now (ready_by problem.now forest.now wait.now) edges.now)) }
 {
+    // no input is left, so the node and the release alone are waited for
     let Some((edge, others)) = edges.split_first() else {
         let start = forest.started_where(problem, wait, release, active)?;
         return Ok(start);
     };
-    // what comes from the node itself is there once the node is ready
+    // an input from the node itself is there once the node is ready
     if !problem.is_message(*edge) {
         let start = start_where(problem, forest, wait, release, others, active)?;
         return Ok(start);
     }
+    // this is the last input from another node, so the starts are made at once, with no tree of the wait before
     if are_own(problem, others) {
         let start = forest.started_by_input_where(problem, wait, *edge, release, active)?;
         return Ok(start);
     }
+    // further messages follow, so this one becomes a part of the wait
     let there = forest.ready_and_input(problem, wait, *edge)?;
     few(&there, forest.wide)?;
     let both = Ready::At(there);
@@ -295,8 +310,10 @@ fn is_for_all(activation: Activation) -> bool
     ensures { OnTrue result (WaitsForAll activation) }
 {
     match activation {
+        // an inactive leaf has no start, so any inputs are right for it
         Activation::Inactive => true,
         Activation::Plain => true,
+        // it waits for one input alone
         Activation::By(_) => false,
     }
 }
@@ -320,13 +337,13 @@ fn waits_for_all(guard: &GuardTree) -> bool
     }
 }
 
-/// Whether the starts with a guard are made only where it comes to an activation: it tests something, and each activation
-/// that it leads to waits for the same.
+/// Whether the starts with a guard are made only where it leads to an active leaf: it tests something, and each
+/// active leaf waits for the same inputs.
 fn is_by_activity(guard: &GuardTree) -> bool
     ensures { OnTrue result (AreLeaves WaitsForAll guard.now) }
 {
     match guard.top() {
-        // if nothing is tested, the starts may share the nodes of ends
+        // if nothing is tested, the starts can share the nodes of the ends
         GuardTop::Leaf(_) => false,
         GuardTop::Test {
             condition: _,
@@ -336,7 +353,7 @@ fn is_by_activity(guard: &GuardTree) -> bool
     }
 }
 
-/// The starts of a process with an activation that waits until its node is ready, its release and for its inputs.
+/// The starts of a process with an activation: it waits for its node, its release and its inputs.
 fn start_by(
     alloc: Global,
     problem: &Problem,
@@ -356,21 +373,24 @@ fn start_by(
 {
     match activation {
         Activation::Inactive => {
+            // an inactive process never starts
             let constant = Tree::constant(alloc, None, problem.faults())?;
             Ok(constant)
         }
         Activation::Plain => {
+            // all inputs are waited for
             let start = start_after(problem, forest, wait, release, inputs)?;
             Ok(start)
         }
         Activation::By(edge) => {
+            // the one input that the activation names is waited for
             let start = start_after(problem, forest, wait, release, &[edge])?;
             Ok(start)
         }
     }
 }
 
-/// The starts of a process that waits until its node is ready, its release and for its inputs.
+/// The starts of a process that waits for its node, its release and its inputs.
 #[derive(Clone, Copy)]
 struct Starting<'a> {
     alloc: Global,
@@ -424,8 +444,8 @@ impl Descent<Option<u64>> for Starting<'_> {
     }
 }
 
-/// The starts of a process with a guard that waits until its node is ready, its release and for its inputs, by where the guard
-/// comes to an activation.
+/// The starts of a process with a guard: it waits for its node, its release and its inputs. `active` says where the
+/// guard leads to an active leaf.
 pub(crate) fn start(
     problem: &Problem,
     forest: &Forest,
@@ -448,10 +468,12 @@ pub(crate) fn start(
     ensures fault { IfErr result (ShowsLarge forest.now.wide (IsLargeStart problem.now forest.now (ready_by problem.now forest.now wait.now) release inputs.now guard.now)) }
 {
     if is_by_activity(guard) {
+        // the guard tests something, and each active leaf waits for all inputs: one tree serves all leaves
         let start = start_where(problem, forest, wait, release, inputs, active)?;
         return Ok(start);
     }
     let alloc = active.alloc();
+    // otherwise the starts are made leaf by leaf, down the guard
     let starting = Starting {
         alloc,
         problem,

@@ -1,5 +1,5 @@
-//! The latest time that a frozen item would have, by each thing that it waits for alone: a tree of all of them together may be
-//! far wider than the item's row.
+//! The latest time that a frozen item would have, found for each thing that it waits for separately: a tree of all of
+//! them together can be far wider than the item's row.
 ghost use Rattle.std.specs.Prelude.{◌≡◌, ◌<◌, ◌≤◌, All, IfOk, length};
 ghost use Rattle.cpg_base.specs.Bus.{round, slot_length};
 ghost use Rattle.cpg_base.specs.Graph.{condition_count, edge_count, home, item_count, process_at, process_count};
@@ -31,7 +31,7 @@ fn most_where(problem: &Problem, tree: &Tree<Option<u64>>, wanted: &Tree<bool>) 
     cpg_tree_columns::most_where(tree, wanted)
 }
 
-/// A time, or another one later by a delay, whichever is greater.
+/// The greater of a time and of another one later by a delay.
 fn or_later(latest: u64, time: Option<u64>, delay: u64) -> u64
     ensures { result ≡ or_later latest delay time }
 {
@@ -41,7 +41,7 @@ fn or_later(latest: u64, time: Option<u64>, delay: u64) -> u64
     }
 }
 
-/// A time, or when a frame is there at the latest where a tree is true, whichever is greater.
+/// The greater of a time and of the latest time at which a frame is there where a tree is true.
 fn after_frame(
     problem: &Problem,
     forest: &Forest,
@@ -52,6 +52,7 @@ fn after_frame(
     requires forest { HasTrees problem.now forest.now }
     requires item { item < item_count problem.now }
     requires wanted { IsTree problem.now wanted.now }
+    // the result is `latest`, raised to a slot after the latest time of the item where `wanted` is true
     ensures { IsRaised problem.now (HasLater (times_of problem.now forest.now item) wanted.now
         (slot_length problem.now (home problem.now item))) latest result }
 {
@@ -59,7 +60,7 @@ fn after_frame(
     or_later(latest, time, problem.slot_length(problem.home(item)))
 }
 
-/// A time, or when a process has ended at the latest where a tree is true, whichever is greater.
+/// The greater of a time and of the latest end of a process where a tree is true.
 fn after_end(
     problem: &Problem,
     forest: &Forest,
@@ -76,7 +77,7 @@ fn after_end(
     or_later(latest, time, 0)
 }
 
-/// A time, or when a node has heard a condition at the latest where a tree is true, whichever is greater.
+/// The greater of a time and of the latest time at which a node has heard a condition where a tree is true.
 fn after_condition(
     problem: &Problem,
     forest: &Forest,
@@ -91,6 +92,7 @@ fn after_condition(
     ensures { IsRaised problem.now (HasLater (heard_tree problem.now forest.now node condition) wanted.now
         (heard_delay problem.now node condition)) latest result }
 {
+    // an own condition is heard when its process ends, any other at the end of its broadcast
     let process = problem.process_of(condition);
     if problem.node_of(process) == node {
         return after_end(problem, forest, process, wanted, latest);
@@ -104,8 +106,8 @@ fn after_condition(
     )
 }
 
-/// A time, or when a process has ended at the latest where a tree is true, whichever is greater, if it is one of a span before a
-/// place.
+/// The greater of a time and of the latest end of a process where a tree is true, if the process is one of a span
+/// before a place.
 fn after_one(
     span: &NodeSpan<'_>,
     forest: &Forest,
@@ -121,13 +123,14 @@ fn after_one(
     ensures { IsRaised span.now.problem.now
         (HasEnded span.now.problem.now span.now.order.now forest.now active.now span.now.node span.now.from to other) latest result }
 {
+    // this process isn't one of the span
     if !stands_between(span, span.from, to, other) {
         return latest;
     }
     after_end(span.problem, forest, other, active, latest)
 }
 
-/// A time, or when the last of the processes of a span before a place has ended at the latest, whichever is greater.
+/// The greater of a time and of the latest end of any process of a span before a place.
 fn after_ends(span: &NodeSpan<'_>, forest: &Forest, active: &Tree<bool>, to: u32, first: u64) -> u64
     requires along { AreAlong span.now.problem.now span.now.guards.now span.now.order.now }
     requires forest { HasTrees span.now.problem.now forest.now }
@@ -143,7 +146,7 @@ fn after_ends(span: &NodeSpan<'_>, forest: &Forest, active: &Tree<bool>, to: u32
     latest
 }
 
-/// Where two trees are true.
+/// A tree that is true where both of two trees are.
 fn both(
     alloc: Global,
     problem: &Problem,
@@ -160,8 +163,8 @@ fn both(
     Ok(both)
 }
 
-/// A time, or when a node has heard a condition at the latest where a guard of a span tests it, before a place and where a tree is
-/// true, whichever is greater.
+/// The greater of a time and of the latest time at which a node has heard a condition where a tree is true and a
+/// guard of a span before a place tests it.
 fn after_asked(
     alloc: Global,
     span: &NodeSpan<'_>,
@@ -179,7 +182,7 @@ fn after_asked(
         (HasHeard span.now.problem.now span.now.order.now span.now.guards.now forest.now active.now span.now.node span.now.from to condition) latest) }
 {
     let problem = span.problem;
-    // where it is heard no later, it doesn't matter which guards test it
+    // if the condition is heard no later than that, it does not matter which guards test it
     if after_condition(problem, forest, span.node, condition, active, latest) == latest {
         return Ok(latest);
     }
@@ -189,8 +192,8 @@ fn after_asked(
     Ok(heard)
 }
 
-/// A time, or when a node has heard at the latest what a guard of a span tests, before a place and where a tree is true,
-/// whichever is greater.
+/// The greater of a time and of the latest time at which a node has heard what a guard of a span before a place
+/// tests, where a tree is true.
 fn after_hearing(
     alloc: Global,
     span: &NodeSpan<'_>,
@@ -213,7 +216,7 @@ fn after_hearing(
     Ok(latest)
 }
 
-/// A time, or when an input from another node is there at the latest, whichever is greater.
+/// The greater of a time and of the latest time at which an input from another node is there.
 fn after_input(
     problem: &Problem,
     forest: &Forest,
@@ -226,14 +229,14 @@ fn after_input(
     requires edge { edge < edge_count problem.now }
     ensures { IsRaised problem.now (HasInput problem.now forest.now active.now edge) latest result }
 {
-    // what comes from the node itself is there once the node is ready
+    // an input from the node itself is there once the node is ready
     if !problem.is_message(edge) {
         return latest;
     }
     after_frame(problem, forest, problem.message_item(edge), active, latest)
 }
 
-/// A time, or when the last of these inputs is there at the latest, whichever is greater.
+/// The greater of a time and of the latest time at which any of these inputs is there.
 fn after_inputs(
     problem: &Problem,
     forest: &Forest,
@@ -253,8 +256,9 @@ fn after_inputs(
     latest
 }
 
-/// The latest start of a process that waits until those before it on its node have ended and the node has heard what their
-/// guards test and its own, its release and for these inputs; `None` exactly if it is never active.
+/// The latest start of a process. It waits until the processes before it on its node have ended, until the node has
+/// heard what their guards and its own test, for its release and for these inputs. `None` exactly if the process is
+/// never active.
 pub(crate) fn latest_start(
     alloc: Global,
     span: &NodeSpan<'_>,
@@ -274,15 +278,17 @@ pub(crate) fn latest_start(
     let problem = span.problem;
     let at = span.order.place(process);
     let ready = Tree::constant(alloc, Some(problem.release(process)), problem.faults())?;
+    // no scenario has the process active
     let Some(first) = most_where(problem, &ready, active) else {
         return Ok(None);
     };
+    // first the ends before it, then what is heard, then the inputs: each step may raise the latest start
     let ended = after_ends(span, forest, active, at, first);
     let heard = after_hearing(alloc, span, forest, active, at + 1, ended)?;
     Ok(Some(after_inputs(problem, forest, active, edges, heard)))
 }
 
-/// What is sent, and where: the item, where it goes, and the length of a round.
+/// An item that is sent: its number, the tree of where it goes, and the length of a round.
 #[derive(Clone, Copy)]
 pub(crate) struct Sent<'a> {
     pub(crate) item: u32,
@@ -290,8 +296,8 @@ pub(crate) struct Sent<'a> {
     pub(crate) round: u64,
 }
 
-/// A time, or a round after an item was sent at the latest where another one goes, whichever is greater, if it stands before that one
-/// in the queue of its node.
+/// The greater of a time and of a round after the latest time at which an item is sent where another one goes, if it
+/// stands before that one in the queue of its node.
 fn after_queued(
     problem: &Problem,
     order: &Order,
@@ -308,6 +314,7 @@ fn after_queued(
     requires other { other < item_count problem.now }
     ensures { IsRaised problem.now (HasQueued problem.now order.now forest.now sent.now.goes.now sent.now.item other) latest result }
 {
+    // the other item doesn't stand before this one
     if !stands_before(problem, order, other, sent.item) {
         return latest;
     }
@@ -315,7 +322,8 @@ fn after_queued(
     or_later(latest, time, sent.round)
 }
 
-/// A time, or a round after the last of those that stand before an item in the queue of its node, whichever is greater.
+/// The greater of a time and of a round after the last of the items that stand before an item in the queue of its
+/// node.
 fn after_queue(
     problem: &Problem,
     order: &Order,
@@ -337,8 +345,8 @@ fn after_queue(
     latest
 }
 
-/// The latest time of an item that is sent once its producer has ended and its slots are free, where it goes: the first slot from
-/// the latest end on, or a round after what stands before it, whichever is later.
+/// The latest time of an item where it goes. It is sent once its producer has ended and its slots are free: in the
+/// first slot from the latest end on, or a round after what stands before it, whichever is later.
 pub(crate) fn latest_send(
     problem: &Problem,
     order: &Order,
@@ -355,6 +363,7 @@ pub(crate) fn latest_send(
     requires end { IsTree problem.now end.now }
     ensures { IsLatestSend problem.now order.now forest.now share sent.now.goes.now end.now sent.now.item result }
 {
+    // an item that never goes has no latest time
     let last = most_where(problem, end, sent.goes)?;
     let first = slot_at(share, Some(last));
     Some(after_queue(problem, order, forest, sent, first))

@@ -1,6 +1,6 @@
-//! Tables by trees: along an order the tree of each process's start and end and of each time at which something is sent, which
-//! tells it in every scenario; then a row for each item, the columns of its tree, and the greatest finish and excess. No
-//! scenario is listed.
+//! Tables by trees. Along an order a tree is made of each process's start and end and of each time at which something
+//! is sent: it gives that time in every scenario. Then each item gets a row, the columns of its tree, and the
+//! greatest finish and excess are found. No scenario is listed.
 #![tactic(auto)]
 
 mod activity;

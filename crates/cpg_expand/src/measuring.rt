@@ -27,7 +27,7 @@ pub struct Peak {
 }
 
 impl Peak {
-    /// No time of any process.
+    /// The peak if no process has a time.
     fn none(alloc: Global, problem: &Problem) -> Result<Peak, OutOfMemory>
         ensures { IfOk result (λ peak. peak ≡ record { time = 0; scenario = zero_scenario problem.now; process = None }) }
     {
@@ -39,7 +39,7 @@ impl Peak {
         })
     }
 
-    /// Whether a time that a later process first has in a scenario goes before this.
+    /// Whether a time that a later process first has in a scenario goes before this peak.
     fn is_under(&self, problem: &Problem, urgency: &Order, time: u64, scenario: &Scenario) -> bool
         requires order { length urgency.now ≡ process_count problem.now }
         requires own { IsScenario problem.now self.now.scenario }
@@ -58,7 +58,7 @@ impl Peak {
         }
     }
 
-    /// This, or a time that a later process first has in a scenario, if that goes before.
+    /// This peak, or the time that a later process first has in a scenario, if that goes before it.
     fn or_time(
         self,
         problem: &Problem,
@@ -83,7 +83,7 @@ impl Peak {
         }
     }
 
-    /// This, or the greatest time of the tree of a later process, if that goes before.
+    /// This peak, or the greatest time of the tree of a later process, if that goes before it.
     fn or(
         self,
         problem: &Problem,
@@ -102,7 +102,7 @@ impl Peak {
         }
     }
 
-    /// This, or how far the ends of a later process are past its due at most, if that goes before.
+    /// This peak, or how far the ends of a later process are past its due at most, if that goes before it.
     fn or_past(
         self,
         problem: &Problem,

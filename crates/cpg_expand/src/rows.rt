@@ -37,7 +37,7 @@ fn start_entries(
     Ok(columns)
 }
 
-/// The row of an item: that of a start with its columns merged.
+/// The row of an item. The columns of a start are merged.
 fn row(
     alloc: Global,
     problem: &Problem,
@@ -54,13 +54,13 @@ fn row(
         let columns = start_entries(alloc, problem, urgency, tree)?;
         return Ok(Row::new(item, columns));
     }
-    // by their least scenarios
+    // the columns stand by their least scenarios
     let columns = columns(tree, problem, urgency)?;
     Ok(Row::new(item, columns))
 }
 
-/// The columns of the rows so far in all tables with those of one more, if there is an item to name: `TooWide` names it if
-/// that row or all of them have too many.
+/// The number of columns of the rows so far in all tables, with those of one more row, if there is an item to name.
+/// `TooWide` names it if that row, or all rows together, have too many.
 fn load_with(
     problem: &Problem,
     wide: Option<u32>,
@@ -89,8 +89,8 @@ fn load_with(
     Ok(sum)
 }
 
-/// A row for each item. Its tree, which is the larger, isn't kept beside it. If there is an item to name, columns are counted:
-/// `TooWide` names it if a row has more than 16,384, or all rows of all tables more than 524,288.
+/// A row for each item. Its tree, which is larger, is not kept beside it. If there is an item to name, columns are
+/// counted: `TooWide` names it if a row has more than 16,384, or all rows of all tables more than 524,288.
 pub(crate) fn rows(
     alloc: Global,
     problem: &Problem,

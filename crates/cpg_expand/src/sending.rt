@@ -25,7 +25,7 @@ use cpg_run::FrozenTimes;
 use cpg_tree::{Tree, value};
 use std::alloc::Global;
 
-/// Where a tree is true and a condition has a value.
+/// A tree that is true where a given one is and a condition has a value.
 fn tested(
     alloc: Global,
     problem: &Problem,
@@ -56,14 +56,17 @@ fn asked(problem: &Problem, edge: u32) -> Option<(u32, bool)>
     let source = problem.source(edge);
     match problem.edges()[edge as usize].when {
         Some(wanted) => match problem.condition_of(source) {
+            // the edge asks for a value of its source's condition
             Some(condition) => Some((condition, wanted)),
+            // a source without a condition: the edge is live with its source
             None => None,
         },
+        // the edge asks for nothing
         None => None,
     }
 }
 
-/// Where an edge is live, by where its source is active.
+/// A tree that is true where an edge is live, given where its source is active.
 fn live(
     alloc: Global,
     problem: &Problem,
@@ -77,10 +80,12 @@ fn live(
     ensures live { IfOk result (IsLiveTree problem.now edge active.now) }
 {
     match asked(problem, edge) {
+        // the source is active and the condition has the value
         Some(question) => {
             let tested = tested(alloc, problem, active, question.0, question.1)?;
             Ok(tested)
         }
+        // the edge is live exactly where its source is active
         None => {
             let same = same_as(active, true)?;
             Ok(same)
@@ -88,7 +93,7 @@ fn live(
     }
 }
 
-/// Where an item is sent, by where its producer is active.
+/// A tree that is true where an item is sent, given where its producer is active.
 pub(crate) fn goes(
     alloc: Global,
     problem: &Problem,
@@ -103,10 +108,12 @@ pub(crate) fn goes(
     ensures goes { IfOk result (IsGoesTree problem.now item active.now) }
 {
     match problem.item(item) {
+        // a message goes where its edge is live
         Item::Message(edge) => {
             let live = live(alloc, problem, active, edge)?;
             Ok(live)
         }
+        // anything else goes where its producer is active
         _ => {
             let same = same_as(active, true)?;
             Ok(same)
@@ -130,6 +137,7 @@ fn unfrozen_sent(
     ensures sent { IfOk result (IsSentTree problem.now.faults share goes.now end.now free.now) }
 {
     let slots = slots(share, end, free)?;
+    // the item goes in each scenario, so no fork on `goes` is needed
     if goes.is_true() {
         return Ok(slots);
     }
@@ -138,8 +146,8 @@ fn unfrozen_sent(
     Ok(sent)
 }
 
-/// When the slots are free once an item is sent. Made only if an item waits for that: behind a frozen one the tree of that may
-/// be far wider than its row.
+/// When the slots are free once an item is sent. It is made only if an item waits for it, since behind a frozen item
+/// this tree can be far wider than the item's row.
 fn freed(
     problem: &Problem,
     order: &Order,
@@ -159,14 +167,17 @@ fn freed(
         IsQueuedFor problem.now order.now (place order.now (producer problem.now item)) (home problem.now item) →
         IsFreeTree problem.now.faults round goes.now sent.now free.now t) }
 {
+    // the item goes in each scenario
     if goes.is_true() {
         let after = later(sent, round)?;
         return Ok(after);
     }
+    // nothing reads the tree, so any tree is right, and this one has no fork on what was free before
     if !is_queued_for(problem, order, item) {
         let after = later(sent, round)?;
         return Ok(after);
     }
+    // where the item goes, a round after it; elsewhere as before
     let freed = goes.pick_later(sent, round, free)?;
     Ok(freed)
 }
@@ -298,6 +309,7 @@ fn sent_of(
     ensures sent { IfOk result (IsSentFor course.now.problem.now course.now.order.now goes.now item forest.now frozen.old frozen.new) }
 {
     let problem = course.problem;
+    // a frozen item is sent at one time, the latest that it would have
     if problem.is_frozen(item) {
         let latest = latest_of(course, forest, goes, item);
         let sent = freeze(problem, frozen, item, goes, latest)?;
@@ -330,6 +342,7 @@ fn add(
     ensures added { IfOk result (λ u. IsItemAdded course.now.problem.now course.now.order.now active.now item forest.old forest.new frozen.old frozen.new) }
 {
     let problem = course.problem;
+    // where the item goes, its times, and when the slots are free behind it
     let goes = goes(alloc, problem, active, item)?;
     let sent = sent_of(alloc, course, frozen, forest, &goes, item)?;
     let free = free_then(

@@ -32,8 +32,8 @@ fn few_ready(problem: &Problem, forest: &Forest, node: u32) -> Result<(), BuildF
     }
 }
 
-/// From when on a node is ready for a process with a guard and has heard what it tests. `None` if it tests nothing: from
-/// when on the node is ready.
+/// From when on a node is ready for a process with a guard and has heard what the guard tests. `None` if the guard
+/// tests nothing: then only the node's readiness counts.
 pub(crate) fn waiting(
     alloc: Global,
     problem: &Problem,
@@ -66,8 +66,8 @@ pub(crate) fn waiting(
     }
 }
 
-/// What a process waits for on its node: what it has heard too, or if there is nothing of that the node itself. The
-/// contract alone names `problem`.
+/// What a process waits for on its node: when the node is ready and has heard what is tested, or, if nothing is
+/// tested, when the node is ready. The contract alone names `problem`.
 pub(crate) fn wait_for<'a>(
     problem: &Problem,
     forest: &'a Forest,

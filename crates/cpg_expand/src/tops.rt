@@ -23,7 +23,7 @@ pub(crate) fn tops_of(
     Ok(tops)
 }
 
-/// How far the greatest number of each process is past its due, if it is.
+/// How far the greatest number of each process is past the process's due, if it is past it.
 pub(crate) fn past_tops(
     alloc: Global,
     problem: &Problem,

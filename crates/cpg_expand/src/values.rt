@@ -103,7 +103,7 @@ pub(crate) fn started_of(
     )
 }
 
-/// Where a tree is true, the starts that `started_or` has, and none elsewhere.
+/// The starts that `started_or` has where a tree is true, and no start elsewhere.
 pub(crate) fn started_or_where(
     active: &Tree<bool>,
     tree: &Tree<u64>,
@@ -128,7 +128,7 @@ pub(crate) fn started_or_where(
     )
 }
 
-/// Where a tree is true, the starts that `started_of` has, and none elsewhere.
+/// The starts that `started_of` has where a tree is true, and no start elsewhere.
 pub(crate) fn started_of_where(
     active: &Tree<bool>,
     tree: &Tree<Option<u64>>,
@@ -153,7 +153,7 @@ pub(crate) fn started_of_where(
     )
 }
 
-/// Where a tree has a value.
+/// A tree that is true where a given one has a value.
 pub(crate) fn same_as(tree: &Tree<bool>, wanted: bool) -> Result<Tree<bool>, OutOfMemory>
     ensures is { IfOk result (IsMap (λ x z. z ≡ same_bool wanted x) tree.now) }
     ensures each { IfOk result (λ t. HasOnePathEach t.faults t.paths) }
@@ -169,7 +169,7 @@ fn is_same(first: bool, second: bool) -> bool
     first == second
 }
 
-/// The time, if it is so.
+/// The time, if the value is true.
 fn time_if(is: bool, time: u64) -> Option<u64>
     ensures { result ≡ time_if time is }
 {
@@ -277,7 +277,7 @@ pub(crate) fn slots(
     asked(end, &slots)
 }
 
-/// How far a time is past its due, if it is.
+/// How far a time is past its due, if it is past it.
 pub(crate) fn time_past(time: Option<u64>, due: u64) -> Option<u64>
     ensures { result ≡ time_past due time }
 {
@@ -285,7 +285,7 @@ pub(crate) fn time_past(time: Option<u64>, due: u64) -> Option<u64>
     if due < time { Some(time - due) } else { None }
 }
 
-/// How far the times of a tree are past their due, if they are.
+/// How far the times of a tree are past their due, if they are past it.
 pub(crate) fn past(tree: &Tree<Option<u64>>, due: u64) -> Result<Tree<Option<u64>>, OutOfMemory>
     ensures is { IfOk result (IsMap (λ x z. z ≡ time_past due x) tree.now) }
     ensures each { IfOk result (λ t. HasOnePathEach t.faults t.paths) }

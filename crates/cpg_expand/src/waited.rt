@@ -16,7 +16,8 @@ fn waits_behind(problem: &Problem, order: &Order, node: u32, at: u32, other: u32
     problem.node_of(other) == node && (at < order.place(other) && !problem.is_frozen(other))
 }
 
-/// Whether a process behind a process is on the same node and isn't frozen: the start of one that is rests on no tree of both.
+/// Whether some process behind a given one is on the same node and is not frozen. The start of a frozen process does
+/// not rest on a tree of both.
 pub(crate) fn is_waited_for(problem: &Problem, order: &Order, process: u32) -> bool
     requires process { process < process_count problem.now }
     requires order { length order.now ≡ process_count problem.now }
@@ -58,8 +59,8 @@ pub(crate) fn is_queued_from(problem: &Problem, order: &Order, node: u32, at: u3
     false
 }
 
-/// Whether an item that isn't frozen goes by when the slots of an item's node are free once that one is sent. One that is
-/// frozen rests on no tree of that.
+/// Whether some item that is not frozen waits until the slots of an item's node are free after that item. A frozen
+/// item does not rest on such a tree.
 pub(crate) fn is_queued_for(problem: &Problem, order: &Order, item: u32) -> bool
     requires item { item < item_count problem.now }
     requires order { length order.now ≡ process_count problem.now }

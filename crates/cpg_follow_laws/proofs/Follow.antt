@@ -45,6 +45,7 @@ use Rattle.cpg_follow_laws.proofs.Reports.{told_by_time, tells_by_time}
 -- the frames of a turn are fine, one after another
 module _ {g : Graph} {tables : List NodeTable} {w : World} (k : Played g tables w) (c : Cluster)
     (r : Reached g tables w c) (a : ℕ) (l : a < length g.nodes) (time : ℕ) where
+  -- frames of the turn, heard one after another by a node that keeps what is true, are never strange
   fine : (fs : List Frame) (d : Dispatcher) (table : d.table ≡ own_table g a (table_at tables a))
       (known : Literal → Type 0) →
       Keeps g.faults d.heard known →
@@ -64,7 +65,7 @@ module _ {g : Graph} {tables : List NodeTable} {w : World} (k : Played g tables 
         ]) (λ e n. there e (Contains-rest f fs e n)),
   )
 
-  -- an end that is true fits what is kept, where that is true
+  -- an end that is true fits what is kept, if that is true too
   fits : (ranges : List Range) (known : Literal → Type 0) → Keeps g.faults ranges known →
       ((m : Literal) → known m → holds w.scenario m ≡ true) → (e : Ended) →
       IsTrueEnd g w.scenario (own_table g a (table_at tables a)) e →
@@ -83,6 +84,7 @@ module _ {g : Graph} {tables : List NodeTable} {w : World} (k : Played g tables 
           let b = within_kept k.setting ranges known keeps sound (value_variable d) q.0 in
           (omega (arith, b.0, q.1), omega (arith, b.1, q.1))
 
+  -- frames that are heard one after another leave the ranges that they cut
   heard_all : (frames : List Frame) (d : Dispatcher) →
       (hear_all d frames).heard ≡ fold (hear_frame d.table) d.heard frames
   heard_all [] d = refl
@@ -92,6 +94,7 @@ module _ {g : Graph} {tables : List NodeTable} {w : World} (k : Played g tables 
   heard_finished [] d = refl
   heard_finished (e ∷ es) d = heard_finished es (finished d e)
 
+  -- given that the node has a next instant and waits on no node
   module _ (e : next (dispatcher_at c a) ≡ Some time)
       (free : (b : ℕ) → b < length g.nodes → waits_on g c a time b ≡ false) where
     abbrev ready : Dispatcher
@@ -103,6 +106,7 @@ module _ {g : Graph} {tables : List NodeTable} {w : World} (k : Played g tables 
     table_is : ready.table ≡ own_table g a (table_at tables a)
     table_is = table_ready k c r a l time e
 
+    -- before its turn, and after its reports, a node still keeps all that it has learnt by its last turn
     pub keeps_ready : Keeps g.faults ready.heard (Learnt g tables w.scenario a (by (r.holds a l).last))
     keeps_ready = subst (λ h. Keeps g.faults h (Learnt g tables w.scenario a (by (r.holds a l).last)))
         (sym (heard_finished (map (λ (q : ℕ × Ended). q.1) (reports_now g w (dispatcher_at c a) time))
@@ -112,6 +116,7 @@ module _ {g : Graph} {tables : List NodeTable} {w : World} (k : Played g tables 
     all_fine = fine frames ready table_is
         (Learnt g tables w.scenario a (by (r.holds a l).last)) keeps_ready learnt_true (λ f m. m)
 
+    -- each end that is due fits the node's table and what the node has heard, since it is a true end
     all_fit : (z : Ended) → Contains (due_reports ready time) z → EndFits ready.table (hear_all ready frames).heard z
     all_fit z m =
         let q = ends_parts k a l (r.holds a l).heard (r.holds a l).last time (coming k c r a l time e free) z
@@ -184,8 +189,10 @@ Comes g c node s = (s.fault ≡ None) × HasCome s.progress (dispatcher_at c nod
 whole : (s : Step) → s.fault ≡ None → lawful s.progress ≡ s
 whole s e = ap (λ o. record { progress = s.progress; fault = o }) (sym e)
 
+-- given a node of a play
 module _ {g : Graph} {tables : List NodeTable} {w : World} (k : Played g tables w) (node : ℕ)
     (l : node < length g.nodes) where
+  -- when a node is asked, the stream of each node follows what that node is told
   step_followed : (c : Cluster) → Reached g tables w c → (a : ℕ) (p : NodeProgress) →
       HasCome p (dispatcher_at c node) (get_or c.acts node []) →
       Comes g (step g w c a) node (follow (lawful p) (records_in_step g w c a node))
@@ -208,6 +215,7 @@ module _ {g : Graph} {tables : List NodeTable} {w : World} (k : Played g tables 
       here (Waits b) o q e = (refl, h)
       here IsDone o q e = (refl, h)
 
+      -- the turn of another node, a, leaves this node as it was
       other : (ans : Answer) (o : Option ℕ) → node ≢ a → Comes g (step_by g w c a ans o) node (lawful p)
       other Took (Some time) ne = (
         refl,
@@ -220,6 +228,7 @@ module _ {g : Graph} {tables : List NodeTable} {w : World} (k : Played g tables 
       other (Waits b) o ne = (refl, h)
       other IsDone o ne = (refl, h)
 
+  -- in a play the stream of each node follows what that node is told
   play_followed : (turns : List ℕ) (c : Cluster) → Reached g tables w c → (p : NodeProgress) →
       HasCome p (dispatcher_at c node) (get_or c.acts node []) →
       Comes g (play g w c turns) node (follow (lawful p) (records_in g w c node turns))
@@ -235,6 +244,7 @@ module _ {g : Graph} {tables : List NodeTable} {w : World} (k : Played g tables 
       (whole s one.0)
       (play_followed rest (step g w c a) (reached_step k c r a) s.progress one.1))
 
+  -- before its first record a node on a stream is in the state before the first turns
   open_come : HasCome (start (own_table g node (table_at tables node))) (dispatcher_at (initial_cluster g tables) node)
       (get_or (initial_cluster g tables).acts node [])
   open_come =
@@ -249,17 +259,20 @@ module _ {g : Graph} {tables : List NodeTable} {w : World} (k : Played g tables 
       (initial_dispatcher (own_table g node (table_at tables node)))) (sym none)
       (turned_zero (start (own_table g node (table_at tables node)))))
 
+  -- from the opening state on, the stream of each node follows the whole play
   all_followed : (turns : List ℕ) →
       Comes g (play g w (initial_cluster g tables) turns) node
       (follow (opened g tables node) (records_in g w (initial_cluster g tables) node turns))
   all_followed turns = play_followed turns (initial_cluster g tables) (reached_open k)
       (start (own_table g node (table_at tables node))) open_come
 
+-- each node of a play follows it on the records of what it is told
 pub plays_are_followed : PlaysAreFollowed
 plays_are_followed g tables f h v w turns node is l =
     let c = all_followed (played_of g tables f h v w is) node l turns in
     record { none = c.0; comes = c.1 }
 
+-- if the node is done, the stream with its close gives what is due
 pub streams_give : StreamsGiveWhatIsDue
 streams_give g tables f h v w turns node close is l over late =
     let c : Cluster = play g w (initial_cluster g tables) turns in

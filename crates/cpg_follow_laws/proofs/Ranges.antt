@@ -32,11 +32,13 @@ AllHave ranges = All HasNumber ranges
 
 -- ---- ends
 
+-- what an end tells leaves no range empty
 value_has : (heard : List Range) (o : Option ℕ) (value : Bool) → AllHave heard → AllHave (know_value heard o value)
 value_has heard None value h = h
 value_has heard (Some c) value h = All-set HasNumber heard (value_variable c)
     (record { low = number_of_value value; high = number_of_value value }) (omega arith) h
 
+-- several ends leave no range empty
 ends_have : (table : OwnTable) (es : List Ended) (heard : List Range) → AllHave heard →
     AllHave (fold (hear_end table) heard es)
 ends_have table [] heard h = h
@@ -49,6 +51,7 @@ ends_have table (e ∷ es) heard h = ends_have table es (hear_end table heard e)
 abbrev Has : NodeProgress → Type 0
 Has p = AllHave p.dispatcher.heard
 
+-- a turn that takes no frame leaves no range empty
 turn_has : (p : NodeProgress) (o : Option ℕ) → Has p → Has (turn_if p o)
 turn_has p None h = h
 turn_has p (Some time) h = ends_have p.dispatcher.table (due_reports p.dispatcher time) p.dispatcher.heard h
@@ -61,6 +64,7 @@ turns_have (suc count) limit p h =
 
 -- ---- records
 
+-- a frame that isn't strange leaves no range empty
 fine : (d : Dispatcher) (time : ℕ) (f : Frame) → is_strange d time f ≡ false → AllHave (hear_frame d.table d.heard f)
 fine d time f e =
     let unknown : Bool = not (list_any (λ (row : Row). row.item == f.item) d.table.hears) in
@@ -72,6 +76,7 @@ fine d time f e =
     λ k d l. ltb-false (get_or heard k d).high (get_or heard k d).low
     (from_any_false is_contradicted heard (get_or heard k d) q (Contains-get_or heard k d l))
 
+-- a step keeps what `Has` says: by whether a frame arrives or a process ends
 step_has : (time : ℕ) (event : Event) (p : NodeProgress) → Has p → Has (step time event p).progress
 step_has time (Arrival f) p h =
     let q : NodeProgress = turned time p in
@@ -101,6 +106,7 @@ judged_holds s time (Some event) h =
         go None = h
         go (Some why) = h
 
+-- a record, or several, leave no range empty, since a frame that would is refused
 record_holds : (s : LiveState) (bytes : List ℕ) → Holds s → Holds (take_record s bytes)
 record_holds s bytes h =
     cond_both (is_some s.bad) s _ Holds (λ _. h) (λ _. cond_both s.closed (refused s Length) _ Holds (λ _. h)
@@ -114,6 +120,7 @@ rest_holds : (s : LiveState) (rest : List ℕ) → Holds s → Holds (with_rest 
 rest_holds s rest h = cond_both (is_some s.bad) s _ Holds (λ _. h) (λ _. cond_both (s.closed && nat_lt 0 (length rest))
     (refused s Length) (record s { rest = rest }) Holds (λ _. h) (λ _. h))
 
+-- no range that a node holds after any bytes is empty
 pub no_range_is_empty : NoRangeIsEmpty
 no_range_is_empty table bytes =
     rest_holds (fold take_record (open_stream table) (cut_bytes bytes).whole) (cut_bytes bytes).rest
@@ -122,7 +129,7 @@ no_range_is_empty table bytes =
 
 -- ---- what a frame leaves
 
--- the range of a variable of which no literal tells
+-- a variable on which no literal is keeps its range
 untold : (v : ℕ) (ls : List Literal) (heard : List Range) → ((l : Literal) → Contains ls l → l.variable ≢ v) →
     range_of (cut_all heard ls) v ≡ range_of heard v
 untold v [] heard ne = refl
@@ -139,6 +146,7 @@ module _ (heard : List Range) (ls : List Literal) (have : AllHave heard) where
   abbrev left : List Range
   left = cut_all heard ls
 
+  -- if a frame leaves a range empty, it does so at a variable of one of its literals, and conversely
   at_told : list_any is_contradicted left ≡ true →
       list_any (λ (l : Literal). is_contradicted (range_of left l.variable)) ls ≡ true
   at_told e =
@@ -165,6 +173,7 @@ module _ (heard : List Range) (ls : List Literal) (have : AllHave heard) where
                 omega (arith, less, ap (λ (r : Range). r.low) none)
           ]
 
+  -- a range that is empty at the variable of a literal is among all ranges
   at_all : list_any (λ (l : Literal). is_contradicted (range_of left l.variable)) ls ≡ true →
       list_any is_contradicted left ≡ true
   at_all e =
@@ -177,6 +186,7 @@ module _ (heard : List Range) (ls : List Literal) (have : AllHave heard) where
             absurd (true≢false (sym q.2 ∙ ap is_contradicted (get_or_past left v (record { low = 0; high = 0 }) past)))
       ]
 
+-- a frame leaves an empty range if and only if it does so at a variable of which it tells
 pub frames_contradict_where_they_tell : FramesContradictWhereTheyTell
 frames_contradict_where_they_tell table heard f have =
     same_answer _ _ (at_told heard (frame_literals table f) have) (at_all heard (frame_literals table f) have)

@@ -28,16 +28,19 @@ abbrev moment : Option ℕ → ℕ
 moment None = 0
 moment (Some last) = last
 
+-- records that rise from a time on rise from an earlier one on
 rise_weaker : (from later to : ℕ) (es : List (ℕ × Event)) → from ≤ later → RiseWithin later to es →
     RiseWithin from to es
 rise_weaker from later to [] le h = omega (arith, le, h)
 rise_weaker from later to (e ∷ es) le h = (omega (arith, le, h.0), h.1, h.2)
 
+-- two lists of records that rise, the second from where the first ends, rise together
 rise_join : (xs ys : List (ℕ × Event)) (from middle to : ℕ) → RiseWithin from middle xs → RiseWithin middle to ys →
     RiseWithin from to (xs ++ ys)
 rise_join [] ys from middle to h k = rise_weaker from middle to ys h k
 rise_join (x ∷ xs) ys from middle to h k = (h.0, h.1, rise_join xs ys x.0 middle to h.2 k)
 
+-- reports that a node may take are in order of time up to its next instant
 reports_within : (time : ℕ) (es : List (ℕ × Ended)) (d : Dispatcher) (from : ℕ) → next d ≡ Some time → from ≤ time →
     MayReport d from es →
     RiseWithin from time (map end_event es)
@@ -49,6 +52,7 @@ reports_within time (e ∷ es) d from n le m = (
       (subst (λ o. IfSome o (λ n. e.0 ≤ n)) n m.1.before) m.2,
 )
 
+-- frames that arrive at a time are at that time
 frames_within : (time : ℕ) (fs : List Frame) → RiseWithin time time (map (frame_event time) fs)
 frames_within time [] = omega arith
 frames_within time (f ∷ fs) = (omega arith, refl, frames_within time fs)
@@ -62,8 +66,10 @@ by_moment : (last : Option ℕ) (close : ℕ) → after_last last ≤ close + 1 
 by_moment None close h = omega arith
 by_moment (Some last) close h = omega (arith, h)
 
+-- given a node of a play
 module _ {g : Graph} {tables : List NodeTable} {w : World} (k : Played g tables w) (node : ℕ)
     (l : node < length g.nodes) where
+  -- the records of a turn lie between the last turn and this one
   turn_within : (c : Cluster) → Reached g tables w c → (time : ℕ) → next (dispatcher_at c node) ≡ Some time →
       RiseWithin (moment (dispatcher_at c node).last) time (records_at g w c node time)
   turn_within c r time e =
@@ -75,6 +81,7 @@ module _ {g : Graph} {tables : List NodeTable} {w : World} (k : Played g tables 
       (reports_within time (by_time reports) d (moment d.last) e
       (after_moment d.last time (next_is d time e).after) may) (frames_within time _)
 
+  -- the records of a play, from a state on, lie between the node's last turn and a close
   rise_play : (turns : List ℕ) (c : Cluster) → Reached g tables w c → (close : ℕ) →
       moment (dispatcher_at (play g w c turns) node).last ≤ close →
       RiseWithin (moment (dispatcher_at c node).last) close (records_in g w c node turns)
@@ -99,6 +106,7 @@ module _ {g : Graph} {tables : List NodeTable} {w : World} (k : Played g tables 
       nobody =
           initial_dispatcher (record { faults = 0; first_broadcast = 0; own = []; starts = []; sends = []; hears = [] })
 
+      -- the records of the node's own turn are at its time, and those of later turns rise from there
       here : (ans : Answer) (o : Option ℕ) → next (dispatcher_at c node) ≡ o →
           RiseWithin (moment (dispatcher_at (step_by g w c node ans o) node).last) close
           (records_in g w (step_by g w c node ans o) node rest) →
@@ -114,6 +122,7 @@ module _ {g : Graph} {tables : List NodeTable} {w : World} (k : Played g tables 
       here (Waits b) o e h = h
       here IsDone o e h = h
 
+      -- the turn of another node, a, adds no record of this one
       other : (ans : Answer) (o : Option ℕ) → node ≢ a →
           RiseWithin (moment (dispatcher_at (step_by g w c a ans o) node).last) close
           (records_in g w (step_by g w c a ans o) node rest) →
@@ -125,6 +134,7 @@ module _ {g : Graph} {tables : List NodeTable} {w : World} (k : Played g tables 
       other (Waits b) o ne h = h
       other IsDone o ne h = h
 
+-- the records of a node in a play are in order of time
 pub records_rise : RecordsRise
 records_rise g tables f h v w turns node close is l late =
     let k = played_of g tables f h v w is in

@@ -35,11 +35,13 @@ use Rattle.cpg_follow_laws.specs.Follow.{by_time, records_at, records_by, record
 use Rattle.cpg_follow_laws.proofs.Reports.{all_may, in_by_time}
 use Rattle.cpg_follow_laws.proofs.Follow.{keeps_ready}
 
+-- what holds of what a map gives of each element holds of all its results
 all_map : {X Y : Type 0} (P : Y → Type 0) (f : X → Y) (xs : List X) → ((x : X) → Contains xs x → P (f x)) →
     AllByRecursion P (map f xs)
 all_map P f [] h = tt
 all_map P f (x ∷ xs) h = (h x (Contains-first x xs), all_map P f xs (λ y m. h y (Contains-rest x xs y m)))
 
+-- what holds of all of two lists holds of all of both together
 all_append : {X : Type 0} (P : X → Type 0) (xs ys : List X) → AllByRecursion P xs → AllByRecursion P ys →
     AllByRecursion P (xs ++ ys)
 all_append P [] ys h k = k
@@ -61,6 +63,7 @@ column_there d time f e =
     is_true true e = refl
     is_true false e = absurd (true≢false e)
 
+-- if no row has too many columns, no item has
 columns_few : (rows : List Row) (x : ℕ) → ((row : Row) → Contains rows row → length row.columns ≤ MOST_COLUMNS) →
     length (columns_in rows x) ≤ MOST_COLUMNS
 columns_few [] x h = omega arith
@@ -89,11 +92,13 @@ frame_plain g w x a less = go (nat_lt x (process_count g)) (nat_lt x (process_co
     go false true e = refl
     go false false e = absurd (true≢false (sym e))
 
+-- given a node of a play of the tables of a graph within the limits
 module _ {g : Graph} {tables : List NodeTable} {w : World} (k : Played g tables w) (within : IsWithinLimits g)
     (of : AreTablesOf (head_of g) tables) (node : ℕ) (l : node < length g.nodes) where
   abbrev Fits : ℕ × Event → Type 0
   Fits e = HasRoom (own_table g node (table_at tables node)) e.1
 
+  -- a row that the node hears has no more than MOST_COLUMNS columns, as the row is lawful
   few : (x : ℕ) → length (columns_in (table_at tables node).hears x) ≤ MOST_COLUMNS
   few x = columns_few (table_at tables node).hears x (λ row m.
       (All-contains (IsLawfulRow (space_of (head_of g))) (rows_of (table_at tables node)) row (of.each node l).lawful
@@ -101,8 +106,10 @@ module _ {g : Graph} {tables : List NodeTable} {w : World} (k : Played g tables 
       ((table_at tables node).sends ++ (table_at tables node).hears) row
       (Contains-append_right (table_at tables node).sends (table_at tables node).hears row m))).few)
 
+  -- given a node that takes its turn at the time
   module _ (c : Cluster) (r : Reached g tables w c) (time : ℕ) (e : next (dispatcher_at c node) ≡ Some time)
       (q : answer g c node ≡ Took) where
+    -- the record of each frame fits in its bytes
     frame_fits : (f : Frame) → Contains (frames_now g w c (reported g w (dispatcher_at c node) time) time) f →
         Fits (frame_event time f)
     frame_fits f m =
@@ -126,6 +133,7 @@ module _ {g : Graph} {tables : List NodeTable} {w : World} (k : Played g tables 
               sym (ap (λ (f : Frame). f.value) a.is) ∙ frame_plain g w a.item a.act (omega (arith, item, before)),
         )
 
+    -- the record of each report fits in its bytes
     report_fits : (z : ℕ × Ended) → Contains (by_time (reports_now g w (dispatcher_at c node) time)) z →
         Fits (end_event z)
     report_fits z m =
@@ -147,6 +155,7 @@ module _ {g : Graph} {tables : List NodeTable} {w : World} (k : Played g tables 
         (all_map Fits end_event (by_time (reports_now g w (dispatcher_at c node) time)) report_fits)
         (all_map Fits (frame_event time) (frames_now g w c (reported g w (dispatcher_at c node) time) time) frame_fits)
 
+  -- each record of a node in a play fits in its bytes
   pub all_fit : (turns : List ℕ) (c : Cluster) → Reached g tables w c →
       AllByRecursion Fits (records_in g w c node turns)
   all_fit [] c r = tt

@@ -24,7 +24,7 @@ use Rattle.cpg_cluster.proofs.Plays.{played_of, valid_tables_are_correct}
 use Rattle.cpg_cluster.proofs.Reached.{reached}
 use Rattle.cpg_follow_laws.specs.Sent.{SentValuesAreKnown, only}
 
--- what has come by the last turn, has what was before
+-- if the last turn has reached a moment, it has reached each earlier one
 by_up : (last : Option ℕ) (m n : ℕ) → by last n ≡ true → m ≤ n → by last m ≡ true
 by_up None m n e l = e
 by_up (Some t) m n e l = le-leb m t (omega (arith, leb-true n t e))
@@ -32,6 +32,7 @@ by_up (Some t) m n e l = le-leb m t (omega (arith, leb-true n t e))
 same_range : (r : Range) (n : ℕ) → r.low ≡ n → r.high ≡ n → r ≡ only n
 same_range r n low high = λ i. record { low = low i; high = high i }
 
+-- the range of a value that a node has sent is just the value that the frame carried
 pub sent_values_are_known : SentValuesAreKnown
 sent_values_are_known g tables f h v w turns node condition a is l m e =
     let k : Played g tables w = played_of g tables f h v w is in

@@ -39,6 +39,7 @@ module _ (table : NodeTable) (bytes : List ℕ) (short : length bytes ≤ STREAM
   not_long true end = refl
   not_long false end = refl
 
+  -- the end of the stream, as it is read, is that close
   read_end : (close : ℕ) → outcome (after table bytes) ≡ Ok close → stream_end table bytes ≡ Ok close
   read_end close e =
       ap (λ bytes. end_of (after table bytes) (length bytes)) whole
@@ -46,11 +47,13 @@ module _ (table : NodeTable) (bytes : List ℕ) (short : length bytes ≤ STREAM
       (le-ltb STREAM_LIMIT (length bytes) short)
       ∙ not_long (is_none (after table bytes).bad) (end_by (outcome (after table bytes))) ∙ ap end_by e
 
+  -- its lines are those of its acts and that of the close
   read_lines : (h : Head) (close : ℕ) → stream_end table bytes ≡ Ok close →
       stream_lines h table bytes ≡ act_lines h (after table bytes).progress.acts ++ closed_line close
   read_lines h close e =
       ap₂ (λ (bytes : List ℕ) end. act_lines h (after table bytes).progress.acts ++ close_of end) whole e
 
+-- the stream that spells a node's records and a close is lawful to that close and does what is due
 pub bytes_give : BytesOfPlaysGiveWhatIsDue
 bytes_give g tables within of f v w turns node close es is l t =
     let h = has_shape g within tables of in

@@ -20,6 +20,7 @@ abbrev pub inserted : ℕ × Ended → List (ℕ × Ended) → List (ℕ × Ende
 inserted e [] = e ∷ []
 inserted e (f ∷ fs) = if nat_le e.0 f.0 then e ∷ f ∷ fs else f ∷ inserted e fs
 
+-- all reports in order of time
 abbrev pub by_time : List (ℕ × Ended) → List (ℕ × Ended)
 by_time [] = []
 by_time (e ∷ es) = inserted e (by_time es)

@@ -23,9 +23,13 @@ use Rattle.cpg_follow_laws.specs.Follow.{records_in}
 -- a close that isn't before its last turn.
 pub record IsToldAll (g : Graph) (tables : List NodeTable) (w : World) (turns : List ℕ) (node close : ℕ)
     (es : List (ℕ × Event)) : Type 0 where
+  -- the records are those of the node in the play, in any order
   pub those : AreThoseOf es (records_in g w (initial_cluster g tables) node turns)
+  -- in a stream they rise in time and are not after the close
   pub rise : RiseWithin 0 close es
+  -- after the play the node has no turn left
   pub done : answer g (play g w (initial_cluster g tables) turns) node ≡ Done
+  -- the close isn't before the node's last turn
   pub late : after_last (dispatcher_at (play g w (initial_cluster g tables) turns) node).last ≤ close + 1
   pub small : close < 2 ^ 64
 
@@ -34,7 +38,9 @@ pub record IsToldAll (g : Graph) (tables : List NodeTable) (w : World) (turns : 
 pub record DoesWhatIsDue (g : Graph) (tables : List NodeTable) (w : World) (node close : ℕ)
     (bytes : List ℕ) : Type 0 where
   pub ends : outcome (after (table_at tables node) bytes) ≡ Ok close
+  -- the node does on the stream what is due in the scenario
   pub acts : IsDue g tables w.scenario node (after (table_at tables node) bytes).progress.acts
+  -- the stream is read to its close if it is short enough, and its lines are the acts and then the close
   pub read : length bytes ≤ STREAM_LIMIT → stream_end (table_at tables node) bytes ≡ Ok close
   pub lines : (h : Head) → length bytes ≤ STREAM_LIMIT →
       stream_lines h (table_at tables node) bytes ≡ act_lines h (after (table_at tables node) bytes).progress.acts

@@ -32,12 +32,13 @@ pub fn no_range_is_empty()
     ensures { NoRangeIsEmpty }
 {}
 
-/// If no range is empty, a frame leaves an empty one exactly if it does so at a variable of which it tells.
+/// If no range is empty before a frame, the frame leaves an empty one exactly if it does so at a variable of one of its
+/// literals.
 pub fn frames_contradict_where_they_tell()
     ensures { FramesContradictWhereTheyTell }
 {}
 
-/// In a play of valid tables a node that has sent the value of a condition holds just that value.
+/// In a play of valid tables, a node that has sent the value of a condition knows just that value.
 pub fn sent_values_are_known()
     ensures { SentValuesAreKnown }
 {}

@@ -25,15 +25,17 @@ use Rattle.cpg_gen.specs.Draws.{nth_draw, number_after}
 use Rattle.cpg_gen.specs.Generated.{generated, generated_process, generated_edges, process_from, edges_by, edge_of}
 use Rattle.cpg_gen.specs.Generated.{when_of, predecessor_by, numbered, node_name, slot_of, number_before}
 
--- a list by number
+-- a list made of n numbers has n elements
 length-by : {X : Type 0} (f : ℕ → X) (n : ℕ) → length (map f (numbers_below n)) ≡ n
 length-by f n = length-map-range_with_len f 0 n
 
+-- what holds of each element by its number holds of all
 all_by : {X : Type 0} (P : X → Type 0) (f : ℕ → X) (n : ℕ) → ((i : ℕ) → i < n → P (f i)) →
     All P (map f (numbers_below n))
 all_by P f n h = λ i d l. let within : i < n = omega (arith, length-by f n) in
     subst P (sym (get_or-map-below f n i d within)) (h i within)
 
+-- what holds of each two elements by their numbers holds of all pairs
 pairs_by : {X : Type 0} (R : X → X → Type 0) (f : ℕ → X) (n : ℕ) → ((i j : ℕ) → i < j → j < n → R (f i) (f j)) →
     AllPairs R (map f (numbers_below n))
 pairs_by R f n h = λ i j d l m.
@@ -46,6 +48,7 @@ pairs_by R f n h = λ i j d l m.
 numbered_differ : (b : ℕ) (i j : ℕ) → i < j → j < 60 → numbered (b ∷ []) i ≢ numbered (b ∷ []) j
 numbered_differ b i j l m e = absurd (omega (arith, decimal_injective i j (omega arith) (omega arith) (ap (drop 1) e)))
 
+-- a draw is below its bound
 pub draw-lt : (x n bound : ℕ) → 0 < bound → nth_draw x n bound < bound
 draw-lt x n bound l = mod-lt (number_after x n / 2 ^ 33) l
 
@@ -130,21 +133,26 @@ edges_long x i = go (i == 0) (i == 40)
     go false false = refl
 
 module _ (number : ℕ) where
+  -- a generated graph has 60 processes
   pub processes_count : process_count (generated number) ≡ 60
   processes_count = length-by (generated_process number) 60
 
+  -- each edge of a generated graph has the properties of a generated edge
   pub generated_edge : (e : Edge) → Contains (generated number).edges e → IsGeneratedEdge e
   generated_edge e k =
       let r = Contains-flat_map_parts (generated_edges number) (numbers_below 60) e k in
       edges_are (number_after (number_before number r.0) 6) r.0 (numbers-Contains 60 r.0 r.1) e r.2
 
+  -- the edge of each number is a generated one
   pub edge_there : (e : ℕ) → e < edge_count (generated number) → IsGeneratedEdge (edge_at (generated number) e)
   edge_there e l = generated_edge (edge_at (generated number) e) (Contains-get_or (generated number).edges e _ l)
 
+  -- the source of an edge has a lower number than its target
   pub edges_rise : (e : ℕ) → e < edge_count (generated number) →
       source (generated number) e < target (generated number) e
   edges_rise e l = (edge_there e l).rises
 
+  -- a generated graph has 60 edges
   pub edges_count : edge_count (generated number) ≡ 60
   edges_count = length-flat_map (generated_edges number) (numbers_below 60)
       ∙ same_sum_by (λ i. length (generated_edges number i)) inputs_of (numbers_below 60)
@@ -154,12 +162,14 @@ module _ (number : ℕ) where
   abbrev is_choice : ℕ → Bool
   is_choice p = (p == 10) || (p == 20)
 
+  -- a process with a condition is one of the two that may have one
   pub chooses : (p : ℕ) → is_disjunction (generated number) p ≡ true → is_choice p ≡ true
   chooses p t =
       let found = list_any_parts (λ e. is_some (edge_at (generated number) e).when) (outputs (generated number) p) t in
       let ends = outputs_parts (generated number) p found.0 found.1 in
       subst (λ q. is_choice q ≡ true) ends.1 ((edge_there found.0 ends.0).chosen found.2)
 
+  -- a generated graph has at most two conditions
   pub few_conditions : condition_count (generated number) ≤ 2
   few_conditions =
       let fewer = length-filter-le (is_disjunction (generated number)) is_choice
@@ -176,6 +186,7 @@ module _ (number : ℕ) where
     size = omega (arith, k.size);
   }
 
+  -- a generated graph is within the limits of a graph file
   pub within_limits : IsWithinLimits (generated number)
   within_limits = record {
     faults = omega arith;
@@ -198,6 +209,7 @@ module _ (number : ℕ) where
     order = tt;
   }
 
+  -- each node of a generated graph has a slot, so each that sends has one
   pub senders_have_slots : HasSenderSlots (generated number)
   senders_have_slots x l _ =
       let made = producer_from_sources (generated number) (λ e h. (within_limits.edges e _ h).from) x l in
@@ -209,6 +221,7 @@ module _ (number : ℕ) where
       (Contains-numbers 4 (home (generated number) x) node))
       (eq-eqb (home (generated number) x) (home (generated number) x) refl)
 
+  -- a generated graph is well-formed
   pub generated_well_formed : WellFormed (generated number)
   generated_well_formed = well_formed (generated number) within_limits senders_have_slots
 

@@ -24,11 +24,13 @@ IsName-from_test text h =
       plain = AllPass-from_list_all is_name_byte text plain;
     }
 
+-- the text that names each of the four nodes is a name
 pub node_name_is : (i : ℕ) → i < 4 → IsName (node_name i)
 unfolding digits
 node_name_is i l = IsName-from_test (node_name i)
     (from_all (λ n. is_name (node_name n)) (numbers_below 4) i refl (Contains-numbers 4 i l))
 
+-- the text that names each of the 60 processes is a name
 pub process_name_is : (i : ℕ) → i < 60 → IsName (process_name i)
 unfolding digits
 process_name_is i l = IsName-from_test (process_name i)

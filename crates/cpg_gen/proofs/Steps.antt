@@ -21,17 +21,18 @@ number_before_next : (number i : ℕ) → number_after (number_before number i) 
 number_before_next number i =
     number_after-add number (draws_before i) (draws_of i) ∙ ap (number_after number) (draws_before_push i)
 
--- after the costs, a draw more if there is a predecessor
+-- a process takes six draws if it has a predecessor, and five if not
 sixth : (b : Bool) (x : ℕ) → cond b (next_number (number_after x 5)) (number_after x 5) ≡ number_after x (cond b 6 5)
 sixth true x = sym (number_after-suc x 5)
 sixth false x = refl
 
+-- the draws of a process end with the number from which those of the next one start
 pub number_before_after : (number i : ℕ) →
     cond (has_predecessor i) (next_number (number_after (number_before number i) 5))
     (number_after (number_before number i) 5) ≡ number_before number (i + 1)
 number_before_after number i = sixth (has_predecessor i) (number_before number i) ∙ number_before_next number i
 
--- the parts of one number more
+-- the elements of one number more come after those of the numbers before it
 pub flat_map_below_push : {X : Type 0} (f : ℕ → List X) (n : ℕ) →
     flat_map f (numbers_below n) ++ f n ≡ flat_map f (numbers_below (n + 1))
 flat_map_below_push f n = sym (ap (flat_map f) (below_push n) ∙ flat_map-append f (numbers_below n) (n ∷ [])

@@ -30,9 +30,11 @@ number_before number i = number_after number (draws_before i)
 abbrev pub numbered : List ℕ → ℕ → List ℕ
 numbered letter i = letter ++ decimal i
 
+-- the name of a node
 abbrev pub node_name : ℕ → List ℕ
 node_name = numbered (codes "N")
 
+-- the name of a process
 abbrev pub process_name : ℕ → List ℕ
 process_name = numbered (codes "p")
 
@@ -76,9 +78,11 @@ edges_by x i =
     else if i == 40 then edge_of 10 40 (Some true) ∷ edge_of 10 40 (Some false) ∷ []
     else edge_of (predecessor_by x i) i (when_of (predecessor_by x i) i) ∷ []
 
+-- the process of a number in a generated graph
 abbrev pub generated_process : ℕ → ℕ → Process
 generated_process number i = process_from (number_before number i) i
 
+-- the edges to a process in a generated graph
 abbrev pub generated_edges : ℕ → ℕ → List Edge
 generated_edges number i = edges_by (number_after (number_before number i) 6) i
 

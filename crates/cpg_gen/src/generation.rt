@@ -9,13 +9,14 @@ use crate::parts::{numbered, process, push_edges, slot};
 use cpg_base::{Edge, Name, OutOfMemory, Problem, Process, Slot};
 use std::alloc::Global;
 
-/// What is drawn.
+/// The processes and edges that are drawn.
 #[derive(Drop)]
 struct Drawn {
     processes: Vec<Process>,
     edges: Vec<Edge>,
 }
 
+/// The names of the four nodes.
 fn nodes(alloc: Global) -> Result<Vec<Name>, OutOfMemory>
     ensures { IfOk result (λ nodes. nodes.items ≡ map node_name (numbers_below 4)) }
 {
@@ -26,6 +27,7 @@ fn nodes(alloc: Global) -> Result<Vec<Name>, OutOfMemory>
     Ok(nodes)
 }
 
+/// The slots of the four nodes.
 fn slots(alloc: Global) -> Result<Vec<Slot>, OutOfMemory>
     ensures { IfOk result (λ slots. slots.items ≡ map slot_of (numbers_below 4)) }
 {

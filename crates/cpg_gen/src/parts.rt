@@ -9,7 +9,7 @@ use crate::draws::Draws;
 use cpg_base::{Edge, Name, OutOfMemory, Process, Slot};
 use std::alloc::Global;
 
-/// What the draws say of a process besides its predecessor.
+/// The costs of a process, as they are drawn.
 #[derive(Clone, Copy)]
 struct Costs {
     wcet: u64,
@@ -28,6 +28,7 @@ pub(crate) fn numbered(alloc: Global, letter: &str, number: u32) -> Result<Name,
     write!(text, "{letter}{number}")?;
     match Name::new(alloc, text.as_str())? {
         Some(name) => Ok(name),
+        // a letter and digits always make a name
         None => unreachable!(),
     }
 }
@@ -43,6 +44,7 @@ pub(crate) fn slot(node: u32) -> Slot
     }
 }
 
+/// The costs of a process, by the next five draws.
 fn draw_costs(draws: &mut Draws) -> Costs
     ensures costs { result ≡ record {
       wcet = 1 + nth_draw draws.old.number 1 50;
@@ -72,12 +74,14 @@ pub(crate) fn process(alloc: Global, draws: &mut Draws, number: u32) -> Result<P
     let name = numbered(alloc, "p", number)?;
     Ok(Process {
         name,
+        // processes go around the four nodes
         node: number % 4,
         wcet: costs.wcet,
         parts: costs.parts,
         alpha: costs.alpha,
         chi: costs.chi,
         mu: costs.mu,
+        // the one join is process 40
         join: number == 40,
         frozen: false,
         release: 0,
@@ -85,7 +89,7 @@ pub(crate) fn process(alloc: Global, draws: &mut Draws, number: u32) -> Result<P
     })
 }
 
-/// With which value of its source's condition an edge is taken.
+/// The value of its source's condition with which an edge is taken.
 fn when(source: u32, target: u32) -> Option<bool>
     ensures { result ≡ when_of source target }
 {
@@ -115,6 +119,7 @@ fn drawn_edge(draws: &mut Draws, target: u32) -> Edge
         (when_of (predecessor_by (next_number draws.old.number) target) target) }
     ensures number { draws.new.number ≡ next_number draws.old.number }
 {
+    // one of the six processes before the target, or of all if there are fewer
     let source = target - 1 - draws.next(u64::from(target.min(6))) as u32;
     edge(source, target, when(source, target))
 }
@@ -128,9 +133,11 @@ pub(crate) fn push_edges(
     ensures edges { OnOk result (edges.new.items ≡ edges.old.items ++ edges_by (next_number draws.old.number) target) }
     ensures number { OnOk result (draws.new.number ≡ (if has_predecessor target then next_number draws.old.number else draws.old.number)) }
 {
+    // the first process has no predecessor
     if target == 0 {
         return Ok(());
     }
+    // the join of the two edges of process 10, one for each value
     if target == 40 {
         edges.push(edge(10, 40, Some(true)))?;
         edges.push(edge(10, 40, Some(false)))?;

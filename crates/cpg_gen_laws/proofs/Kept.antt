@@ -28,16 +28,18 @@ use Rattle.cpg_rules.specs.Faults.{ShowsFault}
 use Rattle.cpg_gen.specs.Generated.{generated, generated_process, edge_of, slot_of}
 use Rattle.cpg_gen.proofs.Limits.{generated_edge, edge_there, processes_count, few_conditions, within_limits}
 
--- a filter keeps no more than there is
+-- a filter keeps no more elements than there are
 pub filter_long : {X : Type 0} (p : X → Bool) (xs : List X) → length (filter p xs) ≤ length xs
 filter_long p xs = omega (arith, length-filter p xs, count_by-le-length p xs)
 
+-- a power of two up to the second is at most 4
 pub powers_few : (n : ℕ) → n ≤ 2 → 2 ^ n ≤ 4
 powers_few zero l = omega arith
 powers_few (suc zero) l = omega arith
 powers_few (suc (suc zero)) l = omega arith
 powers_few (suc (suc (suc n))) l = absurd (omega arith)
 
+-- at most two conditions have at most four outcomes
 pub outcomes_few : (n : ℕ) → n ≤ 2 → length (outcomes n) ≤ 4
 outcomes_few n l = omega (arith, length-outcomes n, powers_few n l)
 
@@ -70,6 +72,7 @@ module _ (number : ℕ) where
       let up = (generated_edge number found.0 found.1).rises in
       omega arith
 
+  -- a generated graph has no cycle, as its edges lead to greater numbers
   pub no_cycle : HasCycle (generated number) → ⊥
   no_cycle (walk, c) =
       let some = c.some in
@@ -79,6 +82,7 @@ module _ (number : ℕ) where
 
   -- ---- tracks
 
+  -- a generated graph has at most four tracks
   pub few_tracks : track_count (generated number) ≤ 4
   few_tracks =
       let fewer = filter_long (is_track (generated number)) (outcomes (condition_count (generated number))) in
@@ -100,10 +104,12 @@ module _ (number : ℕ) where
     abbrev live_by : Edge → Bool
     live_by e = active (generated number) values e.from && takes e.when (value_of (generated number) values e.from)
 
+    -- the first input of the join is live exactly if its source is active with a true value
     first_live : live (generated number) values 39
         ≡ (active (generated number) values 10 && value_of (generated number) values 10)
     first_live = ap live_by first_edge
 
+    -- the second input of the join is live exactly if its source is active with a false value
     second_live : live (generated number) values 40
         ≡ (active (generated number) values 10 && not (value_of (generated number) values 10))
     second_live = ap live_by second_edge
@@ -120,6 +126,7 @@ module _ (number : ℕ) where
       let within : p < 60 = omega (arith, processes_count number) in
       eqb-true p 40 (ap (λ (q : Process). q.join) (sym (get_or-map-below (generated_process number) 60 p _ within)) ∙ t)
 
+  -- no outcome makes two inputs of the join live, as they ask for different values of one condition
   pub single_joins : HasSingleJoins (generated number)
   single_joins p values l join long =
       subst (λ q. length (filter (live (generated number) values) (inputs (generated number) q)) ≤ 1)
@@ -137,6 +144,7 @@ module _ (number : ℕ) where
       (from_all (λ n. bytes_in (map slot_of (numbers_below 4)) n == 8) (numbers_below 4) node refl
       (Contains-numbers 4 node l))
 
+  -- each message fits into its sender's slot
   pub all_fit : AllFit (generated number)
   all_fit e l =
       let from = (within_limits number).edges e _ l in
@@ -152,6 +160,7 @@ module _ (number : ℕ) where
   two_live : (n : ℕ) → n ≤ 1 → nat_lt 1 n ≡ true → ⊥
   two_live n l t = let h = ltb-true 1 n t in omega arith
 
+  -- a generated graph shows no fault but that memory runs out
   pub no_fault : (fault : RuleFault) → ShowsFault (generated number) fault → fault ≡ OutOfMemory
   no_fault (Cycle walk) shows = absurd (no_cycle (walk, shows))
   no_fault TooManyTracks shows = absurd (let l = few_tracks in let m = shows.2 in omega (arith, l, m))

@@ -109,6 +109,7 @@ few_rows false n = omega arith
 module _ (number : ℕ) where
   -- ---- views
 
+  -- a generated graph has at most 7,564 scenarios
   pub few_scenarios : length (scenarios (generated number)) ≤ 7564
   few_scenarios =
       let all = length-scenarios (generated number) in
@@ -117,6 +118,7 @@ module _ (number : ℕ) where
       (powers_few (condition_count (generated number)) (few_conditions number)) processes in
       subst (λ n. n ≤ 7564) (sym all) few
 
+  -- no reach has more views than there are scenarios
   pub few_views : (reached : List ℕ) → views (generated number) reached ≤ 7564
   few_views reached =
       let all = views_le_scenarios (generated number) reached in
@@ -125,7 +127,7 @@ module _ (number : ℕ) where
       (powers_few (condition_count (generated number)) (few_conditions number)) processes in
       omega (arith, all, few)
 
-  -- what only values are in reach of has a view for each outcome at most
+  -- given a reach of values alone
   module _ (reached : List ℕ) (h : (p : ℕ) → p < 128 → is_in reached p ≡ false) where
     no_free : (o : List Bool) → free_counts (generated number) reached o ≡ 0
     no_free o = sym
@@ -139,6 +141,7 @@ module _ (number : ℕ) where
     one_view : (o : List Bool) → views_of_outcome (generated number) reached o ≡ 1
     one_view o = ap (λ n. ways n 2) (no_free o) ∙ ways_of_none 2
 
+    -- a reach of values alone has at most one view for each outcome
     pub views_by_outcome : views (generated number) reached ≤ 4
     views_by_outcome =
         let os = outcomes (condition_count (generated number)) in
@@ -193,6 +196,7 @@ module _ (number : ℕ) where
           subst (λ i. AreValues (reach_by_item (generated number) order r (message_item (generated number) e) i))
           (sym item) (if_sent (is_message (generated number) e) refl)
 
+      -- a message has at most four views, as it is frozen
       pub message_views : views (generated number) (reach_of r (message_item (generated number) e)) ≤ 4
       message_views = views_by_outcome (reach_of r (message_item (generated number) e))
           (λ p h. is.each (message_item (generated number) e) p (omega (arith, l)) ∙ no_count
@@ -201,6 +205,8 @@ module _ (number : ℕ) where
 
     -- ---- loads
 
+    -- the load of an item is at most its bound: its views times its rows, by whether it is a start (one row), a
+    -- message (at most four views, at most two rows) or a broadcast (at most four rows)
     load_few : (x : ℕ) → x < item_count (generated number) → load (generated number) r x ≤ bound x
     load_few x l =
         let g = generated number in
@@ -229,7 +235,7 @@ module _ (number : ℕ) where
               omega (arith, product, most))
         ]
 
-    -- the loads of the items up to one
+    -- the loads of the first n items are at most 514,832
     pub loads_up_to : (n : ℕ) → n ≤ item_count (generated number) →
         sum_by (load (generated number) r) (numbers_below n) ≤ 514832
     loads_up_to n l =
@@ -255,10 +261,12 @@ module _ (number : ℕ) where
         (ap₂ ◌||◌ (le-ltb most_views (views (generated number) (reach_of r x)) (omega (arith, narrow)))
         (le-ltb most_loads (sum_by (load (generated number) r) (numbers_below (x + 1))) (omega (arith, light))))
 
+  -- all loads together are at most 514,832
   pub small_loads : (order : List ℕ) (r : Reach) → IsReach (generated number) order r →
       sum_by (load (generated number) r) (numbers_below (item_count (generated number))) ≤ 514832
   small_loads order r is = loads_up_to order r is (item_count (generated number)) (omega arith)
 
+  -- no item of a generated graph is too wide
   pub narrow : (order : List ℕ) → IsNarrow (generated number) order
   narrow order x wide = both_ways (is_too_wide (generated number) wide.reach x)
       (not_wide order wide.reach wide.reached x wide.within) wide.wide

@@ -50,7 +50,7 @@ use Rattle.cpg_gen.proofs.Limits.{draw-lt, processes_count, edges_count, few_con
 
 -- ---- durations
 
--- by the number of parts
+-- an execution of a generated process lasts at most 166
 duration_few : (w a c m d f : ℕ) → w ≤ 50 → a ≤ 2 → c ≤ 2 → m ≤ 4 → (n : ℕ) → 1 ≤ n → n ≤ 3 → d * n < w + n → f ≤ 2 →
     w + n * (a + c) + f * (m + d + a) ≤ 166
 duration_few w a c m d f lw la lc lm zero some few h lf = absurd (omega arith)
@@ -79,13 +79,13 @@ duration_from x i f l =
     (omega (arith, n))
     (div_ceil_times (1 + nth_draw x 1 50) (1 + nth_draw x 2 3) (omega arith)).1 l
 
--- ---- counting what is before a moment
+-- ---- counting the moments before one
 
 -- how many of the first n numbers have a moment before one
 abbrev count_before : (ℕ → ℕ) → ℕ → ℕ → ℕ
 count_before at n m = length (filter (λ x. nat_lt (at x) m) (numbers_below n))
 
--- one passes the second test alone
+-- if one element passes only the second test, more elements pass it
 one_more : {X : Type 0} (p q : X → Bool) (xs : List X) (y : X) → ((x : X) → p x ≡ true → q x ≡ true) → Contains xs y →
     p y ≡ false → q y ≡ true →
     length (filter p xs) + 1 ≤ length (filter q xs)
@@ -153,7 +153,7 @@ module _ (number : ℕ) where
   round_is = refl
 
   module _ (order : List ℕ) (topological : IsTopological (generated number) order) where
-    -- what is settled before a moment is no later than this
+    -- the times that are settled before a moment are no later than this
     abbrev ended : ℕ → ℕ
     ended m = count_before (moment_of_end (generated number) order) (process_count (generated number)) m
 
@@ -169,6 +169,7 @@ module _ (number : ℕ) where
         let b = count_grows (moment (generated number) order) (item_count (generated number)) m in
         omega (arith, a, b)
 
+    -- after the moment of an item the bound is greater by two rounds
     bound_at_item : (x : ℕ) → x < item_count (generated number) →
         bound (moment (generated number) order x) + 80 ≤ bound (suc (moment (generated number) order x))
     bound_at_item x l =
@@ -178,6 +179,7 @@ module _ (number : ℕ) where
         (moment (generated number) order x) x l refl in
         omega (arith, a, b)
 
+    -- after the moment of an end the bound is greater by an execution
     bound_at_end : (p : ℕ) → p < process_count (generated number) →
         bound (moment_of_end (generated number) order p) + 166 ≤ bound (suc (moment_of_end (generated number) order p))
     bound_at_end p l =
@@ -203,6 +205,7 @@ module _ (number : ℕ) where
         pub ends : (p : ℕ) → p < process_count (generated number) → moment_of_end (generated number) order p < m →
             end_in t p ≤ bound m
 
+      -- given the run of a scenario
       module _ (s : Scenario) (t : Times) (lawful : IsScenario (generated number) s)
           (run : IsRun (generated number) order frozen s t) where
         frame_le : (m x : ℕ) → SmallBefore t m → x < item_count (generated number) →
@@ -239,6 +242,8 @@ module _ (number : ℕ) where
               (omega (arith, sooner, at)) in
               omega (arith, early)
 
+          -- each condition that decides p, or a process before it on its node, is heard there by the bound of m and
+          -- 40
           heard_le : (c : ℕ) →
               Contains (flat_map (deciding (generated number) s.values)
               (before_on_node (generated number) order p ++ p ∷ [])) c →
@@ -292,12 +297,14 @@ module _ (number : ℕ) where
             let turn = round_is in
             omega (arith, early, turn))
 
-        -- what has its producer's end before it
+        -- the end of an item's producer has an earlier moment than the item
         send_made : (m x : ℕ) → moment (generated number) order x ≡ m →
             phase (item_at (generated number) x) ≡ rank_of_item (item_at (generated number) x) + 2 →
             moment_of_end (generated number) order (producer (generated number) x) < m
         send_made m x is sends = omega (arith, is, sends)
 
+        -- the time of an item at moment m is at most the bound of m and 80, by whether it is a start, a message or a
+        -- broadcast
         unfrozen_le : (m x : ℕ) → SmallBefore t m → moment (generated number) order x ≡ m →
             x < item_count (generated number) →
             ItemCases (generated number) x →
@@ -349,7 +356,7 @@ module _ (number : ℕ) where
       AllSmall m = (s : Scenario) (t : Times) → IsScenario (generated number) s →
           IsRun (generated number) order frozen s t → SmallBefore t m
 
-      -- a frozen time of a moment isn't much greater than what is before the moment
+      -- a frozen time of a moment isn't much greater than the times before the moment
       still_le : (m x : ℕ) → AllSmall m → x < item_count (generated number) → moment (generated number) order x ≡ m →
           (time : ℕ) → get_or frozen x None ≡ Some time →
           time ≤ bound m + 80
@@ -361,6 +368,8 @@ module _ (number : ℕ) where
         | inr f ↦ absurd (none-some time (sym (still.others x f) ∙ e))
       ]
 
+      -- all times before moment m are at most its bound; by induction on m, with one more moment for the items and
+      -- ends at m
       all_small : (m : ℕ) → AllSmall m
       all_small zero s t lawful run =
           record { items = λ x l h. absurd (omega (arith, h)); ends = λ p l h. absurd (omega (arith, h)) }
@@ -387,6 +396,7 @@ module _ (number : ℕ) where
             ];
           }
 
+      -- no process ends later than 19,720
       pub ends_early : (s : Scenario) (t : Times) → IsScenario (generated number) s →
           IsRun (generated number) order frozen s t → (p : ℕ) → p < process_count (generated number) →
           end_in t p ≤ 19720
@@ -408,6 +418,7 @@ module _ (number : ℕ) where
           let due_there = due_is r.0 l in
           omega (arith, r.2, early, due_there))
 
+      -- no process ends past its due
       pub in_time : (urgency : List ℕ) (excess : ℕ) (s : Scenario) (process : Option ℕ) →
           IsExcess (generated number) urgency order frozen excess s process → excess ≡ 0
       in_time urgency excess s process is =

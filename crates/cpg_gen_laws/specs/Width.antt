@@ -15,7 +15,7 @@ GeneratedHaveFewScenarios = (number : ℕ) → length (scenarios (generated numb
 abbrev pub GeneratedHaveFewViews : Type 0
 GeneratedHaveFewViews = (number : ℕ) (reached : List ℕ) → views (generated number) reached ≤ 7564
 
--- a message is frozen, so only values tell its times apart
+-- a message is frozen, so its time depends only on values
 abbrev pub GeneratedMessagesHaveFewViews : Type 0
 GeneratedMessagesHaveFewViews =
     (number : ℕ) (order : List ℕ) (r : Reach) → IsReach (generated number) order r → (e : ℕ) →

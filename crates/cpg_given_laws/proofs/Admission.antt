@@ -1,4 +1,4 @@
--- A graph that is admitted is so with a topological order of its processes as the order that it gives.
+-- An admitted graph is also admitted if it gives a topological order of its processes.
 use Rattle.std.proofs.Common.{ℕ, ◌+◌, ◌≡◌, ◌<◌, ◌≤◌, ◌||◌, not, false, List, Option, Some, AllPairs, IsTrue, filter}
 use Rattle.std.proofs.Common.{length, get_or, sym, ap, ◌∙◌, subst}
 use Rattle.std.specs.List.{list_all}
@@ -20,6 +20,7 @@ use Rattle.cpg_rules.specs.Guards.{Guards, AreGuardsOf, tree_of}
 use Rattle.cpg_given_laws.proofs.Runs.{other, same_activations, same_urgency, same_live}
 
 module _ (g : Graph) (given : Option (List ℕ)) where
+  -- a well-formed graph is so whatever order it gives
   pub formed_of_other : WellFormed g → WellFormed (other g given)
   formed_of_other w = record {
     sources = w.sources;
@@ -35,6 +36,7 @@ module _ (g : Graph) (given : Option (List ℕ)) where
     few_conditions = w.few_conditions;
   }
 
+  -- an order that is topological for a graph is so whatever order the graph gives
   pub topological_of_other : (order : List ℕ) → IsTopological g order → IsTopological (other g given) order
   topological_of_other order top = record { all = top.all; forward = top.forward }
 
@@ -81,6 +83,7 @@ order_within g order top = record {
   once = order_apart (process_count g) order top.all;
 }
 
+-- a graph within its limits is so with an order of its processes
 pub limits_with : (g : Graph) (order : List ℕ) → IsWithinLimits g → IsOrderWithin (process_count g) order →
     IsWithinLimits (other g (Some order))
 limits_with g order limits within = record {
@@ -100,6 +103,7 @@ limits_with g order limits within = record {
   order = within;
 }
 
+-- an admitted graph is admitted with a topological order, with the same urgency order and guards
 pub admitted_with : (g : Graph) (urgency order : List ℕ) (guards : Guards) → IsAdmitted g urgency guards →
     IsTopological g order →
     IsAdmitted (other g (Some order)) urgency guards

@@ -1,4 +1,4 @@
--- What is read of a document with the names of an order at its key `order`.
+-- The graph that is read from a document with the names of an order at its key `order`.
 use Rattle.std.proofs.Common.{◌≡◌, ℕ, false, List, [], ◌∷◌, Option, Some, Ok, refl, ap, ◌∙◌, subst, codes, unwrap_or}
 use Rattle.std.proofs.Common.{inl, inr}
 use Rattle.std.specs.List.{AllByRecursion}
@@ -65,7 +65,9 @@ module _ (d : Data) (ms : Members) where
       refused : only top_keys (top_of ms) ≡ Ok x → are_listed top_keys ms ≡ false → ⊥
       refused h some = let e = rw some at h in cc
 
-  -- a document says the same but for the order, whatever order it gave
+  -- A document says the same but for the order, whatever order it gave.
+  -- The reader opens the document key by key. Each key but `order` reads as it did, and the key `order` reads as the
+  -- names.
   pub raw_with : (r : RawGraph) (names : List (List ℕ)) → as_names d ≡ Some names → read_raw ms ≡ Ok r →
       read_raw (keyed d ms) ≡ Ok (record r { order = Some names })
   unfolding read_raw
@@ -98,7 +100,8 @@ module _ (d : Data) (ms : Members) where
       )
       (ap (λ (r : RawGraph). Ok (record r { order = Some names })) (same_ok _ r rest))
 
--- the names of its processes are read as names
+-- The names of its processes are read as names.
+-- The reader is opened step by step up to the rows of the processes.
 pub raw_processes : (ms : Members) (r : RawGraph) → read_raw ms ≡ Ok r →
     AllByRecursion IsRead (process_names r.processes)
 unfolding read_raw

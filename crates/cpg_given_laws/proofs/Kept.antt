@@ -28,6 +28,7 @@ use Rattle.cpg_given_laws.proofs.Measures.{scenario_of_other, frozen_back, worst
 use Rattle.cpg_given_laws.proofs.Width.{narrow_of_other}
 use Rattle.cpg_given_laws.proofs.Admission.{formed_of_other, topological_of_other, admitted_with}
 
+-- the greatest excess and finish under an order don't depend on the order that the graph gives
 pub same_measures : (g : Graph) (urgency given order : List ℕ) (excess worst : ℕ) →
     IsMeasured (with_order g given) urgency order excess worst ↔ IsMeasured g urgency order excess worst
 same_measures g urgency given order excess worst = (
@@ -35,6 +36,7 @@ same_measures g urgency given order excess worst = (
   measured_of_other g (Some given) urgency order excess worst,
 )
 
+-- an admitted graph that gives no order, and a compile of it
 module _ (g : Graph) (urgency : List ℕ) (guards : Guards) (c : Compiled) (is : IsAdmitted g urgency guards)
     (ungiven : g.order ≡ None) (made : IsCompilation g urgency c) where
   -- its first order is the urgency order
@@ -113,5 +115,6 @@ module _ (g : Graph) (urgency : List ℕ) (guards : Guards) (c : Compiled) (is :
         times = same_times d.built built;
       }
 
+  -- a graph that gives the order of a compile keeps the compile's tables
   pub keeps_tables : KeepsTables g urgency guards c
   keeps_tables = record { admitted = admitted; taken = taken; made = no_fault; same = same }

@@ -20,6 +20,7 @@ pub run_back : (g : Graph) (given : Option (List ℕ)) (order : List ℕ) (froze
     IsRun g order frozen s t
 run_back g given order frozen s t = run_of_other (other g given) g.order order s t frozen
 
+-- a scenario of a graph that gives an order is one of the graph without it
 pub scenario_back : (g : Graph) (given : Option (List ℕ)) (s : Scenario) → IsScenario (other g given) s → IsScenario g s
 scenario_back g given = scenario_of_other (other g given) g.order
 
@@ -45,11 +46,13 @@ module _ (g : Graph) (given : Option (List ℕ)) (order : List ℕ) (frozen : Li
     none = λ e time h. is.none e time (would_back x time h);
   }
 
+  -- frozen times under an order are the same whatever order the graph gives
   pub frozen_of_other : AreFrozenTimes g order frozen → AreFrozenTimes (other g given) order frozen
   frozen_of_other are =
       record { count = are.count; each = λ x l f. frozen_time x (are.each x l f); others = are.others }
 
   module _ (urgency : List ℕ) where
+    -- the greatest finish under an order is the same whatever order the graph gives
     pub worst_of_other : (worst : ℕ) (s : Scenario) (by : Option ℕ) → IsWorst g urgency order frozen worst s by →
         IsWorst (other g given) urgency order frozen worst s by
     worst_of_other worst s by is = record {
@@ -63,6 +66,7 @@ module _ (g : Graph) (given : Option (List ℕ)) (order : List ℕ) (frozen : Li
       by = λ t run. is.by t (run_back g given order frozen s t run);
     }
 
+    -- the greatest excess under an order is the same whatever order the graph gives
     pub excess_of_other : (excess : ℕ) (s : Scenario) (by : Option ℕ) → IsExcess g urgency order frozen excess s by →
         IsExcess (other g given) urgency order frozen excess s by
     excess_of_other excess s by is = record {
@@ -76,16 +80,19 @@ module _ (g : Graph) (given : Option (List ℕ)) (order : List ℕ) (frozen : Li
       by = λ t run. is.by t (run_back g given order frozen s t run);
     }
 
+-- frozen times of a graph that gives an order are those of the graph without it
 pub frozen_back : (g : Graph) (given : Option (List ℕ)) (order : List ℕ) (frozen : List (Option ℕ)) →
     AreFrozenTimes (other g given) order frozen →
     AreFrozenTimes g order frozen
 frozen_back g given = frozen_of_other (other g given) g.order
 
+-- the greatest finish of a graph that gives an order is that of the graph without it
 pub worst_back : (g : Graph) (given : Option (List ℕ)) (order : List ℕ) (frozen : List (Option ℕ)) (urgency : List ℕ)
     (worst : ℕ) (s : Scenario) (by : Option ℕ) →
     IsWorst (other g given) urgency order frozen worst s by → IsWorst g urgency order frozen worst s by
 worst_back g given = worst_of_other (other g given) g.order
 
+-- both measures under an order are the same whatever order the graph gives
 pub measured_of_other : (g : Graph) (given : Option (List ℕ)) (urgency order : List ℕ) (excess worst : ℕ) →
     IsMeasured g urgency order excess worst →
     IsMeasured (other g given) urgency order excess worst

@@ -1,4 +1,4 @@
--- A document with another value at one key has the others as they were.
+-- A document with another value at one key keeps the values at the other keys.
 use Rattle.std.proofs.Common.{◌≡◌, ℕ, true, List, Option, Some, None, Ordering, Less, Equal, Greater, is_eq, refl, sym}
 use Rattle.std.proofs.Common.{ap, ◌∙◌, subst}
 use Rattle.std.specs.Prelude.{bytes_eq, ⊤}
@@ -29,6 +29,7 @@ passed Equal h found d = elim h [ ]
 passed Greater h found d = refl
 
 module _ (k : List ℕ) (d : Data) where
+  -- a value that is put at a key leaves those at other keys
   pub other_key : (other : List ℕ) (ms : Members) → Differs (slice_cmp nat_cmp other k) →
       get_member other (with_member k d ms) ≡ get_member other ms
   other_key other no_members h = passed (slice_cmp nat_cmp other k) h None d
@@ -46,6 +47,7 @@ module _ (k : List ℕ) (d : Data) where
           ∙ sym (passed (slice_cmp nat_cmp other l) apart (get_member other ms) e)
       by Greater is rest = ap (λ found. match_ordering (slice_cmp nat_cmp other l) found (Some e) found) rest
 
+  -- a value that is put at a key stands there
   pub own_key : (ms : Members) → get_member k (with_member k d ms) ≡ Some d
   own_key no_members = ap (λ o. match_ordering o None (Some d) None) (tied_itself nat_list_cmp_total k)
   own_key (member l e ms) = by (slice_cmp nat_cmp k l) refl (own_key ms)
@@ -61,6 +63,7 @@ module _ (k : List ℕ) (d : Data) where
           ap (λ o. match_ordering o (get_member k (with_member k d ms)) (Some e) (get_member k (with_member k d ms))) is
           ∙ rest
 
+  -- if the key is one of a table's, all keys are still the table's once a value is put there
   pub still_listed : (keys : List Key) → list_any (λ key. bytes_eq (text_of key) k) keys ≡ true → (ms : Members) →
       are_listed keys ms ≡ true →
       are_listed keys (with_member k d ms) ≡ true

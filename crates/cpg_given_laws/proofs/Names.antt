@@ -70,6 +70,7 @@ process_is_read row p h =
     (sym (process-parts row name node a b) ∙ h) λ work c last.
     subst IsRead (ap (λ (p : RawProcess). p.name) (same_ok (process_with name node work) p last)) (read_at row name a)
 
+-- the names of processes that were read from a document are names
 pub read_processes : (i : ℕ) (members : List Members) (ps : List RawProcess) →
     each (λ i ms. read_process (record { table = tables.Process; index = i; members = ms })) i members ≡ Ok ps →
     AllByRecursion IsRead (process_names ps)
@@ -87,6 +88,7 @@ unfolding process_of
 called nodes i raw p h = opened (number_of nodes (place tables.Process i Node) raw.node) _ p h
     λ node a last. sym (ap (λ (p : Process). p.name) (same_ok _ p last))
 
+-- the processes of a graph that was read have the names of the document
 pub all_called : (nodes : List (List ℕ)) (i : ℕ) (raws : List RawProcess) (ps : List Process) →
     each (process_of nodes) i raws ≡ Ok ps →
     map (λ (p : Process). p.name) ps ≡ process_names raws

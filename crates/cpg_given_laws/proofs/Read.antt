@@ -36,7 +36,8 @@ record AreNumbered (names : List (List ℕ)) (order : List ℕ) : Type 0 where
 names_back : (g : Graph) → process_names (raw_of g).processes ≡ names_of g.processes
 names_back g = map-map (λ p. p.name) (raw_process g.nodes) g.processes
 
--- by what is known of a document that is written
+-- The names of an order are read as its numbers, since the document of a graph is read back as the graph.
+-- The checks of the reader are passed one by one; those of the order give that its names differ and are found.
 are_numbered : (g : Graph) (order : List ℕ) → IsWithinLimits g → IsOrderWithin (process_count g) order →
     AreNumbered (names_of g.processes) order
 unfolding graph_of resolved
@@ -93,6 +94,8 @@ same_limits : (r : RawGraph) (order : Option (List (List ℕ))) → limits (reco
 unfolding limits
 same_limits r order = refl
 
+-- The document with the key `order` is read as the graph with this order: the raw document has the names of the
+-- order, and these names are read as its numbers.
 read_with : (ms : Members) (g : Graph) (order : List ℕ) → read_members ms ≡ Ok g →
     IsOrderWithin (process_count g) order →
     read_members (with_key g order ms) ≡ Ok (with_order g order)
@@ -116,6 +119,7 @@ read_with ms g order h within =
     )
     (graph_ordered r g order graph are)
 
+-- a file whose document differs only at the key `order` says the same graph with that order
 pub orders_are_read : (bytes new : List ℕ) (ms : Members) (g : Graph) (order : List ℕ) → document_of bytes ≡ Ok ms →
     problem_of bytes ≡ Ok g
     → IsOrderWithin (process_count g) order → document_of new ≡ Ok (with_key g order ms) →

@@ -45,13 +45,16 @@ module _ (g : Graph) (given : Option (List ℕ)) where
       duration g p 0 + greatest (map (λ e. (if is_message g e then round g else 0) + f (target g e)) (outputs g p)))
       (same_tail_within depth)
 
+  -- activations don't depend on the order that the graph gives
   pub same_activations : activation other ≡ activation g
   same_activations = same_within (process_count g)
 
+  -- which process is more urgent doesn't depend on the order that the graph gives
   pub same_urgency : is_more_urgent other ≡ is_more_urgent g
   same_urgency = ap {B = ℕ → ℕ → Bool} (λ f p q. nat_lt (f q) (f p) || ((f p == f q) && nat_lt p q))
       (same_tail_within (process_count g))
 
+  -- which edges are live doesn't depend on it
   pub same_live : live other ≡ live g
   same_live = ap {B = List Bool → ℕ → Bool} (λ f values e.
       is_active (f values (source g e)) && takes (edge_at g e).when (value_of g values (source g e))) same_activations
@@ -60,15 +63,18 @@ module _ (g : Graph) (given : Option (List ℕ)) where
   same_earlier = ap {B = ℕ → List ℕ} (λ before c.
       filter (λ d. before (process_of g d) (process_of g c)) (numbers_below (condition_count g))) same_urgency
 
+  -- whether a condition decides a process doesn't depend on it
   pub same_decides : decides other ≡ decides g
   same_decides = ap₂ {C = List Bool → ℕ → ℕ → Bool} (λ earlier f values p c. list_any
       (λ o. agree_on (earlier c) o values && not (same_activation (f (slice_set o c false) p)
       (f (slice_set o c true) p))) (outcomes (condition_count g))) same_earlier same_activations
 
+  -- the conditions that decide a process don't depend on it
   pub same_deciding : deciding other ≡ deciding g
   same_deciding = ap {B = List Bool → ℕ → List ℕ}
       (λ f values p. filter (f values p) (numbers_below (condition_count g))) same_decides
 
+  -- which items are active doesn't depend on it
   pub same_item_active : (values : List Bool) (it : Item) → item_active other values it ≡ item_active g values it
   same_item_active values (Start p) = ap (λ f. is_active (f values p)) same_activations
   same_item_active values (Message e) = ap (λ f. is_sent_item g (Message e) && f values e) same_live
@@ -95,6 +101,7 @@ module _ (g : Graph) (given : Option (List ℕ)) where
     same_bounds x (Message e) = same_send x
     same_bounds x (Broadcast c) = same_send x
 
+    -- the time of an item that isn't frozen doesn't depend on it
     pub same_unfrozen : (x : ℕ) → unfrozen_time other order s t x ≡ unfrozen_time g order s t x
     same_unfrozen x = ap greatest (same_bounds x (item_at g x))
 
@@ -102,6 +109,7 @@ module _ (g : Graph) (given : Option (List ℕ)) where
     same_time frozen x = ap₂ (λ a n. if a then Some (greatest (n ∷ option_to_list (get_or frozen x None))) else None)
         (same_item_active s.values (item_at g x)) (same_unfrozen x)
 
+    -- a run is one whatever order the graph gives
     pub run_of_other : (frozen : List (Option ℕ)) → IsRun g order frozen s t → IsRun other order frozen s t
     run_of_other frozen run = record {
       times = run.times ∙ ap (λ f. map f (numbers_below (item_count g))) (sym (fun_ext (same_time frozen)));

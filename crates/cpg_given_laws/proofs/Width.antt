@@ -1,4 +1,4 @@
--- So what is too wide under an order is so whatever order a graph gives.
+-- An item that is too wide under an order is so whatever order a graph gives.
 use Rattle.std.proofs.Common.{ℕ, ◌+◌, ◌*◌, ◌≡◌, ◌==◌, ◌&&◌, ◌||◌, Bool, List, [], ◌∷◌, ◌++◌, Option, IsTrue}
 use Rattle.std.proofs.Common.{if◌then◌else◌, filter, map, length, sum_by, sym, ap, ◌∙◌, subst}
 use Rattle.std.specs.Prelude.{nat_lt}
@@ -63,6 +63,7 @@ module _ (g : Graph) (given : Option (List ℕ)) where
       && (nat_lt most_views (f (reach_of r x)) || nat_lt most_loads
       (sum_by (λ y. f (reach_of r y) * rows_of_item g (item_at g y)) (numbers_below (x + 1))))) same_views
 
+  -- an item that is too wide under an order is so whatever order the graph gives
   pub wide_of_other : (order : List ℕ) (x : ℕ) → IsWide g order x → IsWide (other g given) order x
   wide_of_other order x is = record {
     reach = is.reach;
@@ -71,6 +72,7 @@ module _ (g : Graph) (given : Option (List ℕ)) where
     wide = subst IsTrue (sym (same_too_wide is.reach x)) is.wide;
   }
 
+-- if no item is too wide under an order, none is whatever order the graph gives
 pub narrow_of_other : (g : Graph) (given : Option (List ℕ)) (order : List ℕ) → IsNarrow g order →
     IsNarrow (other g given) order
 narrow_of_other g given order is x wide = is x (wide_of_other (other g given) g.order order x wide)

@@ -110,6 +110,7 @@ module _ (g : Graph) (urgency : List ℕ) (none : g.order ≡ None) where
   wide x =
       (λ w. back (λ o. IsLeastWide g o x) w.0, λ w. (forth (λ o. IsLeastWide g o x) w, λ given. absurd (given none)))
 
+-- a graph without an order is compiled as before there was the key
 pub nothing_changes_without_the_key : NothingChangesWithoutTheKey
 nothing_changes_without_the_key g urgency none =
     record {

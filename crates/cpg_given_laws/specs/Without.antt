@@ -63,6 +63,6 @@ pub record IsAsWithoutTheKey (g : Graph) (urgency : List ℕ) : Type 0 where
   pub shown : (s : Scenario) (p time : ℕ) → IsShownLate g urgency s p time ↔ IsShownLateByUrgency g urgency s p time
   pub wide : (x : ℕ) → ShowsCompileFault g urgency (TooWide x) ↔ IsLeastWide g urgency x
 
--- So it is with each graph that gives no order.
+-- This holds for each graph that gives no order.
 abbrev pub NothingChangesWithoutTheKey : Type 0
 NothingChangesWithoutTheKey = (g : Graph) (urgency : List ℕ) → g.order ≡ None → IsAsWithoutTheKey g urgency

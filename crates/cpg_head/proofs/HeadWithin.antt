@@ -31,11 +31,12 @@ short n p f w h =
     (let e : p.mu + div_ceil p.wcet p.parts + p.alpha ≤ 3000000001 = omega (arith, w.mu, w.alpha, again) in e) in
     omega (arith, parts, faults, w.wcet)
 
--- what holds of each number below a bound
+-- what holds of each number below a bound holds of all of them
 pub All-below : (P : ℕ → Type 0) (n : ℕ) → ((x : ℕ) → x < n → P x) → All P (numbers_below n)
 All-below P n h = All-weaker (Contains (numbers_below n)) P (λ x c. h x (numbers-Contains n x c)) (numbers_below n)
     (All-contains_itself (numbers_below n))
 
+-- as many results of a map pass as elements whose results do
 count_by-map : {X Y : Type 0} (p : Y → Bool) (f : X → Y) (xs : List X) →
     count_by p (map f xs) ≡ count_by (λ x. p (f x)) xs
 count_by-map p f [] = refl
@@ -48,7 +49,7 @@ some_of None e = absurd (true≢false (sym e))
 some_of (Some c) e = (c, refl)
 
 module _ (g : Graph) where
-  -- the processes that have a condition
+  -- a process has a condition if and only if it has a conditional output
   pub has_condition : (p : ℕ) → p < process_count g → is_some (condition_of g p) ≡ is_disjunction g p
   has_condition p l = same_truth (is_some (condition_of g p)) (is_disjunction g p)
       (λ e. let c = some_of (condition_of g p) e in
@@ -58,6 +59,7 @@ module _ (g : Graph) where
       (λ e. let c = condition_there g p l e in
       ap is_some (ap (condition_of g) (sym c.2) ∙ condition_of_process_of g c.0 c.1))
 
+  -- as many processes of the head have a condition as the graph has conditions
   pub conditions_counted : count_by (λ p. p.condition) (head_of g).processes ≡ condition_count g
   conditions_counted =
       count_by-map (λ (p : HeadProcess). p.condition) (head_process g) (numbers_below (process_count g))
@@ -66,6 +68,7 @@ module _ (g : Graph) where
       (λ p c. has_condition p (numbers-Contains (process_count g) p c)))
 
   module _ (w : IsWithinLimits g) where
+    -- what the head says of a process is within the limits: its node is known, and its times are below 2 ^ 60
     process_within : (p : ℕ) → p < process_count g → IsHeadProcess g.faults (length g.nodes) (head_process g p)
     process_within p l =
         let at : IsProcessWithin (length g.nodes) (process_at g p) =
@@ -78,6 +81,7 @@ module _ (g : Graph) where
               (λ f h. short (length g.nodes) (process_at g p) f at (omega (arith, w.faults))));
         }
 
+    -- what version 2 adds is within the limits, if it adds anything
     extras_within : (b : Bool) →
         IfSome (cond b None (Some (map extra_of g.processes))) (AreExtras (length (head_of g).processes))
     extras_within true = tt
@@ -88,6 +92,7 @@ module _ (g : Graph) where
           (λ p a. record { release = a.release; deadline = a.deadline }) g.processes w.processes);
     }
 
+    -- the head for a graph within its limits is a lawful head
     pub head_within : IsHead (head_of g)
     head_within =
         let count : length (head_of g).processes ≡ process_count g =

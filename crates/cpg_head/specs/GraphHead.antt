@@ -28,6 +28,7 @@ is_plain p = (p.release == 0) && is_none p.deadline
 abbrev pub extras_of : Graph → Option (List Extra)
 extras_of g = if list_all is_plain g.processes then None else Some (map extra_of g.processes)
 
+-- the head for a graph
 abbrev pub head_of : Graph → Head
 head_of g = record {
   faults = g.faults;

@@ -13,12 +13,14 @@ pub record Head : Type 0 where
   pub nodes : List (List ℕ)
   pub processes : List HeadProcess
   pub edges : List (ℕ × ℕ)
+  -- a release and a deadline for each process; version 1 of the pack has none of them
   pub extras : Option (List Extra)
 
 -- a process on one of the nodes, with a duration for each number of faults
 pub record IsHeadProcess (faults nodes : ℕ) (p : HeadProcess) : Type 0 where
   pub node : p.node < nodes
   pub count : length p.times ≡ faults + 1
+  -- all durations are below 2 ^ 60
   pub times : All (λ t. t < 2 ^ 60) p.times
 
 -- an edge between two of the processes
@@ -45,6 +47,7 @@ pub record IsHead (h : Head) : Type 0 where
   pub few_edges : length h.edges ≤ MOST_EDGES
   pub processes : All (IsHeadProcess h.faults (length h.nodes)) h.processes
   pub edges : All (IsHeadEdge (length h.processes)) h.edges
+  -- in version 2 there is an extra for each process, in range
   pub extras : IfSome h.extras (AreExtras (length h.processes))
 
 -- the version of the pack

@@ -26,7 +26,7 @@ impl Durations {
         Durations { times }
     }
 
-    /// The duration with so many faults.
+    /// The duration with this many faults.
     pub fn of(&self, faults: u8) -> u64
         requires { faults < length self.now }
         ensures { result ≡ get_or self.now faults 0 }
@@ -41,7 +41,7 @@ impl Durations {
         self.times.as_slice()
     }
 
-    /// Equal durations.
+    /// A copy of the durations.
     pub fn copy(&self) -> Result<Durations, OutOfMemory>
         ensures { IfOk result (λ durations. durations ≡ self.now) }
     {

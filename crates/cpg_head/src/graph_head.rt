@@ -38,7 +38,7 @@ fn head_process(alloc: Global, problem: &Problem, process: u32) -> Result<HeadPr
     })
 }
 
-/// What a head says of the processes.
+/// What a head says of each process.
 pub fn head_processes(alloc: Global, problem: &Problem) -> Result<Vec<HeadProcess>, OutOfMemory>
     ensures { IfOk result (λ v. v.items ≡ map (head_process problem.now) (numbers_below (process_count problem.now))) }
 {
@@ -51,7 +51,7 @@ pub fn head_processes(alloc: Global, problem: &Problem) -> Result<Vec<HeadProces
     Ok(processes)
 }
 
-/// Equal names.
+/// A copy of the names.
 pub fn head_nodes(alloc: Global, names: &[Name]) -> Result<Vec<Name>, OutOfMemory>
     ensures { IfOk result (λ v. v.items ≡ names.now) }
 {
@@ -77,6 +77,7 @@ fn are_plain(processes: &[Process]) -> bool
     processes.iter().all(|process| process.release == 0 && process.deadline.is_none())
 }
 
+/// What version 2 adds for each process.
 fn extras_of(alloc: Global, processes: &[Process]) -> Result<Vec<Extra>, OutOfMemory>
     ensures { IfOk result (λ v. v.items ≡ map extra_of processes.now) }
 {
@@ -91,7 +92,7 @@ fn extras_of(alloc: Global, processes: &[Process]) -> Result<Vec<Extra>, OutOfMe
     Ok(extras)
 }
 
-/// What version 2 says of the processes, if there is need of it.
+/// What version 2 adds for the processes, if some process needs it.
 pub fn head_extras(alloc: Global, problem: &Problem) -> Result<Option<Vec<Extra>>, OutOfMemory>
     ensures { IfOk result (λ o. option_map (λ v. v.items) o ≡ extras_of problem.now) }
 {

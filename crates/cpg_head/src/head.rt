@@ -15,14 +15,20 @@ use std::marker::Model;
 /// Durations are below this, in time units of the graph file.
 pub const TIME_END: u64 = 1 << 60;
 
-/// What tables are made for (docs/FORMATS.md), seen as the fault number, the nodes' names, the processes, the edges by
-/// the numbers of the processes that they run between and, in version 2 alone, an `Extra` for each process.
+/// The head of a pack: what its tables are made for (docs/FORMATS.md). It is seen as the fault number, the nodes' names,
+/// the processes, the edges by the numbers of the processes that they run between and, in version 2 only, an `Extra` for
+/// each process.
 #[derive(Drop)]
 pub struct Head {
+    /// How many faults the tables tolerate.
     faults: u8,
+    /// The names of the nodes.
     nodes: Vec<Name>,
+    /// The processes, by number.
     processes: Vec<HeadProcess>,
+    /// The processes that each edge leads from and to.
     edges: Vec<(u32, u32)>,
+    /// What version 2 adds for each process; `None` in version 1.
     extras: Option<Vec<Extra>>,
 }
 
@@ -49,7 +55,7 @@ impl Model for Head {
     }) };
 }
 
-/// Whether there are few enough of each.
+/// Whether there are few enough of each kind of part.
 fn are_counts_within(faults: u8, nodes: usize, processes: usize, edges: usize) -> bool
     ensures { IsTrue result ↔ ((faults ≤ MOST_FAULTS) × (nodes ≤ MOST_NODES) × (processes ≤ MOST_PROCESSES) × (edges ≤ MOST_EDGES)) }
 {
@@ -66,12 +72,14 @@ pub fn condition_count(processes: &[HeadProcess]) -> usize
     processes.iter().filter(|process| process.condition).count()
 }
 
+/// Whether all of these durations are below 2^60.
 fn are_times_within(times: &[u64]) -> bool
     ensures { IsTrue result ↔ All (λ t. t < 2 ^ 60) times.now }
 {
     times.iter().all(|time| *time < TIME_END)
 }
 
+/// Whether a process is on one of the nodes, and has a duration in range for each number of faults.
 fn is_process_within(process: &HeadProcess, faults: u8, nodes: usize) -> bool
     ensures { IsTrue result ↔ IsHeadProcess faults nodes process.now }
 {
@@ -85,6 +93,7 @@ fn is_process_within(process: &HeadProcess, faults: u8, nodes: usize) -> bool
     are_times_within(times)
 }
 
+/// Whether all processes are within the limits.
 fn are_processes_within(processes: &[HeadProcess], faults: u8, nodes: usize) -> bool
     ensures { IsTrue result ↔ All (IsHeadProcess faults nodes) processes.now }
 {
@@ -93,21 +102,25 @@ fn are_processes_within(processes: &[HeadProcess], faults: u8, nodes: usize) -> 
         .all(|process| is_process_within(process, faults, nodes))
 }
 
+/// Whether an edge is between two of the processes.
 fn is_edge_within(edge: (u32, u32), processes: usize) -> bool
     ensures { IsTrue result ↔ IsHeadEdge processes edge }
 {
     (edge.0 as usize) < processes && (edge.1 as usize) < processes
 }
 
+/// Whether all edges are between two of the processes.
 fn are_edges_within(edges: &[(u32, u32)], processes: usize) -> bool
     ensures { IsTrue result ↔ All (IsHeadEdge processes) edges.now }
 {
     edges.iter().all(|edge| is_edge_within(*edge, processes))
 }
 
+/// Whether a release and a deadline are in range.
 fn is_extra_within(extra: Extra) -> bool
     ensures { IsTrue result ↔ IsExtra extra }
 {
+    // `None` says that the process has no deadline of its own
     let due = match extra.deadline {
         Some(deadline) => deadline <= LONGEST,
         None => true,
@@ -115,12 +128,14 @@ fn is_extra_within(extra: Extra) -> bool
     extra.release <= LONGEST && due
 }
 
+/// Whether all of these are in range.
 fn are_extras_within(extras: &[Extra]) -> bool
     ensures { IsTrue result ↔ All IsExtra extras.now }
 {
     extras.iter().all(|extra| is_extra_within(*extra))
 }
 
+/// A copy of the extras, if there are any.
 fn copy_extras(extras: &Option<Vec<Extra>>) -> Result<Option<Vec<Extra>>, OutOfMemory>
     ensures { IfOk result (λ copy. option_map (λ v. v.items) copy ≡ option_map (λ v. v.items) extras.now) }
 {
@@ -175,8 +190,8 @@ impl Head {
         })
     }
 
-    /// The head in version 2, with what that says of each process, and `None` exactly if that isn't one `Extra` for
-    /// each process, or a number in it is above 10^9.
+    /// The head in version 2, with these extras. `None` exactly if there isn't one `Extra` for each process, or a number
+    /// in one is above 10^9.
     pub fn with_extras(self, extras: Vec<Extra>) -> Option<Head>
         ensures head { IfSome result (λ h. h ≡ record self { extras = Some extras.items }) }
         ensures within { IfSome result IsHead }
@@ -197,7 +212,7 @@ impl Head {
         })
     }
 
-    /// How many faults the tables bear.
+    /// How many faults the tables tolerate.
     pub fn faults(&self) -> u8
         ensures faults { result ≡ self.now.faults }
         ensures within { IsHead self.now }
@@ -236,7 +251,7 @@ impl Head {
         if self.extras.is_some() { 2 } else { 1 }
     }
 
-    /// What version 2 says of a process beside, and `None` exactly in version 1.
+    /// What version 2 adds for a process, and `None` exactly in version 1.
     pub fn extra(&self, process: u32) -> Option<&Extra>
         requires { process < length self.now.processes }
         ensures extra { option_map (λ e. e.now) result ≡ extra_at self.now process }
@@ -248,7 +263,7 @@ impl Head {
         }
     }
 
-    /// An equal head.
+    /// A copy of the head.
     pub fn copy(&self) -> Result<Head, OutOfMemory>
         ensures { IfOk result (λ head. head ≡ self.now) }
     {

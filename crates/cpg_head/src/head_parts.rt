@@ -8,7 +8,7 @@ use std::alloc::AllocError;
 /// What a head says of a process.
 #[derive(Drop)]
 pub struct HeadProcess {
-    /// What the process is called.
+    /// The name of the process.
     pub name: Name,
     /// The number of its node.
     pub node: u32,
@@ -18,7 +18,7 @@ pub struct HeadProcess {
     pub times: Durations,
 }
 
-/// What a head of version 2 says of a process beside. Times are in time units of the graph file.
+/// What a head of version 2 adds for a process. Times are in time units of the graph file.
 #[derive(Clone, Copy, Debug, PartialEq, Eq)]
 pub struct Extra {
     /// The time before which it doesn't start, at most 10^9.
@@ -28,7 +28,7 @@ pub struct Extra {
 }
 
 impl HeadProcess {
-    /// An equal value.
+    /// A copy of the process.
     pub fn copy(&self) -> Result<HeadProcess, OutOfMemory>
         ensures { IfOk result (λ process. process ≡ self.now) }
     {

@@ -5,8 +5,11 @@ use Rattle.std.specs.Prelude.{ℕ, ◌++◌, ◌||◌, Bool, true, false, List, 
 -- failed
 pub record Fetch : Type 0 where
   pub name : List ℕ
+  -- all bytes that the reads have given so far
   pub given : List ℕ
+  -- whether a read gave nothing, so that the file has ended
   pub ended : Bool
+  -- whether the fetch or a read failed
   pub failed : Bool
 
 abbrev pub is_none : List ℕ → Bool

@@ -11,7 +11,7 @@ use Rattle.cpg_hyper.specs.Refusals.{AddsShort, HasShortNames, FailsFirst, Holds
 use Rattle.cpg_hyper.proofs.Counted.{empty_pieces}
 use Rattle.cpg_hyper.proofs.Taken.{more}
 
--- one more element made
+-- the elements made so far, with one more
 pub made_more : {X Y : Type 0} (xs : List X) (i : ℕ) (x : X) → i < length xs → x ≡ get_or xs i x →
     (f : X → Y) (old made new : List Y) → made ≡ old ++ map f (take i xs) →
     new ≡ made ++ f x ∷ [] →
@@ -20,11 +20,13 @@ made_more xs i x h is f old made new so_far is_new =
     is_new ∙ ap (λ ys. ys ++ f x ∷ []) so_far ∙ append_assoc old (map f (take i xs)) (f x ∷ [])
     ∙ ap (λ ys. old ++ ys) (sym (map_push f (take i xs) x) ∙ ap (map f) (sym (more xs i x h is)))
 
+-- if all names were short enough, the processes were added
 pub added_true : (b : Bool) (old new pieces : List Process) (S : Type 0) → b ≡ true → AddsShort b old new pieces S →
     (new ≡ old ++ pieces) × S
 added_true true old new pieces S e h = h
 added_true false old new pieces S e h = cc
 
+-- if the answer is false, not all names are short enough
 pub added_false : (b : Bool) (old new pieces : List Process) (S : Type 0) → b ≡ false →
     AddsShort b old new pieces S → S → ⊥
 added_false false old new pieces S e h = h
@@ -33,7 +35,7 @@ added_false true old new pieces S e h = cc
 last_or_before : (i n : ℕ) → i < n + 1 → (i < n) ⊎ (i ≡ n)
 last_or_before i n l = ⊎_elim (λ (lt : i < n). inl lt) (λ (le : n ≤ i). inr (omega (arith, l, le))) (cases_lt i n)
 
--- a fact of the numbers below the next
+-- what holds of the numbers below n, and of n, holds of those below n + 1
 pub below_more : (P : ℕ → Type 0) (n : ℕ) → ((i : ℕ) → i < n → P i) → P n → (i : ℕ) → i < n + 1 → P i
 below_more P n h p i l = ⊎_elim (λ (lt : i < n). h i lt) (λ (e : i ≡ n). subst P (sym e) p) (last_or_before i n l)
 
@@ -51,6 +53,7 @@ nothing_added out whole p part e =
       λ i l k d m. absurd (omega (arith, m, e)),
     )
 
+-- a part of which a fact doesn't hold is the first, if the fact holds of all parts before it
 pub fails_at : (P : ℕ → Part → Type 0) (parts : List Part) (p : ℕ) (part : Part) → p < length parts →
     part ≡ get_or parts p part → (P p part → ⊥) → HoldsBefore P parts p →
     FailsFirst P parts p

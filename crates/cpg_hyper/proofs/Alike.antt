@@ -51,7 +51,7 @@ plain_copy : (n : ℕ) (b : Bool) → (if b then Plain else Inactive) ≡ copied
 plain_copy n true = refl
 plain_copy n false = refl
 
--- if the copies of the inputs are live as the inputs are
+-- if the copied inputs are live as the inputs are, the activation is the copied one
 copy_by : (n : ℕ) (join : Bool) (es : List ℕ) (f h : ℕ → Bool) → ((e : ℕ) → Contains es e → f (n + e) ≡ h e) →
     activation_by join (map (λ e. n + e) es) f ≡ copied_activation n (activation_by join es h)
 copy_by n join [] f h s = refl
@@ -65,6 +65,7 @@ copy_by n false (e ∷ es) f h s =
 
 -- ---- values
 
+-- a list of values has the value of a condition at the condition's place
 value_there : (f : ℕ → Bool) (xs : List ℕ) (q : ℕ) (o : Option ℕ) → o ≡ Some (place xs q) → Contains xs q →
     get_or (map f xs) (unwrap_or o 0) false ≡ f q
 value_there f xs q o is c = ap (λ p. get_or (map f xs) (unwrap_or p 0) false) is
@@ -76,6 +77,8 @@ same_taken (Some wanted) v u h = ap (takes (Some wanted)) (h refl)
 
 -- ---- the instance
 
+-- given an instance of a part
+-- `p`, `i`, `h`: the i-th instance of part p; `values`: a value for each condition of the whole graph
 module _ (whole : ℕ) (parts : List Part) (p i : ℕ) (values : List Bool) (within : AreWithinLimits parts)
     (h : IsInstance whole parts p i) where
   abbrev g : Graph
@@ -110,6 +113,7 @@ module _ (whole : ℕ) (parts : List Part) (p i : ℕ) (values : List Bool) (wit
   edge_there e l = contained (IsEdgeWithin (process_count part)) part.edges (edge_at part e) limited.edges
       (Contains-get_or part.edges e _ l)
 
+  -- a condition of an instance has the value of its part's condition
   value_alike : (q : ℕ) → q < process_count part → is_disjunction part q ≡ true →
       value_of g values (first + q) ≡ value_of part own q
   value_alike q l d =
@@ -118,6 +122,7 @@ module _ (whole : ℕ) (parts : List Part) (p i : ℕ) (values : List Bool) (wit
       sym (value_there (λ r. value_of g values (first + r)) (disjunctions part) q (condition_of part q)
       (position-place (disjunctions part) q c) c)
 
+  -- an edge of an instance is taken as its part's edge is
   taken_alike : (e : ℕ) → e < edge_count part →
       takes (edge_at g (first_edge + e)).when (value_of g values (source g (first_edge + e)))
       ≡ takes (edge_at part e).when
@@ -128,6 +133,7 @@ module _ (whole : ℕ) (parts : List Part) (p i : ℕ) (values : List Bool) (wit
       (λ w. value_alike (source part e) (edge_there e l).from (list_any_true (λ f. is_some (edge_at part f).when)
       (outputs part (source part e)) e (outputs-Contains part e l) w))
 
+  -- an edge of an instance is live as its part's edge is, if its source is activated alike
   live_by : (depth e : ℕ) → e < edge_count part →
       activation_within depth g values (first + source part e)
       ≡ copied_activation first_edge (activation_within depth part own (source part e))
@@ -140,6 +146,7 @@ module _ (whole : ℕ) (parts : List Part) (p i : ℕ) (values : List Bool) (wit
       ∙ active_copy first_edge (activation_within depth part own (source part e)))
       (taken_alike e l)
 
+  -- looking back along a number of edges, a process of an instance is activated as its part's process
   within_alike : (depth q : ℕ) → q < process_count part →
       activation_within depth g values (first + q) ≡ copied_activation first_edge (activation_within depth part own q)
   within_alike zero q l = refl
@@ -164,6 +171,7 @@ module _ (whole : ℕ) (parts : List Part) (p i : ℕ) (values : List Bool) (wit
         subst (λ (d : Edge). place order d.from < place order d.to) (copies e l)
         (edge_goes_up g order topological (first_edge + e) inside)
 
+    -- a process of an instance is activated as its part's process
     activated : (q : ℕ) → q < process_count part →
         activation g values (first + q) ≡ copied_activation first_edge (activation part own q)
     activated q l =
@@ -180,22 +188,26 @@ module _ (whole : ℕ) (parts : List Part) (p i : ℕ) (values : List Bool) (wit
         ∙ active_copy first_edge (activation part own (source part e)))
         (taken_alike e l)
 
+-- a process of an instance has a condition exactly if its part's process has one
 pub have_conditions : InstancesHaveConditions
 have_conditions whole parts p i q within h l =
     copied_condition (unrolled whole parts) (part_at parts p).problem (first_edge_of whole parts p i)
     (first_of whole parts p i) (size_of (part_at parts p)) (around whole parts p i [] within h)
     (copies whole parts p i [] within h) q l
 
+-- a process of an instance is activated as its part's process is
 pub activated_alike : InstancesAreActivatedAlike
 activated_alike whole parts p i q s order within h l topological =
     activated whole parts p i s.values within h order topological q l
 
+-- a process of an instance is active exactly if its part's process is
 pub active_alike : InstancesAreActiveAlike
 active_alike whole parts p i q s order within h l topological =
     ap is_active (activated_alike whole parts p i q s order within h l topological)
     ∙ active_copy (first_edge_of whole parts p i)
     (activation (part_at parts p).problem (scenario_of whole parts p i s).values q)
 
+-- an edge of an instance is live exactly if its part's edge is
 pub live_alike : InstancesAreLiveAlike
 live_alike whole parts p i e s order within h l topological =
     lives whole parts p i s.values within h order topological e l

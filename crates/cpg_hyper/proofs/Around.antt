@@ -27,6 +27,7 @@ pub record LiesBetween (low high : ℕ) (e : Edge) : Type 0 where
   pub to : low ≤ e.to
   pub to_ends : e.to < high
 
+-- a copied edge lies between the first processes of its instance and the next
 of_instance : (first a b i size : ℕ) (e d : Edge) → a ≤ i → i < b → IsEdgeWithin size d →
     copied_edge (first + i * size) d ≡ e →
     LiesBetween (first + a * size) (first + b * size) e
@@ -53,6 +54,7 @@ lies_in first a k part h e c =
     of_instance first a (a + k) i (size_of part) e d range.0 range.1
     (contained (IsEdgeWithin (size_of part)) part.problem.edges d h.edges has) is
 
+-- the edges of the parts from a first process on lie at this process or above
 lies_above : (whole first : ℕ) (parts : List Part) →
     ((part : Part) → Contains parts part → IsWithinLimits part.problem) → (e : Edge) →
     Contains (edges_from whole first parts) e →
@@ -78,7 +80,7 @@ pub record AreAround (n first size : ℕ) (all mine : List Edge) : Type 0 where
   pub earlier : (e : Edge) → Contains front e → (e.from < first) × (e.to < first)
   pub later : (e : Edge) → Contains back e → (first + size ≤ e.from) × (first + size ≤ e.to)
 
--- numbers cut at one of them
+-- the numbers below n are those before i, i, and those after it
 cut : (n i k : ℕ) → n ≡ i + suc k → numbers_below n ≡ numbers_below i ++ i ∷ range_with_len (i + 1) k
 cut n i k e = ap (λ m. numbers_below m) e ∙ range-append 0 i (suc k)
     ∙ ap (λ (m : ℕ). numbers_below i ++ range_with_len m (suc k)) (nothing_before i)
@@ -86,17 +88,21 @@ cut n i k e = ap (λ m. numbers_below m) e ∙ range-append 0 i (suc k)
     nothing_before : (m : ℕ) → 0 + m ≡ m
     nothing_before m = omega arith
 
+-- a list of pieces is those before one piece, this piece, and those after it
 pieces : (f : ℕ → List Edge) (xs : List ℕ) (y : ℕ) (ys : List ℕ) (rest : List Edge) →
     flat_map f (xs ++ y ∷ ys) ++ rest ≡ flat_map f xs ++ (f y ++ (flat_map f ys ++ rest))
 pieces f xs y ys rest =
     ap (λ es. es ++ rest) (flat_map-append f xs (y ∷ ys)) ∙ append_assoc (flat_map f xs) (f y ++ flat_map f ys) rest ∙
     ap (λ es. flat_map f xs ++ es) (append_assoc (f y) (flat_map f ys) rest)
 
+-- the edges of an instance stand together among those of its part and those after it
 around_in : (whole first i : ℕ) (part : Part) (rest : List Edge) → IsWithinLimits part.problem →
     i < whole / part.period →
     ((e : Edge) → Contains rest e → (after_part whole first part ≤ e.from) × (after_part whole first part ≤ e.to))
     → AreAround (i * length part.problem.edges) (first_in first part i) (size_of part)
     (edges_of whole first part ++ rest) (edges_in first part i)
+-- in front stand the edges of the earlier instances, behind those of the later ones and of the later parts; the
+-- processes of each are numbered below or above those of this instance
 around_in whole first i part rest h l above =
     let f = edges_in first part in
     let n = whole / part.period in
@@ -122,6 +128,7 @@ around_in whole first i part rest h l above =
           (Contains-append_cases (flat_map f (range_with_len (i + 1) k)) rest e c);
     }
 
+-- what stands together among some edges does so with more edges before them
 around_later : (n own first size : ℕ) (mine new rest : List Edge) → length mine ≡ own →
     ((e : Edge) → Contains mine e → (e.from < first) × (e.to < first)) →
     AreAround n first size rest new →
@@ -135,20 +142,26 @@ around_later n own first size mine new rest long below a = record {
   later = a.later;
 }
 
+-- 0 in front changes no number
 same_edges : (a : ℕ) → a ≡ 0 + a
 same_edges a = omega arith
 
+-- the edges of a part in front are counted first
 next_edges : (own b a : ℕ) → own + (b + a) ≡ own + b + a
 next_edges own b a = omega arith
 
+-- the edges of part p's instance that begins with process `begin` stand from edge n on among those of all parts
 abbrev pub AreAroundAt : ℕ → ℕ → List Part → ℕ → ℕ → ℕ → Type 0
 AreAroundAt whole first parts p n begin = AreAround n begin (size_of (part_at parts p)) (edges_from whole first parts)
     (map (copied_edge begin) (part_at parts p).problem.edges)
 
+-- the edges of an instance stand together, with all other edges before or after them and their processes
 pub are_around : (whole first : ℕ) (parts : List Part) →
     ((part : Part) → Contains parts part → IsWithinLimits part.problem) → (p i : ℕ) →
     IsInstance whole parts p i
     → AreAroundAt whole first parts p (first_edge_of whole parts p i) (first + first_of whole parts p i)
+-- by induction on the parts: the instance is one of the first part, or one of a later part, with the first part's
+-- edges in front
 are_around whole first [] h p i is = absurd (omega (arith, is.part))
 are_around whole first (part ∷ parts) h zero i is =
     let here = around_in whole first i part (edges_from whole (after_part whole first part) parts)

@@ -18,6 +18,7 @@ use Rattle.cpg_hyper.proofs.Whole.{nothing_before}
 abbrev pub no_edge : Edge
 no_edge = record { from = 0; to = 0; size = 0; when = None; frozen = false }
 
+-- the copy of an edge stands at its place among the edges of its part's instances
 in_part : (whole first i e : ℕ) (part : Part) → i < whole / part.period → e < length part.problem.edges →
     get_or (edges_of whole first part) (i * length part.problem.edges + e) no_edge
     ≡ copied_edge (first_in first part i) (get_or part.problem.edges e no_edge)
@@ -39,15 +40,18 @@ in_part whole first i e part l h =
 drop_zero : (a b : ℕ) → 0 + a + b ≡ a + b
 drop_zero a b = omega arith
 
+-- no process comes before the first part
 pub same_first : (first a : ℕ) → first + a ≡ first + (0 + a)
 same_first first a = omega arith
 
 moved : (own b c e all : ℕ) → all ≡ own → own + b + c + e ≡ all + (b + c + e)
 moved own b c e all is = omega (arith, is)
 
+-- the first process after a part, plus those before an instance, in another order
 pub next_first : (first own b a : ℕ) → first + own + (b + a) ≡ first + (own + b + a)
 next_first first own b a = omega arith
 
+-- the copy of a part's edge stands at its place after the instance's first edge
 pub edge_copy_at : (whole first : ℕ) (parts : List Part) (p i e : ℕ) → IsInstance whole parts p i →
     e < length (part_at parts p).problem.edges
     → get_or (edges_from whole first parts) (first_edge_of whole parts p i + e) no_edge
@@ -73,6 +77,7 @@ edge_copy_at whole first (part ∷ parts) (suc p) i e h l =
     ∙ ap (λ m. copied_edge m (get_or (part_at parts p).problem.edges e no_edge))
     (next_first first (whole / part.period * size_of part) (before whole parts p) (i * size_of (part_at parts p)))
 
+-- each edge of an instance is the copy of its part's edge
 pub have_edges : InstancesHaveEdges
 have_edges whole parts p i e h l = edge_copy_at whole 0 parts p i e h l
     ∙ ap (λ n. copied_edge n (edge_at (part_at parts p).problem e)) (nothing_before (first_of whole parts p i))

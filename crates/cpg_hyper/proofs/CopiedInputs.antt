@@ -18,7 +18,7 @@ use Rattle.cpg_hyper.specs.Unrolled.{copied_edge}
 use Rattle.cpg_hyper.proofs.CopiedEdges.{no_edge}
 use Rattle.cpg_hyper.proofs.Around.{AreAround}
 
--- numbers from a later one on
+-- a range that begins a later is the range with a added to each number
 range-moved : (a b n : ℕ) → range_with_len (a + b) n ≡ map (λ e. a + e) (range_with_len b n)
 range-moved a b zero = refl
 range-moved a b (suc n) = ap (λ xs. (a + b) ∷ xs) (ap (λ m. range_with_len m n) (next a b) ∙ range-moved a (b + 1) n)
@@ -34,7 +34,7 @@ moved_test a x y =
 other_test : (x y : ℕ) → (x ≡ y → ⊥) → (x == y) ≡ false
 other_test x y h = false_from_ne_true (x == y) (λ t. h (eqb-true x y t))
 
--- only numbers from n to before n + m pass
+-- if only numbers from n to before n + m pass, they are the ones below m that pass, moved by n
 within_range : (test : ℕ → Bool) (n m b : ℕ) → ((e : ℕ) → e < n → test e ≡ false) →
     ((k : ℕ) → k < b → test (n + m + k) ≡ false) →
     filter test (numbers_below (n + (m + b))) ≡ map (λ e. n + e) (filter (λ e. test (n + e)) (numbers_below m))
@@ -60,6 +60,7 @@ within_range test n m b front back =
     past e (l, h) = let k : ℕ = e - (n + m) in
         subst (λ x. test x ≡ false) (let is : n + m + k ≡ e = omega (arith, l) in is) (back k (omega (arith, l, h)))
 
+-- given a graph in which the edges of a part are copied, with all other edges around them
 module _ (g part : Graph) (n first size : ℕ)
     (around : AreAround n first size g.edges (map (copied_edge first) part.edges))
     (copies : (e : ℕ) → e < edge_count part → edge_at g (n + e) ≡ copied_edge first (edge_at part e)) where
@@ -69,6 +70,7 @@ module _ (g part : Graph) (n first size : ℕ)
   long : length mine ≡ edge_count part
   long = length-map part.edges (copied_edge first)
 
+  -- how many edges there are: those before the copies, the copies, and those after them
   pub edge_total : edge_count g ≡ n + (edge_count part + length around.back)
   edge_total = omega (
     arith,
@@ -94,6 +96,7 @@ module _ (g part : Graph) (n first size : ℕ)
       ∙ get_or-append-add around.front (mine ++ around.back) (length mine + k) no_edge ∙
       get_or-append-add mine around.back k no_edge)) (Contains-get_or around.back k no_edge l)
 
+  -- the inputs of a copy are the copies of its process's inputs
   pub copied_inputs : (q : ℕ) → q < size → inputs g (first + q) ≡ map (λ e. n + e) (inputs part q)
   copied_inputs q l =
       ap (λ m. filter (λ e. target g e == (first + q)) (numbers_below m)) edge_total
@@ -107,6 +110,7 @@ module _ (g part : Graph) (n first size : ℕ)
       (λ e c. ap (λ (d : Edge). d.to == (first + q)) (copies e (numbers-Contains (edge_count part) e c))
       ∙ moved_test first (target part e) q))
 
+  -- the outputs of a copy are the copies of its process's outputs
   pub copied_outputs : (q : ℕ) → q < size → outputs g (first + q) ≡ map (λ e. n + e) (outputs part q)
   copied_outputs q l =
       ap (λ m. filter (λ e. source g e == (first + q)) (numbers_below m)) edge_total

@@ -13,10 +13,11 @@ use Rattle.cpg_hyper.specs.Instances.{part_at, IsInstance, before, first_of}
 use Rattle.cpg_hyper.specs.Laws.{InstancesAreCopies}
 use Rattle.cpg_hyper.proofs.Counted.{constant_pieces, processes_size}
 
+-- a product grows with its first factor
 pub product_le : (a b c : ℕ) → a ≤ b → a * c ≤ b * c
 product_le a b c h = grind (arith, common_steps)
 
--- a number within the first of n pieces
+-- a place in one of n pieces of one size lies within all of them
 pub within_pieces : (i n size q : ℕ) → i < n → q < size → i * size + q < n * size
 within_pieces i n size q l h =
     let most : (i + 1) * size ≤ n * size = product_le (i + 1) n size (omega (arith, l)) in
@@ -37,10 +38,12 @@ none = record {
   deadline = None;
 }
 
+-- i instances come before instance i
 pub take_count : (whole i : ℕ) (part : Part) → i < whole / part.period → length (take i (instances whole part)) ≡ i
 take_count whole i part l =
     omega (arith, length-take i (instances whole part), length-range_with_len 0 (whole / part.period), l)
 
+-- the copy of a process stands at its place among the processes of its part's instances
 in_part : (whole p i q : ℕ) (part : Part) → i < whole / part.period → q < size_of part →
     get_or (processes_of whole p part) (i * size_of part + q) none ≡ copied_process p i part
     (get_or part.problem.processes q none)
@@ -61,6 +64,7 @@ in_part whole p i q part l h =
     nothing_before : (n : ℕ) → 0 + n ≡ n
     nothing_before n = omega arith
 
+-- the copy of a part's process stands at its place after the instance's first process
 pub copy_at : (whole first : ℕ) (parts : List Part) (p i q : ℕ) → IsInstance whole parts p i →
     q < size_of (part_at parts p)
     → get_or (processes_from whole first parts) (before whole parts p + i * size_of (part_at parts p) + q) none
@@ -119,6 +123,7 @@ within_whole whole first (part ∷ parts) (suc p) i h =
       length-append (processes_of whole first part) (processes_from whole (first + 1) parts),
     )
 
+-- each process of an instance is the copy of its part's process
 pub are_copies : InstancesAreCopies
 are_copies whole parts p i q h l = copy_at whole 0 parts p i q h l
     ∙ ap (λ n. copied_process n i (part_at parts p) (process_at (part_at parts p).problem q)) (nothing_before p)

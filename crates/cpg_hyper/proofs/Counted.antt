@@ -16,6 +16,7 @@ use Rattle.cpg_hyper.specs.declared.part.Part.{Part}
 use Rattle.cpg_hyper.specs.Unrolled.{size_of, instances, processes_in, processes_of, processes_from, edges_in, edges_of}
 use Rattle.cpg_hyper.specs.Unrolled.{edges_from, after_part}
 
+-- pieces of one length have together that length times their number
 pub constant_pieces : {X Y : Type 0} (f : X → List Y) (n : ℕ) → ((x : X) → length (f x) ≡ n) → (xs : List X) →
     length (flat_map f xs) ≡ length xs * n
 constant_pieces f n h [] = omega arith
@@ -24,19 +25,21 @@ constant_pieces f n h (x ∷ xs) = omega (arith, h x, constant_pieces f n h xs, 
 instance_count : (whole : ℕ) (part : Part) → length (instances whole part) ≡ whole / part.period
 instance_count whole part = length-range_with_len 0 (whole / part.period)
 
+-- all instances of a part have together its number of processes times the number of instances
 pub processes_size : (whole p : ℕ) (part : Part) →
     length (processes_of whole p part) ≡ whole / part.period * size_of part
 processes_size whole p part = constant_pieces (processes_in p part) (size_of part)
     (λ i. length-map part.problem.processes _) (instances whole part) ∙
     ap (λ n. n * size_of part) (instance_count whole part)
 
+-- all instances of a part have together its number of edges times the number of instances
 pub edges_size : (whole first : ℕ) (part : Part) →
     length (edges_of whole first part) ≡ whole / part.period * length part.problem.edges
 edges_size whole first part = constant_pieces (edges_in first part) (length part.problem.edges)
     (λ i. length-map part.problem.edges _) (instances whole part) ∙
     ap (λ n. n * length part.problem.edges) (instance_count whole part)
 
--- the number of edges does not depend on where they begin
+-- the number of edges does not depend on the number of their first process
 pub same_length : (whole a b : ℕ) (parts : List Part) →
     length (edges_from whole a parts) ≡ length (edges_from whole b parts)
 same_length whole a b [] = refl
@@ -52,13 +55,17 @@ same_length whole a b (part ∷ parts) = omega (
 product_le : (a b c d : ℕ) → a ≤ b → c ≤ d → a * c ≤ b * d
 product_le a b c d h k = grind (arith, common_steps)
 
+-- all instances of a part have a bounded number of processes or edges
 pub part_le : (whole period count most : ℕ) → whole ≤ 1000000000 → count ≤ most →
     whole / period * count ≤ 1000000000 * most
 part_le whole period count most h k =
     product_le (whole / period) 1000000000 count most (omega (arith, div-le_self whole period, h)) k
 
+-- given the part at a place
+-- `i`, `part`, `l`, `is`: the part at place i; `whole`: the hyperperiod
 module _ (parts : List Part) (i : ℕ) (part : Part) (l : i < length parts) (is : part ≡ get_or parts i part)
     (whole : ℕ) where
+  -- with one more part its processes are counted, and no longer left
   pub more_processes : (all total : ℕ) → all ≡ total + length (processes_from whole i (drop i parts)) →
       all ≡ total + whole / part.period * size_of part + length (processes_from whole (i + 1) (drop (i + 1) parts))
   more_processes all total h = h ∙ rw (drop-here parts i part l is)
@@ -68,6 +75,7 @@ module _ (parts : List Part) (i : ℕ) (part : Part) (l : i < length parts) (is 
         processes_size whole i part,
       ))
 
+  -- with one more part its edges are counted, and no longer left
   pub more_edges : (all total : ℕ) → all ≡ total + length (edges_from whole 0 (drop i parts)) →
       all ≡ total + whole / part.period * length part.problem.edges + length (edges_from whole 0 (drop (i + 1) parts))
   more_edges all total h = h
@@ -78,7 +86,7 @@ module _ (parts : List Part) (i : ℕ) (part : Part) (l : i < length parts) (is 
         same_length whole (after_part whole 0 part) 0 (drop (i + 1) parts),
       ))
 
-  -- the edges of one more part
+  -- with one more part its edges are added, and no longer left
   pub next_edges : (all out new : List Edge) (first : ℕ) → all ≡ out ++ edges_from whole first (drop i parts) →
       new ≡ out ++ edges_of whole first part →
       all ≡ new ++ edges_from whole (after_part whole first part) (drop (i + 1) parts)
@@ -86,7 +94,7 @@ module _ (parts : List Part) (i : ℕ) (part : Part) (l : i < length parts) (is 
       (edges_of whole first part) (edges_from whole (after_part whole first part) (drop (i + 1) parts)))) ∙
       ap (λ xs. xs ++ edges_from whole (after_part whole first part) (drop (i + 1) parts)) (sym k)
 
--- one more instance
+-- the pieces of one more instance are added
 pub next_instance : {X : Type 0} (f : ℕ → List X) (n : ℕ) (old out new : List X) →
     out ≡ old ++ flat_map f (numbers_below n) → new ≡ out ++ f n →
     new ≡ old ++ flat_map f (numbers_below (n + 1))
@@ -98,6 +106,7 @@ no_edges : (n : ℕ) (es : List Edge) → n ≡ 0 → All (IsEdgeWithin n) es �
 no_edges n [] e h = refl
 no_edges n (d ∷ es) e h = absurd (omega (arith, (h 0 d (omega arith)).from, e))
 
+-- empty pieces are together empty
 pub empty_pieces : {X Y : Type 0} (f : X → List Y) → ((x : X) → f x ≡ []) → (xs : List X) → flat_map f xs ≡ []
 empty_pieces f h [] = refl
 empty_pieces f h (x ∷ xs) = rw (h x) (empty_pieces f h xs)
@@ -110,10 +119,13 @@ nothing_added out whole first part h e =
     sym (ap (λ xs. out ++ xs) (empty_pieces (edges_in first part) (λ i. rw none refl) (instances whole part))
     ∙ append-nil out)
 
+-- given the count of the numbers below n that pass
 module _ (p : ℕ → Bool) (n total new : ℕ) (h : total ≡ length (filter p (numbers_below n))) where
+  -- a number that passes is counted
   pub counted : p n ≡ true → new ≡ total + 1 → new ≡ length (filter p (numbers_below (n + 1)))
   counted e k =
       k ∙ rw (filter_below_push p n, e) (omega (arith, h, length-append (filter p (numbers_below n)) (n ∷ [])))
 
+  -- a number that fails is passed over
   pub passed : p n ≡ false → new ≡ total → new ≡ length (filter p (numbers_below (n + 1)))
   passed e k = k ∙ rw (filter_below_push p n, e) (omega (arith, h, ap length (append-nil (filter p (numbers_below n)))))

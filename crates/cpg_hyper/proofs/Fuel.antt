@@ -27,6 +27,7 @@ filter_fewer p q (y ∷ ys) x more c off on = ⊎_elim
     here true b e f l = cc
     here false false e f l = cc
 
+    -- with one more element fewer still pass p than q, if p implies q for it
     there : (a b : Bool) → (a ≡ true → b ≡ true) → length (filter p ys) < length (filter q ys) →
         length (cond a (y ∷ filter p ys) (filter p ys)) < length (cond b (y ∷ filter q ys) (filter q ys))
     there true true h l = omega (arith, l)
@@ -37,11 +38,13 @@ filter_fewer p q (y ∷ ys) x more c off on = ⊎_elim
 lower : (a b : ℕ) → nat_lt a b ≡ true → a < b
 lower a b t = ⊎_elim (λ (l : a < b). l) (λ (l : b ≤ a). absurd (true≢false (sym t ∙ le-ltb a b l))) (cases_lt a b)
 
+-- given a height of each of some numbers
 module _ (size : ℕ) (height : ℕ → ℕ) where
   -- how many numbers are lower
   abbrev pub rank : ℕ → ℕ
   rank q = length (filter (λ j. nat_lt (height j) (height q)) (numbers_below size))
 
+  -- a greater height gives a greater rank
   pub rank_grows : (a b : ℕ) → a < size → height a < height b → rank a < rank b
   rank_grows a b l h =
       filter_fewer (λ j. nat_lt (height j) (height a)) (λ j. nat_lt (height j) (height b)) (numbers_below size) a
@@ -52,15 +55,19 @@ module _ (size : ℕ) (height : ℕ → ℕ) where
   all_kept [] = refl
   all_kept (x ∷ xs) = ap suc (all_kept xs)
 
+  -- a rank is below the number of all
   pub rank_below : (q : ℕ) → q < size → rank q < size
   rank_below q l =
       let fewer = filter_fewer (λ j. nat_lt (height j) (height q)) (λ j. true) (numbers_below size) q (λ j t. refl)
       (Contains-numbers size q l) (le-ltb (height q) (height q) (omega arith)) refl in
       omega (arith, fewer, all_kept (numbers_below size), length-range_with_len 0 size)
 
+-- given a height of each process that grows along each edge
+-- `sources`: each edge has a process of the graph as its source; `up`: its target is higher than its source
 module _ (g : Graph) (values : List Bool) (height : ℕ → ℕ)
     (sources : (e : ℕ) → e < edge_count g → source g e < process_count g)
     (up : (e : ℕ) → e < edge_count g → height (source g e) < height (target g e)) where
+  -- looking back along one edge more than the rank of a process changes nothing
   more_depth : (depth q : ℕ) → rank (process_count g) height q < depth →
       activation_within depth g values q ≡ activation_within (suc depth) g values q
   more_depth zero q h = absurd (omega (arith, h))
@@ -73,6 +80,7 @@ module _ (g : Graph) (values : List Bool) (height : ℕ → ℕ)
       ap (λ a. is_active a && takes (edge_at g e).when (value_of g values (source g e)))
       (more_depth d (source g e) (omega (arith, grows, h))))
 
+  -- looking back further than as many edges as there are processes changes no activation
   pub enough_depth : (more q : ℕ) → q < process_count g →
       activation_within (more + process_count g) g values q ≡ activation_within (process_count g) g values q
   enough_depth zero q l =

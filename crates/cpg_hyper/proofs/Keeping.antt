@@ -29,6 +29,7 @@ use Rattle.cpg_hyper.proofs.Copies.{are_copies, within_whole}
 sum_part : (xs : List ℕ) (n m : ℕ) → sum (take m (drop n xs)) ≤ sum xs
 sum_part xs n m = omega (arith, sum_by-take-le (λ x. x) (drop n xs) m, sum_by-take-drop (λ x. x) xs n)
 
+-- what a scenario says of an instance is a scenario of its part
 pub have_scenarios : InstancesHaveScenarios
 have_scenarios whole parts p i s over h is =
     let part = part_at parts p in
@@ -46,17 +47,20 @@ have_scenarios whole parts p i s over h is =
       );
     }
 
+-- a process of an instance has as many faults as in the scenario of the instance
 fault_same : (whole : ℕ) (parts : List Part) (p i q : ℕ) (s : Scenario) → q < size_of (part_at parts p) →
     fault_of (scenario_of whole parts p i s) q ≡ fault_of s (first_of whole parts p i + q)
 fault_same whole parts p i q s l =
     get_or-take (size_of (part_at parts p)) (drop (first_of whole parts p i) s.faults) q 0 l
     ∙ get_or-drop (first_of whole parts p i) s.faults q 0
 
+-- an execution in an instance lasts as long as its part's in that scenario
 pub last_as_long : InstancesLastAsLong
 last_as_long whole parts p i q s h l is = rw (fault_same whole parts p i q s l, are_copies whole parts p i q h l) refl
 
 -- ---- valid tables
 
+-- a column has a place in its row, and the test at this place is that of the column
 column_there : (cs : List Column) (c : Column) (test : Column → Bool) → Contains cs c →
     (j : ℕ) × (list_any test (take 1 (drop j cs)) ≡ (test c || false))
 column_there cs c test (j, l, e) = (j, rw (drop_more cs j c l, e) refl)
@@ -69,6 +73,9 @@ both_false false b h e = cc
 at_least : (a b : ℕ) → nat_lt a b ≡ false → b ≤ a
 at_least a b h = ⊎_elim (λ (l : a < b). absurd (true≢false (sym (lt-ltb a b l) ∙ h))) (λ (m : b ≤ a). m) (cases_lt a b)
 
+-- given a column of a process that matches in valid tables
+-- `s`, `is`: a scenario; `valid`: the tables are valid; `x`, `l`: a process; `c`, `there`, `match`: a column of it
+-- that matches
 module _ (g : Graph) (tables : List NodeTable) (s : Scenario) (x : ℕ) (is : IsScenario g s) (valid : IsValid g tables)
     (l : x < process_count g) (c : Column)
     (there : Contains (columns_of tables x) c) (match : matches c.cube s ≡ true) where
@@ -101,6 +108,7 @@ module _ (g : Graph) (tables : List NodeTable) (s : Scenario) (x : ℕ) (is : Is
 lesser_of : (whole own : ℕ) → lesser_due whole (Some own) ≤ own
 lesser_of whole own = omega arith
 
+-- in valid tables a start in an instance is at its release or later, and its end comes by its due
 pub keep_periods : ValidTablesKeepPeriods
 keep_periods whole parts p i q s tables time h l is valid among =
     let g = unrolled whole parts in
@@ -123,6 +131,7 @@ keep_periods whole parts p i q s tables time h l is valid among =
       ended = omega (arith, ended g tables s x is valid below c there match, least, at_time);
     }
 
+-- if some column matches, there is a time of one that does
 some_passes : (cs : List Column) (s : Scenario) → list_any (λ (d : Column). matches d.cube s) cs ≡ true → (t : ℕ) ×
     Contains (map (λ (d : Column). d.time) (filter (λ (d : Column). matches d.cube s) cs)) t
 some_passes cs s h =
@@ -140,6 +149,7 @@ present false b h e = cc
 start_at : (g : Graph) (x : ℕ) → x < process_count g → item_at g x ≡ Start x
 start_at g x l = rw (lt-ltb x (process_count g) l) refl
 
+-- in valid tables an active process of an instance has a start
 pub start_instances : ValidTablesStartInstances
 start_instances whole parts p i q s tables h l is valid alive =
     let g = unrolled whole parts in

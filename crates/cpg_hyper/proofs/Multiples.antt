@@ -9,6 +9,7 @@ use Rattle.cpg_hyper.specs.Hyperperiod.{IsMeasure, IsLeastCommon, IsCommon, IsHy
 use Rattle.cpg_hyper.specs.declared.part.Part.{Part}
 use Rattle.cpg_hyper.proofs.Taken.{all_more, all_less, all_same}
 
+-- the greatest common divisor of a number and 0 is the number
 pub measure_zero : (a b : ℕ) → 1 ≤ a → b ≡ 0 → IsMeasure a b a
 measure_zero a b some e = record {
   some = omega (arith, some);
@@ -23,6 +24,7 @@ by_parts m b q r a e = rw (← e) (omega arith)
 rest_of : (m a b : ℕ) → m * (a % b) ≡ m * a - a / b * (m * b)
 rest_of m a b = by_parts m b (a / b) (a % b) a (div-add-mod a b)
 
+-- a step of Euclid's algorithm keeps the greatest common divisor
 pub measure_step : (a b g : ℕ) → IsMeasure b (a % b) g → IsMeasure a b g
 measure_step a b g h = record {
   some = h.some;
@@ -41,6 +43,7 @@ swap_outer k g b = omega arith
 swap : (m g : ℕ) → m * g ≡ g * m
 swap m g = omega arith
 
+-- the product of two numbers over their greatest common divisor is their least common multiple
 pub least_of : (a b g : ℕ) → IsMeasure a b g → IsLeastCommon a b (a / g * b)
 least_of a b g h =
     let k = a / g in
@@ -61,6 +64,7 @@ both_some : (k g b : ℕ) → 1 ≤ k * g → 1 ≤ b → 1 ≤ k * b
 both_some zero g b h l = absurd (omega (arith, h))
 both_some (suc k) g b h l = omega (arith, l)
 
+-- the least common multiple of numbers above 0 is above 0
 pub least_some : (a b g : ℕ) → IsMeasure a b g → 1 ≤ a → 1 ≤ b → 1 ≤ a / g * b
 least_some a b g h l m = both_some (a / g) g b (subst (λ n. 1 ≤ n) (sym (div-mul_cancel g h.first)) l) m
 
@@ -69,9 +73,11 @@ pub record IsSoFar (parts : List Part) (whole : ℕ) : Type 0 where
   pub common : IsCommon parts whole
   pub least : (m : ℕ) → IsCommon parts m → whole ∣ m
 
+-- the least common multiple of no periods is 1
 pub none_so_far : (parts : List Part) → IsSoFar (take 0 parts) 1
 none_so_far parts = record { common = λ k d l. absurd (omega arith); least = λ m h. one-dvd m }
 
+-- with one more period the least common multiple is that of the former one and the period
 pub more_so_far : (parts : List Part) (i : ℕ) (part : Part) (whole new : ℕ) → i < length parts →
     part ≡ get_or parts i part → IsSoFar (take i parts) whole →
     IsLeastCommon whole part.period new →
@@ -84,6 +90,7 @@ more_so_far parts i part whole new l is so_far h = record {
       h.least m (so_far.least m before) here;
 }
 
+-- the least common multiple of some of the periods is at most the hyperperiod
 pub least_below : (parts : List Part) (i whole new : ℕ) → IsSoFar (take i parts) new → IsHyperperiod parts whole →
     new ≤ whole
 least_below parts i whole new h w = le_of_dvd w.some (h.least whole (all_same parts i (λ d. d.period ∣ whole) w.common))

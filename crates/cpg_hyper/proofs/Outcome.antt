@@ -16,7 +16,7 @@ use Rattle.cpg_hyper.specs.Unrolled.{processes_from, edges_from, first_graph, un
 use Rattle.cpg_hyper.specs.Refusals.{HoldsOfEach, HasFewEnough, AreOver, ShowsProcesses, ShowsUnrolled}
 use Rattle.cpg_hyper.proofs.Whole.{unrolled_within, first_there}
 
--- the parts of which the graph is made
+-- the graph made of the first part's faults, nodes and slots, and all processes and edges, is within the limits
 pub made_within : (whole : ℕ) (parts : List Part) → 1 ≤ length parts → length parts ≤ 4 → AreOver parts whole →
     HoldsOfEach (λ p part. IsWithinLimits part.problem) parts →
     HasFewEnough (unrolled whole parts)
@@ -27,16 +27,19 @@ pub made_within : (whole : ℕ) (parts : List Part) → 1 ≤ length parts → l
 made_within whole parts some few over within counts first faults nodes slots ps es is a b c d e =
     rw (a, b, c, d, e, is) (unrolled_within whole parts some few over within counts)
 
+-- the graph of the first part
 pub first_problem : (parts : List Part) (part : Part) → 1 ≤ length parts → part ≡ get_or parts 0 part →
     part.problem ≡ first_graph parts
 first_problem parts part some is = ap (λ (d : Part). d.problem) is ∙ first_there parts part some
 
+-- counting the processes with conditional outputs counts the conditions
 pub count_is : (g : Graph) (es : List Edge) (n total : ℕ) → es ≡ g.edges → n ≡ process_count g →
     total ≡ length (filter (has_conditional_output es) (numbers_below n)) →
     total ≡ condition_count g
 count_is g es n total e k h =
     h ∙ ap length (ap₂ (λ ds m. filter (has_conditional_output ds) (numbers_below m)) e k ∙ conditions_found g)
 
+-- a fault in making the processes is a fault of unrolling, if there are few enough of each
 pub from_processes : (whole : ℕ) (parts : List Part) → AreOver parts whole → HasFewEnough (unrolled whole parts) →
     (f : HyperFault) → ShowsProcesses whole parts (Err f) →
     ShowsUnrolled parts (Err f)

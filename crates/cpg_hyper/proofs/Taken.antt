@@ -21,17 +21,22 @@ All_parts P xs x a =
       subst P (at_last xs x x) (a (length xs) x (omega (arith, long))),
     )
 
+-- given the element at a place of a list
 module _ {X : Type 0} (xs : List X) (i : ℕ) (x : X) (h : i < length xs) (is : x ≡ get_or xs i x) where
+  -- the elements up to this one are those before it and this one
   pub more : take (i + 1) xs ≡ take i xs ++ x ∷ []
   more = take_more xs i x h ∙ ap (λ y. take i xs ++ y ∷ []) (sym is)
 
+  -- what holds of the elements before it and of this one holds of the elements up to this one
   pub all_more : (P : X → Type 0) → All P (take i xs) → P x → All P (take (i + 1) xs)
   all_more P a p = subst (All P) (sym more) (All-push P (take i xs) x a p)
 
+  -- what holds of the elements up to this one holds of those before it and of this one
   pub all_less : (P : X → Type 0) → All P (take (i + 1) xs) → All P (take i xs) × P x
   all_less P a =
       let b = subst (All P) more a in
       All_parts P (take i xs) x b
 
+-- what holds of all elements holds of the first ones
 pub all_same : {X : Type 0} (xs : List X) (i : ℕ) (P : X → Type 0) → All P xs → All P (take i xs)
 all_same xs i P a = All-take P i xs a

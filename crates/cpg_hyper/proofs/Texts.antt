@@ -20,6 +20,7 @@ all_one : {X : Type 0} (P : X → Type 0) (x : X) → P x → All P (x ∷ [])
 all_one P x h zero d l = h
 all_one P x h (suc k) d l = absurd (omega (arith, l))
 
+-- the decimal text of a number has digits alone
 pub digits_only : (n : ℕ) → n < 2 ^ 64 → All IsDigit (decimal n)
 digits_only n h = decimal_by_steps (λ n ds. All IsDigit ds)
     (λ n l. all_one IsDigit (48 + n) (omega arith, omega (arith, l)))
@@ -36,12 +37,13 @@ all_weaker P R xs f h k d l = f (get_or xs k d) (h k d l)
 point : All (λ b. IsTrue (is_name_byte b)) (codes ".")
 point = all_one (λ b. IsTrue (is_name_byte b)) 46 refl
 
--- a name with its points, from the left
+-- a made name is a number, a point, a number, a point, and a name
 made_is : (p i : ℕ) (name : List ℕ) → name_in p i name ≡ decimal p ++ (46 ∷ (decimal i ++ (46 ∷ name)))
 made_is p i name = append_assoc ((decimal p ++ codes ".") ++ decimal i) (codes ".") name
     ∙ append_assoc (decimal p ++ codes ".") (decimal i) (46 ∷ name) ∙
     append_assoc (decimal p) (codes ".") (decimal i ++ (46 ∷ name))
 
+-- a made name has only bytes that names may have
 pub made_plain : (p i : ℕ) (name : List ℕ) → p < 2 ^ 64 → i < 2 ^ 64 → IsName name →
     All (λ b. IsTrue (is_name_byte b)) (name_in p i name)
 made_plain p i name hp hi h =
@@ -53,10 +55,12 @@ made_plain p i name hp hi h =
     subst (All plain) (sym (made_is p i name)) (All-append plain (decimal p) (46 ∷ (decimal i ++ (46 ∷ name)))
     (all_weaker IsDigit plain (decimal p) digit_in_name (digits_only p hp)) after)
 
+-- a made name isn't empty
 pub made_some : (p i : ℕ) (name : List ℕ) → 1 ≤ length (name_in p i name)
 made_some p i name =
     omega (arith, ap length (made_is p i name), length-append (decimal p) (46 ∷ (decimal i ++ (46 ∷ name))))
 
+-- a made name that isn't a name is too long
 pub long_name : (p i : ℕ) (name : List ℕ) → p < 2 ^ 64 → i < 2 ^ 64 → IsName name → (IsName (name_in p i name) → ⊥) →
     32 < length (name_in p i name)
 long_name p i name hp hi h not_name = ⊎_elim
@@ -65,6 +69,7 @@ long_name p i name hp hi h not_name = ⊎_elim
     absurd (not_name (record { some = made_some p i name; short = short; plain = made_plain p i name hp hi h })))
     (cases_lt 32 (length (name_in p i name)))
 
+-- a text that isn't taken as a name is a made name that is too long
 pub long_if : {E : Type 0} (r : Result (Option (List ℕ)) E) (text made : List ℕ) →
     IfOk r (λ r. IfNone r (IsName text → ⊥)) → text ≡ made →
     ((IsName made → ⊥) → 32 < length made) →
@@ -79,6 +84,7 @@ tail : List ℕ → List ℕ
 tail [] = []
 tail (c ∷ cs) = cs
 
+-- if two texts of digits, a point and more are equal, the digits are equal, and so is the rest
 no_point : (xs ys us vs : List ℕ) → All IsDigit xs → All IsDigit ys → xs ++ 46 ∷ us ≡ ys ++ 46 ∷ vs →
     (xs ≡ ys) × (us ≡ vs)
 unfolding tail
@@ -92,6 +98,7 @@ no_point (x ∷ xs) (y ∷ ys) us vs h k e =
     (λ j d l. k (suc j) d (omega (arith, l))) (ap tail e) in
     (rw (first, rest) refl, after)
 
+-- equal made names are of the same part and instance, and of equal names
 pub same_copy : (p i q j : ℕ) (a b : List ℕ) → p < 2 ^ 64 → i < 2 ^ 64 → q < 2 ^ 64 → j < 2 ^ 64 →
     name_in p i a ≡ name_in q j b →
     (p ≡ q) × (i ≡ j) × (a ≡ b)

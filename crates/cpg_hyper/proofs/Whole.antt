@@ -31,6 +31,7 @@ next_sum p n = omega arith
 moved : (first own rest all : ℕ) → all ≡ own + rest → first + own + rest ≡ first + all
 moved first own rest all e = omega (arith, e)
 
+-- nothing comes before the first
 pub nothing_before : (n : ℕ) → 0 + n ≡ n
 nothing_before n = omega arith
 
@@ -50,12 +51,14 @@ pub record IsCopyAmong (whole p : ℕ) (parts : List Part) (x : Process) : Type 
   pub there : get_or parts place part ≡ part
   pub copy : IsCopy whole (p + place) part x
 
+-- a process of a part's instances is a copy of one of its processes
 pub of_part : (whole p : ℕ) (part : Part) (x : Process) → Contains (processes_of whole p part) x → IsCopy whole p part x
 of_part whole p part x c =
     let (i, among, here) = Contains-flat_map_parts (processes_in p part) (instances whole part) x c in
     let (q, has, is) = Contains-map_parts (copied_process p i part) part.problem.processes x here in
     record { instance = i; process = q; early = numbers-Contains (whole / part.period) i among; has = has; is = is }
 
+-- a process of all instances is a copy of a process of one of the parts
 pub of_parts : (whole p : ℕ) (parts : List Part) (x : Process) → Contains (processes_from whole p parts) x →
     IsCopyAmong whole p parts x
 of_parts whole p [] x c = absurd (Contains-nil x c)
@@ -95,6 +98,7 @@ lesser_due_le d (Some own) = omega arith
 
 -- ---- edges
 
+-- a copied edge is within the limits, if its part's edge is
 edge_of_instance : (first i q size : ℕ) (e d : Edge) → i < q → IsEdgeWithin size d →
     copied_edge (first + i * size) d ≡ e → (count : ℕ) → first + q * size ≤ count →
     IsEdgeWithin count e
@@ -110,9 +114,11 @@ edge_of_instance first i q size e d l h is count few =
       size = omega (arith, same, h.size);
     }
 
+-- what holds of all elements holds of an element that the list contains
 pub contained : {X : Type 0} (P : X → Type 0) (xs : List X) (x : X) → All P xs → Contains xs x → P x
 contained P xs x h (k, l, e) = subst P e (h k x l)
 
+-- the edges of the parts are between their processes, and their sizes are in range
 edges_within : (whole first p : ℕ) (parts : List Part) →
     ((part : Part) → Contains parts part → IsWithinLimits part.problem) → (e : Edge) →
     Contains (edges_from whole first parts) e
@@ -144,6 +150,7 @@ Differ a b = a.name ≢ b.name
 small : (whole period i : ℕ) → whole ≤ 1000000000 → i < whole / period → i < 2 ^ 64
 small whole period i short l = omega (arith, short, l, div-le_self whole period)
 
+-- the names of the processes of one part's instances differ
 own_names : (whole p : ℕ) (part : Part) → whole ≤ 1000000000 → p < 10 → IsWithinLimits part.problem →
     AllPairs Differ (processes_of whole p part)
 own_names whole p part short few h =
@@ -162,6 +169,7 @@ own_names whole p part short few h =
     (ap (λ (q : Process). q.name) is ∙ same ∙ ap (λ (q : Process). q.name) (sym be))).1)
     (numbers_apart (whole / part.period))
 
+-- the names of all processes of the parts differ
 names_differ : (whole p : ℕ) (parts : List Part) → whole ≤ 1000000000 → p + length parts ≤ 10 →
     ((part : Part) → Contains parts part → IsWithinLimits part.problem) →
     AllPairs Differ (processes_from whole p parts)
@@ -185,15 +193,20 @@ names_differ whole p (part ∷ parts) short few h =
 all_from : {X : Type 0} (P : X → Type 0) (xs : List X) → ((x : X) → Contains xs x → P x) → All P xs
 all_from P xs h k d l = h (get_or xs k d) (Contains-get_or xs k d l)
 
+-- what holds of each part holds of a part that is among them
 pub each_contained : (P : ℕ → Part → Type 0) (parts : List Part) → HoldsOfEach P parts → (part : Part) →
     Contains parts part →
     (p : ℕ) × P p part
 each_contained P parts h part (k, l, e) = (k, subst (P k) e (h k part l))
 
+-- the first part has the first graph
 pub first_there : (parts : List Part) (d : Part) → 1 ≤ length parts → (get_or parts 0 d).problem ≡ first_graph parts
 first_there [] d h = absurd (omega (arith, h))
 first_there (part ∷ parts) d h = refl
 
+-- given one to four parts within the limits that fit together over a hyperperiod
+-- `some`, `few`: there are one to four parts; `over`: they fit together over `whole`; `within`: each is within the
+-- limits
 module _ (whole : ℕ) (parts : List Part) (some : 1 ≤ length parts) (few : length parts ≤ 4) (over : AreOver parts whole)
     (within : HoldsOfEach (λ p part. IsWithinLimits part.problem) parts) where
   first_within : IsWithinLimits (first_graph parts)
@@ -202,9 +215,12 @@ module _ (whole : ℕ) (parts : List Part) (some : 1 ≤ length parts) (few : le
       none : Part
       none = record { period = 0; problem = first_graph [] }
 
+  -- each process of the whole is within the limits
   process_within : (x : Process) → Contains (processes_from whole 0 parts) x →
       IsProcessWithin (length (first_graph parts).nodes) x
   process_within x c =
+      -- x is the copy of a process q of some part; its works are those of q, and its release and its due are those of
+      -- q shifted by the periods before its instance, so they lie within the hyperperiod
       let among = of_parts whole 0 parts x c in
       let part = among.part in
       let q = among.copy.process in
@@ -237,6 +253,7 @@ module _ (whole : ℕ) (parts : List Part) (some : 1 ≤ length parts) (few : le
       } in
       subst (IsProcessWithin (length (first_graph parts).nodes)) among.copy.is made
 
+  -- the graph of all instances is within the limits, if it has few enough of each
   pub unrolled_within : HasFewEnough (unrolled whole parts) → IsWithinLimits (unrolled whole parts)
   unrolled_within counts =
       let limits = λ (part : Part) (c : Contains parts part).

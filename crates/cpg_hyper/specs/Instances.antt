@@ -27,12 +27,13 @@ before whole (part ∷ parts) (suc p) = whole / part.period * size_of part + bef
 abbrev pub first_of : ℕ → List Part → ℕ → ℕ → ℕ
 first_of whole parts p i = before whole parts p + i * size_of (part_at parts p)
 
--- how many edges come before those of a part, and the number of an instance's first edge
+-- how many edges come before those of a part
 abbrev pub edges_before : ℕ → List Part → ℕ → ℕ
 edges_before whole [] p = 0
 edges_before whole (part ∷ parts) zero = 0
 edges_before whole (part ∷ parts) (suc p) = whole / part.period * length part.problem.edges + edges_before whole parts p
 
+-- the number of an instance's first edge
 abbrev pub first_edge_of : ℕ → List Part → ℕ → ℕ → ℕ
 first_edge_of whole parts p i = edges_before whole parts p + i * length (part_at parts p).problem.edges
 

@@ -43,13 +43,16 @@ GivesNoOrder part = part.problem.order ≡ None
 abbrev pub HoldsOfEach : (ℕ → Part → Type 0) → List Part → Type 0
 HoldsOfEach P parts = (p : ℕ) (d : Part) → p < length parts → P p (get_or parts p d)
 
+-- a fact about the parts, by number, holds of the first n parts
 abbrev pub HoldsBefore : (ℕ → Part → Type 0) → List Part → ℕ → Type 0
 HoldsBefore P parts n = (p : ℕ) (d : Part) → p < n → P p (get_or parts p d)
 
 -- the first part of which the fact doesn't hold
 pub record FailsFirst (P : ℕ → Part → Type 0) (parts : List Part) (p : ℕ) : Type 0 where
+  -- the number is that of a part, for which the fact fails
   pub within : p < length parts
   pub fails : (d : Part) → P p (get_or parts p d) → ⊥
+  -- it holds of each part before
   pub before : (q : ℕ) (d : Part) → q < p → P q (get_or parts q d)
 
 -- there are too many of something, and few enough of whatever is counted before it
@@ -60,16 +63,18 @@ Exceeds Conditions g =
     (process_count g ≤ MOST_PROCESSES) × (edge_count g ≤ MOST_EDGES) × (MOST_CONDITIONS < condition_count g)
 Exceeds _ g = ⊥
 
+-- a graph has few enough processes, edges and conditions
 pub record HasFewEnough (g : Graph) : Type 0 where
   pub processes : process_count g ≤ MOST_PROCESSES
   pub edges : edge_count g ≤ MOST_EDGES
   pub conditions : condition_count g ≤ MOST_CONDITIONS
 
--- the parts pass the checks before: of ranges, of differences, and of what fits the period
+-- the parts pass the checks of ranges and of differences
 pub record AreAlike (parts : List Part) : Type 0 where
   pub ranges : HoldsOfEach (λ p part. IsInRange part) parts
   pub alike : HoldsOfEach (λ p part. IsAlike (first_graph parts) part) parts
 
+-- the parts pass also the check of what fits the period
 pub record AreFitting (parts : List Part) : Type 0 where
   pub ranges : HoldsOfEach (λ p part. IsInRange part) parts
   pub alike : HoldsOfEach (λ p part. IsAlike (first_graph parts) part) parts
@@ -77,7 +82,9 @@ pub record AreFitting (parts : List Part) : Type 0 where
 
 -- the parts pass those checks, and their hyperperiod is short enough
 pub record AreOver (parts : List Part) (whole : ℕ) : Type 0 where
+  -- each part is in range, like the first one and fits its period
   pub fitting : AreFitting parts
+  -- the whole is the hyperperiod of the parts, and short enough
   pub hyperperiod : IsHyperperiod parts whole
   pub short : whole ≤ LONGEST
 

@@ -33,10 +33,11 @@ size_of part = length part.problem.processes
 abbrev pub instances : ℕ → Part → List ℕ
 instances whole part = numbers_below (whole / part.period)
 
--- the processes of one instance, and those of all instances of a part
+-- the processes of one instance of a part
 abbrev pub processes_in : ℕ → Part → ℕ → List Process
 processes_in p part i = map (copied_process p i part) part.problem.processes
 
+-- the processes of all instances of a part
 abbrev pub processes_of : ℕ → ℕ → Part → List Process
 processes_of whole p part = flat_map (processes_in p part) (instances whole part)
 
@@ -49,9 +50,11 @@ processes_from whole p (part ∷ parts) = processes_of whole p part ++ processes
 abbrev pub first_in : ℕ → Part → ℕ → ℕ
 first_in first part i = first + i * size_of part
 
+-- the edges of one instance of a part
 abbrev pub edges_in : ℕ → Part → ℕ → List Edge
 edges_in first part i = map (copied_edge (first_in first part i)) part.problem.edges
 
+-- the edges of all instances of a part
 abbrev pub edges_of : ℕ → ℕ → Part → List Edge
 edges_of whole first part = flat_map (edges_in first part) (instances whole part)
 
@@ -59,6 +62,7 @@ edges_of whole first part = flat_map (edges_in first part) (instances whole part
 abbrev pub after_part : ℕ → ℕ → Part → ℕ
 after_part whole first part = first + whole / part.period * size_of part
 
+-- the edges of the parts, of which the first begins at process `first`
 abbrev pub edges_from : ℕ → ℕ → List Part → List Edge
 edges_from whole first [] = []
 edges_from whole first (part ∷ parts) =

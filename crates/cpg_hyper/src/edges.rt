@@ -37,6 +37,7 @@ pub fn edge_total(whole: u64, parts: &[Part]) -> u64
     total
 }
 
+/// Adds the edges of an instance, whose first process is `first`.
 fn add_instance(out: &mut Vec<Edge>, part: &Part, first: u32) -> Result<(), OutOfMemory>
     requires { first + size_of part.now ≤ MOST_PROCESSES }
     ensures { OnOk result (out.new.items ≡ out.old.items ++ map (copied_edge first) part.now.problem.edges) }
@@ -53,6 +54,7 @@ fn add_instance(out: &mut Vec<Edge>, part: &Part, first: u32) -> Result<(), OutO
     Ok(())
 }
 
+/// Adds the edges of all instances of a part, whose first process is `first`.
 fn add_part(out: &mut Vec<Edge>, whole: u64, part: &Part, first: u32) -> Result<(), OutOfMemory>
     requires range { IsInRange part.now }
     requires short { whole ≤ LONGEST }
@@ -60,6 +62,7 @@ fn add_part(out: &mut Vec<Edge>, whole: u64, part: &Part, first: u32) -> Result<
     ensures { OnOk result (out.new.items ≡ out.old.items ++ edges_of whole first part.now) }
 {
     let size = part.problem.processes().len() as u32;
+    // without processes the part has no edges, and its instances would take no numbers
     if size == 0 {
         return Ok(());
     }
@@ -81,11 +84,13 @@ pub fn unrolled_edges(alloc: Global, whole: u64, parts: &[Part]) -> Result<Vec<E
     let mut first = 0u32;
     for part in parts {
         add_part(&mut edges, whole, part, first)?;
+        // the next part's processes are numbered behind those of all its instances
         first += (whole / part.period) as u32 * part.problem.processes().len() as u32;
     }
     Ok(edges)
 }
 
+/// Whether a process has a conditional output.
 fn is_conditional(edges: &[Edge], process: u32) -> bool
     ensures { result ≡ has_conditional_output edges.now process }
 {

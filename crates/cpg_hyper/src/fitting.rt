@@ -1,4 +1,4 @@
-//! What parts have to have in common, and within their periods.
+//! Checks that parts agree with the first one, and fit their periods.
 ghost use Rattle.std.specs.Prelude.{◌≡◌, ◌≤◌, ◌<◌, ◌↔◌, IsTrue, IfSome, IfNone, All, length};
 ghost use Rattle.cpg_base.specs.Limits.{IsWithinLimits};
 ghost use Rattle.cpg_hyper.specs.Refusals.{IsInRange, IsAlike, FitsPeriod, GivesNoOrder, HoldsOfEach, FailsFirst};
@@ -6,6 +6,7 @@ ghost use Rattle.cpg_hyper.specs.Refusals.{IsInRange, IsAlike, FitsPeriod, Gives
 use crate::Part;
 use cpg_base::{LONGEST, Problem, Process, Slot, are_same_names};
 
+/// Whether a period is in its range.
 fn is_in_range(part: &Part) -> bool
     ensures { IsTrue result ↔ IsInRange part.now }
 {
@@ -26,12 +27,14 @@ pub fn first_out_of_range(parts: &[Part]) -> Option<u32>
     None
 }
 
+/// Whether two slots are equal.
 fn is_same_slot(slot: &Slot, other: &Slot) -> bool
     ensures { IsTrue result ↔ (slot.now ≡ other.now) }
 {
     slot.node == other.node && slot.length == other.length && slot.bytes == other.bytes
 }
 
+/// Whether two lists of slots are equal.
 fn are_same_slots(slots: &[Slot], others: &[Slot]) -> bool
     ensures { IsTrue result ↔ (slots.now ≡ others.now) }
 {
@@ -46,6 +49,7 @@ fn are_same_slots(slots: &[Slot], others: &[Slot]) -> bool
     true
 }
 
+/// Whether a part has the faults, nodes and slots of a graph.
 fn is_alike(first: &Problem, part: &Part) -> bool
     ensures { IsTrue result ↔ IsAlike first.now part.now }
 {
@@ -72,12 +76,14 @@ pub fn first_different(first: &Problem, parts: &[Part]) -> Option<u32>
     None
 }
 
+/// Whether all processes are released by a time.
 fn are_released_by(processes: &[Process], time: u64) -> bool
     ensures { IsTrue result ↔ All (λ q. q.release ≤ time) processes.now }
 {
     processes.iter().all(|process| process.release <= time)
 }
 
+/// Whether the deadline and the releases of a part are within its period.
 fn fits_period(part: &Part) -> bool
     ensures fits { IsTrue result ↔ FitsPeriod part.now }
     ensures within { IsWithinLimits part.now.problem }
@@ -88,7 +94,7 @@ fn fits_period(part: &Part) -> bool
     are_released_by(part.problem.processes(), part.period)
 }
 
-/// The first part whose deadline or a release of which is above its period.
+/// The first part whose deadline, or one of whose releases, is above its period.
 pub fn first_over(parts: &[Part]) -> Option<u32>
     requires { length parts.now ≤ 4 }
     ensures first { IfSome result (FailsFirst (λ p part. FitsPeriod part) parts.now) }
@@ -103,6 +109,7 @@ pub fn first_over(parts: &[Part]) -> Option<u32>
     None
 }
 
+/// Whether a part gives no order to compile under.
 fn gives_no_order(part: &Part) -> bool
     ensures { IsTrue result ↔ GivesNoOrder part.now }
 {

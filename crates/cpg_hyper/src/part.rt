@@ -1,4 +1,4 @@
-//! The parts of a graph of several periods, and why they are none.
+//! The parts of a graph of several periods, and why they may make no graph.
 
 use cpg_base::{OutOfMemory, Problem};
 use cpg_reader::What;

@@ -12,6 +12,7 @@ fn greatest_common(a: u64, b: u64) -> u64
     requires { 1 ≤ a }
     ensures { IsMeasure a b result }
 {
+    // each number divides 0
     if b == 0 {
         return a;
     }
@@ -43,6 +44,7 @@ pub fn hyperperiod(parts: &[Part]) -> Option<u64>
     let mut whole = 1;
     for part in parts {
         whole = least_common(whole, part.period);
+        // above the longest time there is no hyperperiod, and the next product could overflow
         if whole > LONGEST {
             return None;
         }

@@ -10,6 +10,7 @@ use crate::{HyperFault, Part};
 use cpg_base::{LONGEST, Name, OutOfMemory, Process};
 use std::alloc::Global;
 
+/// The made name of a copy, as a text of any length.
 fn made_text(alloc: Global, number: u32, instance: u64, name: &Name) -> Result<String, OutOfMemory>
     ensures text { IfOk result (λ text. string_bytes text ≡ name_in number instance name.now) }
     ensures name { IfOk result (λ text. IsName name.now) }
@@ -20,7 +21,7 @@ fn made_text(alloc: Global, number: u32, instance: u64, name: &Name) -> Result<S
     Ok(text)
 }
 
-/// The name of a copy, and `None` exactly if it is too long.
+/// The name of a copy, or `None` exactly if it is too long.
 fn copied_name(
     alloc: Global,
     number: u32,
@@ -40,13 +41,14 @@ fn copied_name(
 fn due_of(process: &Process, deadline: u64) -> u64
     ensures { result ≡ lesser_due deadline process.now.deadline }
 {
+    // its own deadline, if it has one, and that of the graph at the latest
     match process.deadline {
         Some(own) => own.min(deadline),
         None => deadline,
     }
 }
 
-/// The copy of a process, and `None` exactly if its name is too long.
+/// The copy of a process, or `None` exactly if its name is too long.
 fn copied_process(
     alloc: Global,
     number: u32,
@@ -96,6 +98,7 @@ fn add_instance(
     for process in part.problem.processes() {
         match copied_process(alloc, number, instance, part, process)? {
             Some(copy) => out.push(copy)?,
+            // the first name that is too long ends it
             None => return Ok(false),
         }
     }
@@ -115,6 +118,7 @@ fn add_part(
     requires short { whole ≤ LONGEST }
     ensures { IfOk result (λ b. AddsShort b out.old.items out.new.items (processes_of whole number part.now) (HasShortNames whole number part.now)) }
 {
+    // a part without processes adds none, however many instances it has
     if part.problem.processes().is_empty() {
         return Ok(true);
     }

@@ -40,6 +40,7 @@ fn built(
     requires edges { edges.items ≡ edges_from whole 0 parts.now }
     ensures { IfOk result (λ g. g ≡ unrolled whole parts.now) }
 {
+    // the parts fit together, so the first has the faults, nodes and slots of all
     let first = &parts[0].problem;
     let nodes = Vec::from_clones(alloc, first.nodes())?;
     let slots = Vec::from_slice(alloc, first.slots())?;
@@ -54,6 +55,7 @@ fn over(alloc: Global, whole: u64, parts: &[Part]) -> Result<Problem, HyperFault
     requires within { HoldsOfEach (λ p part. IsWithinLimits part.problem) parts.now }
     ensures { ShowsUnrolled parts.now result }
 {
+    // the counts are taken before anything is made
     let process_count = process_total(whole, parts);
     if process_count > MOST_PROCESSES {
         return Err(HyperFault::Count(What::Processes));
@@ -62,11 +64,13 @@ fn over(alloc: Global, whole: u64, parts: &[Part]) -> Result<Problem, HyperFault
         return Err(HyperFault::Count(What::Edges));
     }
     let edges = unrolled_edges(alloc, whole, parts)?;
+    // conditions are counted on the edges that are made
     if condition_total(edges.as_slice(), process_count as u32) > MOST_CONDITIONS {
         return Err(HyperFault::Count(What::Conditions));
     }
     match unrolled_processes(alloc, whole, parts) {
         Ok(processes) => {
+            // all else is right, so an order is the last thing to refuse
             if let Some(part) = first_with_order(parts) {
                 return Err(HyperFault::Order(part));
             }
@@ -89,6 +93,7 @@ pub fn unroll(alloc: Global, parts: &[Part]) -> Result<Problem, HyperFault>
     requires few { length parts.now ≤ 4 }
     ensures { ShowsUnrolled parts.now result }
 {
+    // from here on each refusal rests on those before: the periods are in range, so they can divide
     if let Some(part) = first_out_of_range(parts) {
         return Err(HyperFault::Range(part));
     }

@@ -1,4 +1,4 @@
--- What was read behind a graph is of that graph.
+-- A scenario or log that was read after a graph is of that graph.
 use Rattle.std.proofs.Common.{ℕ, ◌≡◌, List, [], ◌∷◌, Some, None, refl, subst}
 use Rattle.cpg_base.specs.Graph.{Graph}
 use Rattle.cpg_history.specs.Fetch.{Fetch}
@@ -42,11 +42,13 @@ audit_fits : (a : Admission) (t : Tables) (l : Log) (graph pack log : Text) (pas
     IsLog a.graph l
 audit_fits a t l graph pack log past now reads = let last = reads.2.2 in log_fits a.graph last.0.given l last.1.says
 
+-- the scenario or the log among the inputs is of the graph that was read before it
 pub inputs_fit : (c : Command) (past now : List Fetch) (inputs : Inputs) → HasInputs c past now inputs → AreFit inputs
 inputs_fit c past now (Inputs.Graph a purpose) has = tt
 inputs_fit c past now (Inputs.Check a t) has = tt
 inputs_fit c past now (Inputs.Play a t p turns) has = go has.values has.reads has.are
   where
+    -- the three files that were read are the graph, the pack and the scenario, in this order
     go : (vs : List Value) → Reads None (files_of c) past now vs →
         (graph : Text) × (pack : Text) × (scenario : Text) × (c ≡ Play graph pack scenario turns) ×
         (vs ≡ graph_value a ∷ tables_value t ∷ played_value p ∷ []) → IsPlayed a.graph p
@@ -55,6 +57,7 @@ inputs_fit c past now (Inputs.Play a t p turns) has = go has.values has.reads ha
         (subst (λ (k : Command). Reads None (files_of k) past now vs) e reads))
 inputs_fit c past now (Inputs.Audit a t l) has = go has.values has.reads has.are
   where
+    -- the three files that were read are the graph, the pack and the log, in this order
     go : (vs : List Value) → Reads None (files_of c) past now vs →
         (graph : Text) × (pack : Text) × (log : Text) × (c ≡ Audit graph pack log) ×
         (vs ≡ graph_value a ∷ tables_value t ∷ log_value l ∷ []) → IsLog a.graph l

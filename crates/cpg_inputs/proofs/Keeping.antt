@@ -1,4 +1,4 @@
--- What reading leaves of a shelf, file after file.
+-- A shelf is kept as files are read, one after another.
 use Rattle.std.proofs.Common.{ℕ, ◌≡◌, ◌∙◌, List, ◌∷◌, true, arith, refl, sym, inl, inr}
 use Rattle.std.specs.Prelude.{◌⊎◌}
 use Rattle.cpg_history.specs.Fetch.{Fetch}
@@ -18,6 +18,7 @@ module _ (old mid new : ShelfState) (a : KeepsShelf old mid) (b : KeepsShelf mid
     | inr up ↦ inr (let l = a.later in omega (arith, l, up))
   ]
 
+  -- a shelf that is kept in two steps is kept in both together
   pub keeps_on : KeepsShelf old new
   keeps_on = record {
     names = λ name. b.names name ∙ a.names name;
@@ -26,7 +27,7 @@ module _ (old mid new : ShelfState) (a : KeepsShelf old mid) (b : KeepsShelf mid
     rose = counted_rose;
   }
 
--- nothing was read
+-- a shelf of which nothing was read is kept
 pub keeps_same : (s : ShelfState) → KeepsShelf s s
 keeps_same s = record {
   names = λ name. refl;

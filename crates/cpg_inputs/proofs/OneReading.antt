@@ -1,4 +1,4 @@
--- What the files of a run say is one thing; and if all of them were read, none stops the run, unless memory runs out.
+-- The files of a run say one thing. If all of them were read, none stops the run, unless memory runs out.
 use Rattle.std.proofs.Common.{ℕ, ◌≡◌, ◌∙◌, Bool, true, false, List, [], ◌∷◌, ◌++◌, Option, Some, None, length, refl}
 use Rattle.std.proofs.Common.{sym, ap, subst, arith, append-nil, inl, inr}
 use Rattle.std.specs.Prelude.{Result, Ok, Err}
@@ -32,6 +32,7 @@ abbrev value_or : {T E : Type 0} → T → Result T E → T
 value_or d (Ok x) = x
 value_or d (Err e) = d
 
+-- a result has one value
 pub same_value : {T E : Type 0} (r : Result T E) (x y : T) → r ≡ Ok x → r ≡ Ok y → x ≡ y
 same_value r x y a b = ap (value_or x) (sym a ∙ b)
 
@@ -39,6 +40,7 @@ abbrev is_fault : {T E : Type 0} → Result T E → Bool
 is_fault (Ok x) = false
 is_fault (Err e) = true
 
+-- a result isn't both a value and an error
 pub not_both : {T E : Type 0} (r : Result T E) (x : T) (e : E) → r ≡ Ok x → r ≡ Err e → ⊥
 not_both r x e a b = both_ways _ refl (ap is_fault (sym a ∙ b) ∙ refl)
 
@@ -48,6 +50,7 @@ pub record AreAlike (a b : Admission) : Type 0 where
   pub graph : b.graph ≡ a.graph
   pub order : b.order ≡ a.order
 
+-- admissions of graphs that the same bytes say have one graph and one order
 pub admitted_alike : (bytes : Text) (a b : Admission) → AreAdmitted bytes a → AreAdmitted bytes b → AreAlike a b
 admitted_alike bytes a b x y =
     let same : b.graph ≡ a.graph = same_value (problem_of bytes) b.graph a.graph y.says x.says in
@@ -57,7 +60,7 @@ admitted_alike bytes a b x y =
           (subst (λ g. IsUrgencyOrder g b.order) same y.admitted.urgency) x.admitted.urgency;
     }
 
--- what is said of one is said of the other
+-- a fact of one of two alike admissions is one of the other
 pub moved : (a b : Admission) → AreAlike a b → (P : Graph → List ℕ → Type 0) → P b.graph b.order → P a.graph a.order
 moved a b same P p = subst (P a.graph) same.order (subst (λ g. P g b.order) same.graph p)
 
@@ -81,6 +84,7 @@ AllAlike (v ∷ vs) (w ∷ ws) = IsAlike v w × AllAlike vs ws
 as_known : (v w x y : Value) → v ≡ x → w ≡ y → IsAlike x y → IsAlike v w
 as_known v w x y e f k = subst (λ u. IsAlike u w) (sym e) (subst (IsAlike x) (sym f) k)
 
+-- the values that the same bytes say are alike
 pub says_alike : (g : Option Graph) (k : FileKind) (bytes : Text) (v w : Value) → Says g k bytes v → Says g k bytes w →
     IsAlike v w
 says_alike g GraphFile bytes v w (a, e, x) (b, f, y) =
@@ -111,6 +115,7 @@ says_after None LogFile bytes v w x y = absurd x
 
 -- ---- no file that is read stops a run
 
+-- bytes that say a value aren't rejected, unless memory runs out
 pub not_refused : (g : Option Graph) (k : FileKind) (bytes : Text) (v : Value) (h : Halt) → Says g k bytes v →
     Refuses g k bytes h → h ≡ Memory
 not_refused g GraphFile bytes v h (a, e, x) (inl faulty) =
@@ -146,6 +151,7 @@ grown_on : (fetch : Fetch) (past now : List Fetch) → HasGrown (fetch ∷ past)
 grown_on fetch past now g =
     record { fetches = g.fetches ++ fetch ∷ []; is = g.is ∙ sym (append_assoc g.fetches (fetch ∷ []) past) }
 
+-- after files were read, the history has the fetches before and some more
 pub reads_grown : (g : Option Graph) (files : List File) (past now : List Fetch) (vs : List Value) →
     Reads g files past now vs →
     HasGrown past now
@@ -155,6 +161,7 @@ reads_grown g (f ∷ fs) past now [] r = absurd r
 reads_grown g (f ∷ fs) past now (v ∷ vs) r =
     grown_on r.0 past now (reads_grown (graph_after g v) fs (r.0 ∷ past) now vs r.2)
 
+-- so it has after a file stopped the run
 pub stops_grown : (g : Option Graph) (files : List File) (past now : List Fetch) (h : Halt) →
     StopsReading g files past now h →
     HasGrown past now
@@ -185,6 +192,7 @@ one_fetch past now f e x y = same_fetch x.fetches y.fetches f e past (sym x.is �
 
 -- ---- one reading
 
+-- files that are read twice between the same histories say values that are alike
 pub reads_alike : (g : Option Graph) (files : List File) (past now : List Fetch) (vs ws : List Value) →
     Reads g files past now vs → Reads g files past now ws → AllAlike vs ws
 reads_alike g [] past now [] [] r s = tt
@@ -241,6 +249,7 @@ value_lawful (Some g) LogFile bytes v (l, e, x) = subst IsLawfulValue (sym e) tt
 value_lawful None ScenarioFile bytes v x = absurd x
 value_lawful None LogFile bytes v x = absurd x
 
+-- the values of files that were read are lawful
 pub values_lawful : (g : Option Graph) (files : List File) (past now : List Fetch) (vs : List Value) →
     Reads g files past now vs → AllLawful vs
 values_lawful g [] past now [] r = tt

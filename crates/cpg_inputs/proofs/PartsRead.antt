@@ -40,6 +40,7 @@ behind_parts : (ds : List Part) → graph_behind None (part_values ds) ≡ None
 behind_parts [] = refl
 behind_parts (d ∷ ds) = behind_parts ds
 
+-- there are as many parts as pairs of a period and a file
 pub periods_length : (ps : List Pair) (ds : List Part) → HavePeriods ps ds → length ds ≡ length ps
 periods_length [] [] have = refl
 periods_length [] (d ∷ ds) have = absurd have
@@ -51,6 +52,7 @@ periods_length (p ∷ ps) (d ∷ ds) have = omega (arith, periods_length ps ds h
 abbrev part_of : ℕ → Graph → Part
 part_of period problem = record { period = period; problem = problem }
 
+-- the next pair of a period and a file, after the files before it were read
 module _ (pairs : List Pair) (i : ℕ) (pair : Pair) (l : i < length pairs) (is : pair ≡ get_or pairs i pair)
     (parts : List Part) (past mid now : List Fetch)
     (read : Reads None (part_files (take i pairs)) past mid (part_values parts)) where
@@ -66,7 +68,7 @@ module _ (pairs : List Pair) (i : ℕ) (pair : Pair) (l : i < length pairs) (is 
       ap part_files (sym (take-append-drop (i + 1) pairs)) ∙ (files_more (take (i + 1) pairs) (drop (i + 1) pairs)
       ∙ ap (λ fs. fs ++ part_files (drop (i + 1) pairs)) files_next)
 
-  -- that says a graph
+  -- if the file of the next pair says a graph, the files of one pair more were read
   pub read_next : (g : Graph) (new : List Part) → ReadsNext None (file PartFile pair.graph) mid now (part_value g) →
       new ≡ parts ++ part_of pair.period g ∷ [] →
       Reads None (part_files (take (i + 1) pairs)) past now (part_values new)
@@ -79,6 +81,7 @@ module _ (pairs : List Pair) (i : ℕ) (pair : Pair) (l : i < length pairs) (is 
       (subst (Reads None (part_files (take i pairs) ++ file PartFile pair.graph ∷ []) past now)
       (sym (ap part_values e ∙ values_more parts (part_of pair.period g ∷ []))) both)
 
+  -- with the part of the next pair added, the parts have the periods of one pair more
   pub periods_next : (g : Graph) (new : List Part) → HavePeriods (take i pairs) parts →
       new ≡ parts ++ part_of pair.period g ∷ [] →
       HavePeriods (take (i + 1) pairs) new
@@ -86,7 +89,7 @@ module _ (pairs : List Pair) (i : ℕ) (pair : Pair) (l : i < length pairs) (is 
       (subst (HavePeriods (take i pairs ++ pair ∷ [])) (sym e)
       (periods_more (take i pairs) parts pair (part_of pair.period g) have refl))
 
-  -- that stops
+  -- if the file of the next pair stops the run, it stops the reading of all
   pub stops_next : (h : Halt) → StopsNext None (file PartFile pair.graph) mid now h →
       StopsReading None (part_files pairs) past now h
   stops_next h s =
@@ -110,19 +113,20 @@ module _ (pairs : List Pair) (i : ℕ) (pair : Pair) (l : i < length pairs) (is 
         history = r.history;
       })
 
--- all files
+-- past the last pair, the files of all pairs were read
 pub read_all : (pairs : List Pair) (i : ℕ) (parts : List Part) (past now : List Fetch) → length pairs ≤ i →
     Reads None (part_files (take i pairs)) past now (part_values parts) →
     Reads None (part_files pairs) past now (part_values parts)
 read_all pairs i parts past now l read =
     subst (λ ps. Reads None (part_files ps) past now (part_values parts)) (take_all i pairs l) read
 
+-- past the last pair, the parts have the periods of all pairs
 pub periods_all : (pairs : List Pair) (i : ℕ) (parts : List Part) → length pairs ≤ i →
     HavePeriods (take i pairs) parts →
     HavePeriods pairs parts
 periods_all pairs i parts l have = subst (λ ps. HavePeriods ps parts) (take_all i pairs l) have
 
--- each file may be fetched
+-- the file of each pair may be fetched if all may
 pub may_at : (may : Text → Type 0) (pairs : List Pair) (i : ℕ) (pair : Pair) → i < length pairs →
     pair ≡ get_or pairs i pair → All may (map (λ (p : Pair). p.graph) pairs) → may pair.graph
 may_at may pairs i pair l is all =

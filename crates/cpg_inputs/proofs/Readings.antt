@@ -13,16 +13,19 @@ abbrev pub graph_behind : Option Graph → List Value → Option Graph
 graph_behind g [] = g
 graph_behind g (v ∷ vs) = graph_behind (graph_after g v) vs
 
+-- a file that is read next is read alone
 pub reads_one : (g : Option Graph) (file : File) (past now : List Fetch) (value : Value) →
     ReadsNext g file past now value →
     Reads g (file ∷ []) past now (value ∷ [])
 reads_one g file past now value r = (r.fetch, r.read, r.history)
 
+-- a file that stops the run is the first that does
 pub stops_one : (g : Option Graph) (file : File) (rest : List File) (past now : List Fetch) (halt : Halt) →
     StopsNext g file past now halt →
     StopsReading g (file ∷ rest) past now halt
 stops_one g file rest past now halt s = (s.fetch, inl (s.stops, s.history))
 
+-- files that are read after others are read together with them
 pub reads_more : (g : Option Graph) (files rest : List File) (past mid now : List Fetch) (values others : List Value) →
     Reads g files past mid values →
     Reads (graph_behind g values) rest mid now others → Reads g (files ++ rest) past now (values ++ others)
@@ -32,6 +35,7 @@ reads_more g (f ∷ fs) rest past mid now [] others r s = absurd r
 reads_more g (f ∷ fs) rest past mid now (v ∷ vs) others r s =
     (r.0, r.1, reads_more (graph_after g v) fs rest (r.0 ∷ past) mid now vs others r.2 s)
 
+-- a file that stops the run after others were read stops it among all of them
 pub stops_after : (g : Option Graph) (files rest : List File) (past mid now : List Fetch) (values : List Value)
     (halt : Halt) →
     Reads g files past mid values →
@@ -42,6 +46,7 @@ stops_after g (f ∷ fs) rest past mid now [] halt r s = absurd r
 stops_after g (f ∷ fs) rest past mid now (v ∷ vs) halt r s =
     (r.0, inr (v, r.1, stops_after (graph_after g v) fs rest (r.0 ∷ past) mid now vs halt r.2 s))
 
+-- if some files stop a run, they do with more files behind them
 pub stops_more : (g : Option Graph) (files rest : List File) (past now : List Fetch) (halt : Halt) →
     StopsReading g files past now halt →
     StopsReading g (files ++ rest) past now halt

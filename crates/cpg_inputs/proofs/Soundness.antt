@@ -1,4 +1,4 @@
--- No fetch of files that are read failed; and of files that stop a run one did only if the halt says so.
+-- No fetch of files that are read failed. If a file stops a run, a fetch failed only if the halt says so.
 use Rattle.std.proofs.Common.{◌≡◌, ◌∙◌, false, List, [], ◌∷◌, ◌++◌, Option, sym, inl, inr}
 use Rattle.std.specs.Prelude.{◌⊎◌}
 use Rattle.std.proofs.lemmas.List.{append_assoc}
@@ -14,10 +14,11 @@ use Rattle.cpg_inputs.specs.Reading.{AreSound, Reads, StopsAt, StopsReading}
 abbrev IsSound : Fetch → Type 0
 IsSound fetch = fetch.failed ≡ false
 
+-- from a history to itself, no fetch failed
 pub sound_none : (past now : List Fetch) → now ≡ past → AreSound past now
 sound_none past now same = record { fetches = []; history = same; sound = All-nil IsSound }
 
--- one fetch before them
+-- with a fetch before that didn't fail, none of all fetches failed
 pub sound_on : (fetch : Fetch) (past now : List Fetch) → IsSound fetch → AreSound (fetch ∷ past) now → AreSound past now
 sound_on fetch past now one s = record {
   fetches = s.fetches ++ fetch ∷ [];
@@ -25,6 +26,7 @@ sound_on fetch past now one s = record {
   sound = All-push IsSound s.fetches fetch s.sound one;
 }
 
+-- if all files were read, no fetch failed
 pub reads_sound : (g : Option Graph) (files : List File) (past now : List Fetch) (vs : List Value) →
     Reads g files past now vs →
     AreSound past now
@@ -40,6 +42,7 @@ stop_sound g f fetch h (inr (inl long)) = inl long.sound
 stop_sound g f fetch h (inr (inr (inl refused))) = inl refused.whole.sound
 stop_sound g f fetch h (inr (inr (inr wanting))) = inl wanting.sound
 
+-- if a file stops the run, a fetch failed only if the halt is a read fault
 pub stops_sound : (g : Option Graph) (files : List File) (past now : List Fetch) (h : Halt) →
     StopsReading g files past now h →
     AreSound past now ⊎ (h ≡ Read)

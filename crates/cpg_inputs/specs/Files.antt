@@ -12,10 +12,12 @@ use Rattle.cpg_inputs.specs.declared.kind.FileKind.{FileKind}
 use Rattle.cpg_inputs.specs.declared.kind.FileKind.TheVariants.{GraphFile, PartFile, PackFile, ScenarioFile, LogFile}
 use Rattle.cpg_inputs.specs.declared.kind.TheConstants.{GRAPH_LIMIT, SCENARIO_LIMIT, LOG_LIMIT, PACK_LIMIT}
 
+-- a file: the kind that it is read as, and its name
 pub record File : Type 0 where
   pub kind : FileKind
   pub name : Text
 
+-- the file of a kind and a name
 abbrev pub file : FileKind → Text → File
 file kind name = record { kind = kind; name = name }
 

@@ -170,6 +170,7 @@ fn live_inputs<S: Shelf>(
     })
 }
 
+/// Adds a part with its period. The one error is that memory runs out.
 fn add(parts: &mut Vec<Part>, period: u64, problem: Problem) -> Result<(), Halt>
     ensures added { OnOk result (parts.new.items ≡ parts.old.items ++ record { period = period; problem = problem } ∷ []) }
     ensures halt { IfErr result (λ h. h ≡ Memory) }

@@ -1,4 +1,4 @@
--- What calls of a shelf gave, and what stands under the names that they were given of.
+-- What calls of a shelf gave agrees with what stands under the fetched names.
 use Rattle.std.proofs.Common.{get_or, ℕ, zero, suc, ◌≡◌, ◌<◌, ◌∙◌, ◌||◌, Bool, true, false, true≢false, List, [], ◌∷◌}
 use Rattle.std.proofs.Common.{◌++◌, All, Option, Some, None, IfSome, append_assoc, arith, ap, length, refl}
 use Rattle.std.proofs.Common.{subst, sym, take}
@@ -70,6 +70,7 @@ module _ (old new : ShelfState) (names : SameNames old new) where
         end = λ e. end_kept whole f.given old.left new.left l.came kept (l.end e);
       }) r)
 
+  -- if the rest of the fetched bytes was left before a read, it is left after it
   pub read_rest : {E : Type 0} (result : Result ℕ E) (buf : List ℕ) → 0 < length buf →
       HasGiven old.history new.history result buf → ReadConsumes old.left new.left result buf →
       LeavesRest old →
@@ -88,6 +89,7 @@ module _ (old new : ShelfState) (names : SameNames old new) where
     end = λ e. absurd (true≢false (sym e ∙ unended));
   }
 
+  -- after a fetch, all bytes of the name are left
   pub fetch_rest : (name : List ℕ) → new.history ≡ opened name false old.history → StartsAt (old.stands name) new.left →
       LeavesRest new
   fetch_rest name is s =
@@ -101,6 +103,7 @@ module _ (old new : ShelfState) (names : SameNames old new) where
   front_of whole None f l = absurd l.came
   front_of whole (Some rest) f l = record { rest = rest; front = l.came; all = l.end }
 
+  -- a fetch of which the rest is left gave the first bytes of its name
   pub fetched_one : (f : Fetch) → new.history ≡ f ∷ old.history → LeavesRest new → AreFetched old new
   fetched_one f is r =
       let told : IfSome (new.stands f.name) (λ whole. IsLeft whole new.left f) = subst (IsRestLeft new) is r in
@@ -112,6 +115,7 @@ module _ (old new : ShelfState) (names : SameNames old new) where
         agree = All-cons (Agrees old.stands) f [] agrees (All-nil (Agrees old.stands));
       }
 
+  -- what was fetched in two steps was fetched in both together
   pub fetched_on : (last : ShelfState) → AreFetched old new → AreFetched new last → AreFetched old last
   fetched_on last x y = record {
     fetches = y.fetches ++ x.fetches;
@@ -130,6 +134,7 @@ unfetched (Some whole) f none unended = record {
   all = λ e. absurd (true≢false (sym e ∙ unended));
 }
 
+-- a fetch that failed gave nothing
 pub fetched_none : (old new : ShelfState) (name : List ℕ) → new.history ≡ opened name true old.history →
     AreFetched old new
 fetched_none old new name is =
@@ -140,5 +145,6 @@ fetched_none old new name is =
       agree = All-cons (Agrees old.stands) f [] (unfetched (old.stands name) f refl refl) (All-nil (Agrees old.stands));
     }
 
+-- a shelf that is the same has no new fetches
 pub fetched_same : (s : ShelfState) → AreFetched s s
 fetched_same s = record { fetches = []; history = refl; agree = All-nil (Agrees s.stands) }

@@ -13,6 +13,7 @@ gave_more piece past now mid f is more = (
   more ∙ ap (gave piece) is,
 )
 
+-- after a piece is read, the history still has one fetch more than before the reading
 pub one_fetch : (limit : ℕ) (past now mid : List Fetch) (f : Fetch) → mid ≡ f ∷ past →
     (old new : List ℕ) (result : Result ℕ ReadAll) → GivesPiece limit mid now old new result → (one : Fetch) ×
     (now ≡ one ∷ past)

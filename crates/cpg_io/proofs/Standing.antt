@@ -26,6 +26,7 @@ IsFirst-rest name file files place d h = record {
   before = λ k below. h.before (suc k) (omega (arith, below));
 }
 
+-- the position of the first file with the name is its first place
 pub IsFirst-place : (name : List ℕ) (files : List File) (place : ℕ) (d : File) →
     position (is_named name) files ≡ Some place →
     IsFirst name files place d
@@ -42,6 +43,7 @@ stands_in-named : (name : List ℕ) (file : File) (files : List File) → is_nam
     stands_in (file ∷ files) name ≡ Some file.bytes
 stands_in-named name file files on = rw on refl
 
+-- the bytes of the first file with the name stand under the name
 pub stands_in-first : (name : List ℕ) (files : List File) (place : ℕ) (d : File) → IsFirst name files place d →
     stands_in files name ≡ Some (get_or files place d).bytes
 stands_in-first name [] place d h = absurd (omega (arith, h.within))
@@ -82,6 +84,7 @@ none_from name (file ∷ files) i h =
     let rest = none_rest (is_named name file) i _ h in
     stands_in-passed name file files rest.0 ∙ none_from name files (i + 1) rest.1
 
+-- if no file has the name, nothing stands under it
 pub stands_in-no_place : (name : List ℕ) (files : List File) → position (is_named name) files ≡ None →
     stands_in files name ≡ None
 stands_in-no_place name files h = none_from name files 0 (sym (position_from-zero (is_named name) files) ∙ h)
@@ -112,6 +115,7 @@ is_named-other : (file : File) (name other : List ℕ) → file.name ≡ name �
 is_named-other file name other same differs =
     false_from_ne_true _ (λ on. differs (sym ((bytes_eq-Decides file.name other).0 on) ∙ same))
 
+-- setting the bytes of the first file with the name puts them under the name
 pub PutsUnder-set : (name : List ℕ) (files : List File) (place : ℕ) (d old : File) (bytes : List ℕ) →
     position (is_named name) files ≡ Some place →
     old ≡ get_or files place d
@@ -128,6 +132,7 @@ PutsUnder-set name files place d old bytes found same =
           other named differs) (is_named-other file name other kept differs);
     }
 
+-- adding a file with a new name puts its bytes under the name
 pub PutsUnder-push : (name : List ℕ) (files : List File) (own bytes : List ℕ) → position (is_named name) files ≡ None →
     own ≡ name
     → PutsUnder files (files ++ record { name = own; bytes = bytes } ∷ []) name bytes
@@ -141,6 +146,7 @@ PutsUnder-push name files own bytes none same =
 
 -- ---- what a fetch finds
 
+-- the bytes at the place that was found stand under the name, or nothing does if there is none
 pub stands_in-found : (name : List ℕ) (files : List File) (place : Option ℕ) → position (is_named name) files ≡ place
     → MatchBool (is_some place) (stands_in files name ≡ Some (bytes_at files place)) (stands_in files name ≡ None)
 stands_in-found name files None none = stands_in-no_place name files none

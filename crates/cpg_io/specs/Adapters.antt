@@ -4,6 +4,7 @@ use Rattle.std.specs.Prelude.{ℕ, Bool, List, [], Option, Some, None}
 use Rattle.cpg_history.specs.Fetch.{Fetch}
 use Rattle.cpg_io.specs.State.{ShelfState, SinkState}
 
+-- a shelf over files: whether one is open, what is left of it if it reports that, the faults, and all fetches
 pub record FileShelfState : Type 0 where
   pub is_open : Bool
   pub left : Option (List ℕ)
@@ -19,10 +20,12 @@ left_in remaining (Some file) = remaining file
 abbrev pub shelf_of : FileShelfState → ShelfState
 shelf_of s = record { stands = λ _. None; left = s.left; faults = s.faults; history = s.history }
 
+-- a sink over a writer: the writer's contents if it reports them, the bytes taken, and the faults
 pub record StreamSinkState : Type 0 where
   pub contents : Option (List ℕ)
   pub taken : List ℕ
   pub faults : ℕ
 
+-- the sink's state, without the writer's contents
 abbrev pub sink_of : StreamSinkState → SinkState
 sink_of s = record { taken = s.taken; faults = s.faults }

@@ -30,5 +30,6 @@ abbrev pub IsRestLeft : ShelfState → List Fetch → Type 0
 IsRestLeft s [] = ⊤
 IsRestLeft s (f ∷ past) = IfSome (s.stands f.name) (λ whole. IsLeft whole s.left f)
 
+-- what is left is the rest of what stands under the last fetched name, if the shelf reports that
 abbrev pub LeavesRest : ShelfState → Type 0
 LeavesRest s = IsRestLeft s s.history

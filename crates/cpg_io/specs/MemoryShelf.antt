@@ -14,13 +14,16 @@ pub record File : Type 0 where
 -- numbers of the calls that fail, and all fetches.
 pub record MemoryShelfState : Type 0 where
   pub files : List File
+  -- empty if no file is fetched
   pub left : List ℕ
   pub at : ℕ
   pub faults : ℕ
   pub calls : ℕ
+  -- counted from 0, over `fetch` and `read` together
   pub failing : List ℕ
   pub history : List Fetch
 
+-- whether a file has the name
 abbrev pub is_named : List ℕ → File → Bool
 is_named name file = bytes_eq file.name name
 
@@ -29,6 +32,7 @@ abbrev pub stands_in : List File → List ℕ → Option (List ℕ)
 stands_in [] name = None
 stands_in (file ∷ files) name = if is_named name file then Some file.bytes else stands_in files name
 
+-- the shelf's state, which always reports what stands under names and what is left
 abbrev pub shelf_of : MemoryShelfState → ShelfState
 shelf_of s = record { stands = stands_in s.files; left = Some s.left; faults = s.faults; history = s.history }
 

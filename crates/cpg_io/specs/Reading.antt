@@ -8,12 +8,16 @@ use Rattle.cpg_io.specs.declared.reading.ReadAll.TheVariants.{Failed, TooLong, O
 
 -- n bytes of what was left came to the end of the read bytes, and none only at the end
 pub record ReadsOn (left left' : Option (List ℕ)) (old new : List ℕ) (n : ℕ) : Type 0 where
+  -- n more bytes
   pub long : length new ≡ length old + n
+  -- those read before are as they were
   pub kept : take (length old) new ≡ old
+  -- the new ones are the first of what was left
   pub taken : Consumes left left' (drop (length old) new)
+  -- none come only at the end
   pub end : n ≡ 0 → IsAtEnd left'
 
--- a piece was given that isn't added to so many bytes: with it they are so many
+-- a piece of this many bytes was given and lost: it isn't added to the bytes that were read
 pub record IsLost (past now : List Fetch) (count : ℕ) : Type 0 where
   pub piece : List ℕ
   pub gave : now ≡ gave piece past
@@ -32,12 +36,12 @@ pub record IsFetch (past now : List Fetch) (name given : List ℕ) (fails : Bool
   pub ended : Bool
   pub is : now ≡ record { name = name; given = given; ended = ended; failed = fails } ∷ past
 
--- one fetch more, of the name, which gave these bytes to their end, at most so many
+-- one fetch more, of the name, which gave these bytes to their end, no more than the limit
 pub record IsReadWhole (past now : List Fetch) (name : List ℕ) (limit : ℕ) (bytes : List ℕ) : Type 0 where
   pub short : length bytes ≤ limit
   pub is : now ≡ record { name = name; given = bytes; ended = true; failed = false } ∷ past
 
--- one fetch more, of the name, not read whole: it failed, or gave one byte more than so many, or there is no memory
+-- one fetch more, of the name, not read whole: it failed, or gave one byte more than the limit, or there is no memory
 abbrev pub IsReadInPart : List Fetch → List Fetch → List ℕ → ℕ → ReadAll → Type 0
 IsReadInPart past now name limit Failed = (given : List ℕ) × (length given ≤ limit) × IsFetch past now name given true
 IsReadInPart past now name limit TooLong =

@@ -82,6 +82,7 @@ impl<R: Files> Shelf for FileShelf<R> {
         ensures open { self.new.is_open ≡ is_ok result }
         ensures faults { MatchResult result (λ _. self.new.faults ≡ self.old.faults) (λ _. self.new.faults ≡ counted self.old.faults 1) }
     {
+        // a file that was open is closed, even if the next one can't be opened
         self.file = None;
         self.note(&ShelfEvent::Fetched(name));
         match fs::open(&self.rt, name) {
@@ -89,6 +90,7 @@ impl<R: Files> Shelf for FileShelf<R> {
                 self.file = Some(file);
                 Ok(())
             }
+            // what the machine says of the error is not kept
             Err(_) => Err(self.count_fault()),
         }
     }
@@ -108,6 +110,7 @@ impl<R: Files> Shelf for FileShelf<R> {
     {
         let read = match &mut self.file {
             Some(file) => file.read(buf),
+            // no file is open, which is the end
             None => Ok(0),
         };
         match read {

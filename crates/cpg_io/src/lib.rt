@@ -1,11 +1,11 @@
 //! Where bytes come from and where they go: a [`Shelf`] gives the bytes that stand under a name, a [`Sink`] takes
 //! bytes, and both count their faults.
 //!
-//! A call answers [`Failed`] only if that count rose in it. What a shelf gave and what a sink took they tell to contracts
-//! in any case, over real files and streams too, as ghost data that takes no byte and no instruction: which names were
-//! fetched, which bytes were given of each, whether to their end, and whether a call failed. What stands under a name, and
-//! what is left of it, [`MemoryShelf`] tells, and [`FileShelf`] only what its open file tells of what is left, which one of
-//! the machine doesn't.
+//! A call answers [`Failed`] only if that count rose in it. They always report to contracts what a shelf gave and what a sink
+//! took, over real files and streams too, as ghost data that takes no byte and no instruction: which names were
+//! fetched, which bytes were given of each, whether to their end, and whether a call failed. [`MemoryShelf`] also reports what
+//! stands under a name, and what is left of it. [`FileShelf`] reports only what its open file says is left, and a file of
+//! the machine says nothing.
 #![tactic(auto)]
 
 mod failed;

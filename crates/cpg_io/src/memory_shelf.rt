@@ -32,18 +32,21 @@ impl Model for MemoryFile {
 }
 
 impl MemoryFile {
+    /// Whether the file has a name.
     fn is_named(&self, name: &str) -> bool
         ensures { result ≡ is_named name.now self.now }
     {
         self.name.as_str() == name
     }
 
+    /// The bytes of the file.
     fn bytes(&self) -> &[u8]
         ensures { result.now ≡ self.now.bytes }
     {
         self.bytes.as_slice()
     }
 
+    /// Replaces the bytes of the file.
     fn set_bytes(&mut self, bytes: Vec<u8>)
         ensures { self.new ≡ record { name = self.old.name; bytes = bytes.items } }
     {
@@ -66,6 +69,7 @@ fn store(files: &mut Vec<MemoryFile>, name: &str, bytes: &[u8]) -> Result<(), Ou
     let alloc = *files.allocator();
     let bytes = Vec::from_slice(alloc, bytes)?;
     match file_index(files.as_slice(), name) {
+        // a name stands for one file: its bytes are replaced
         Some(place) => files[place].set_bytes(bytes),
         None => {
             let name = String::from_str(alloc, name)?;
@@ -111,7 +115,7 @@ impl Model for MemoryShelf {
 }
 
 impl MemoryShelf {
-    /// A shelf with no files, of which no call fails by its number.
+    /// A shelf with no files. No call of it fails by its number.
     pub fn new(alloc: Global) -> Result<MemoryShelf, OutOfMemory>
         ensures { IfOk result (λ s. s ≡ record { files = []; left = []; at = 0; faults = 0; calls = 0; failing = []; history = [] }) }
     {
@@ -134,6 +138,7 @@ impl MemoryShelf {
         ensures err { OnErr result (self.new ≡ self.old) }
     {
         store(&mut self.files, name, bytes)?;
+        // nothing is open to be read
         self.fetched = None;
         Ok(())
     }
@@ -201,6 +206,7 @@ impl MemoryShelf {
         let at = self.at;
         match self.fetched {
             Some(place) => &self.files[place].bytes()[at..],
+            // nothing is fetched, so nothing is left
             None => &[],
         }
     }
@@ -244,9 +250,11 @@ impl Shelf for MemoryShelf {
     {
         self.close();
         self.note(&ShelfEvent::Fetched(name));
+        // this call is listed to fail
         if self.count_call() {
             return Err(self.count_fault());
         }
+        // no file has the name
         if !self.open(name) {
             return Err(self.count_fault());
         }
@@ -273,6 +281,7 @@ impl Shelf for MemoryShelf {
         } }
         ensures faults { MatchResult result (λ _. self.new.faults ≡ self.old.faults) (λ _. self.new.faults ≡ counted self.old.faults 1) }
     {
+        // this call is listed to fail
         if self.count_call() {
             return Err(self.count_fault());
         }

@@ -70,9 +70,11 @@ fn read_piece<S: Shelf>(
     ensures later { (S.state shelf.old).faults ≤ (S.state shelf.new).faults }
 {
     let room = limit - bytes.len();
+    // one byte more than there is room for, so that a text which is too long shows
     let most = buffer.len().min(room.saturating_add(1));
     let piece = &mut buffer[..most];
     let count = shelf.read(piece)?;
+    // the byte beyond the limit came
     if count > room {
         return Err(ReadAll::TooLong);
     }
@@ -84,7 +86,7 @@ fn read_piece<S: Shelf>(
 ///
 /// `Failed` only if the shelf's count of faults rose. `TooLong` exactly if the shelf has then given more than
 /// `limit` bytes since the fetch; it is asked for no more than `limit` plus one. What is read at `Ok` is the whole of what
-/// the shelf gave, to the end of the name; and what it gave is of what stands under the name, if it tells that.
+/// the shelf gave, to the end of the name; and what it gave is a front of what stands under the name, if the shelf reports that.
 pub fn read_all<S: Shelf>(
     alloc: Global,
     shelf: &mut S,
@@ -108,6 +110,7 @@ pub fn read_all<S: Shelf>(
     shelf.fetch(name)?;
     let mut buffer = [0; PIECE];
     let mut bytes = Vec::new(alloc);
+    // piece by piece until one comes empty: that is the end
     while read_piece(shelf, &mut buffer, &mut bytes, limit)? > 0 {}
     Ok(bytes)
 }

@@ -9,9 +9,11 @@ use Rattle.std.proofs.lemmas.List.{length-append}
 one_digit : (n : ℕ) → n < 10 → (48 + n) ∷ [] ≡ decimal n
 one_digit n l = sym (decimal_digit n l)
 
+-- a number below 10 has one digit
 pub one_long : (n : ℕ) → n < 10 → length (decimal n) ≡ 1
 one_long n l = ap (λ (ds : List ℕ). length ds) (decimal_digit n l)
 
+-- writing that digit writes the number
 pub one_written : (n v : ℕ) (old new : List ℕ) → n < 10 → new ≡ old ++ v ∷ [] → v ≡ 48 + n → new ≡ old ++ decimal n
 one_written n v old new l e d = e ∙ ap (λ x. old ++ x ∷ []) d ∙ ap (λ (ds : List ℕ). old ++ ds) (one_digit n l)
 
@@ -20,6 +22,7 @@ pub more_long : (n : ℕ) → 10 ≤ n → n < 2 ^ 64 → length (decimal n) ≡
 more_long n l small =
     ap (λ (ds : List ℕ). length ds) (decimal_step n l small) ∙ length-append (decimal (n / 10)) ((48 + n % 10) ∷ [])
 
+-- writing the other digits and then the last one writes the number
 pub more_written : (n v : ℕ) (old mid new : List ℕ) → 10 ≤ n → n < 2 ^ 64 → mid ≡ old ++ decimal (n / 10) →
     new ≡ mid ++ v ∷ [] → v ≡ 48 + n % 10 →
     new ≡ old ++ decimal n

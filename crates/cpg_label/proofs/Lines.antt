@@ -15,7 +15,7 @@ use Rattle.cpg_label.specs.CubeText.{literal_text}
 use Rattle.cpg_label.specs.Labels.{Labels}
 use Rattle.cpg_label.specs.Lines.{AreAlike, AreLine, added_text, front_text, piece_text, rest_text, text_after}
 
--- the text of two lists
+-- the text of two lists is that of the first and what the second adds
 pub front-append : (labels : Labels) (xs ys : List Literal) →
     front_text labels (xs ++ ys) ≡ front_text labels xs ++ rest_text labels xs ys
 front-append labels [] ys = refl
@@ -36,6 +36,7 @@ after_is labels (x ∷ xs) n l e =
     let other : (n == 0) ≡ false = ne_eqb n 0 (λ none. omega (arith, none, some)) in
     rw other refl
 
+-- the text of one literal more is the text of those before and what that literal adds
 pub front_more : (labels : Labels) (xs : List Literal) (l : Literal) →
     front_text labels (xs ++ l ∷ []) ≡ front_text labels xs ++ added_text labels xs l
 front_more labels xs l = front-append labels xs (l ∷ []) ∙ ap (λ t. front_text labels xs ++ t) (rest_of_one labels xs l)
@@ -57,7 +58,7 @@ alike_more first second n k h a b e = record {
   inside = omega (arith, b, h.inside);
 }
 
--- a block of what is left of each list
+-- if the next blocks of two lists are the same, the lists are alike up to the end of these
 pub block_more : (first second left right block rest other behind : List Literal) (n k : ℕ) → AreAlike first second n →
     left ≡ drop n first → right ≡ drop n second →
     block ≡ take k left →
@@ -69,10 +70,11 @@ block_more first second left right block rest other behind n k h l r is some als
     alike_more first second n k h (omega (arith, a, some)) (omega (arith, b, more))
     (sym (is ∙ ap (take k) l) ∙ same ∙ also ∙ ap (take k) r)
 
+-- taking as many as are left takes all that is left
 pub rest_of : (n : ℕ) (ls : List Literal) → take (length ls - n) (drop n ls) ≡ drop n ls
 rest_of n ls = take_all (length ls - n) (drop n ls) (omega (arith, length-drop n ls))
 
--- no literals
+-- the line of no literals has no text
 pub line_none : (labels : Labels) → AreLine labels [] [] (0 ∷ [])
 line_none labels = record { text = refl; count = refl; ends = λ n le. none n le; short = λ n le. few n le }
   where
@@ -84,7 +86,7 @@ line_none labels = record { text = refl; count = refl; ends = λ n le. none n le
     none zero le = refl
     none (suc n) le = absurd (omega (arith, le))
 
--- the text is short
+-- the text of a line is at most 84 bytes long for each literal
 pub line_short : (labels : Labels) (ls : List Literal) (text ends : List ℕ) → AreLine labels ls text ends →
     length text ≤ 84 * length ls
 line_short labels ls text ends h =
@@ -93,7 +95,7 @@ line_short labels ls text ends h =
     let few = h.short (length ls) (omega arith) in
     omega (arith, all, few)
 
--- one more
+-- with the text of one literal more, which is short, it is the line of one literal more
 pub line_more : (labels : Labels) (ls : List Literal) (text ends : List ℕ) (l : Literal) (now : List ℕ) →
     AreLine labels ls text ends →
     now ≡ text ++ added_text labels ls l →
@@ -135,7 +137,7 @@ line_more labels ls text ends l now h is few =
         ∙ ap (λ xs. length (front_text labels xs))
         (sym (ap (λ i. take i (ls ++ l ∷ [])) (omega (arith, long)) ∙ take-length (ls ++ l ∷ [])))
 
--- the first ones
+-- the first literals of a line, with their text and ends, are a line
 pub line_less : (labels : Labels) (ls : List Literal) (text ends : List ℕ) (count : ℕ) → AreLine labels ls text ends →
     count ≤ length ls →
     AreLine labels (take count ls) (take (get_or ends count 0) text) (take (count + 1) ends)
@@ -172,10 +174,12 @@ front_no_longer labels ls n =
 
 -- ---- lists that have more behind a line
 
+-- a line whose places are all 0 is the line of no literals
 pub line_new : (labels : Labels) (ls : List Literal) (text ends : List ℕ) → ends ≡ replicate 257 0 →
     AreLine labels (take 0 ls) (take (get_or ends 0 0) text) (take (0 + 1) ends)
 line_new labels ls text ends e = rw e (line_none labels)
 
+-- a line of some literals, with their texts and ends
 module _ (labels : Labels) (ls : List Literal) (text ends : List ℕ) (count : ℕ)
     (h : AreLine labels (take count ls) (take (get_or ends count 0) text) (take (count + 1) ends))
     (room : count ≤ length ls) where
@@ -190,11 +194,11 @@ module _ (labels : Labels) (ls : List Literal) (text ends : List ℕ) (count : �
   text_long : length (take (get_or ends count 0) text) ≡ get_or ends count 0
   text_long = ap length h.text ∙ sym end_is
 
-  -- the text is short
+  -- the text of the first literals is at most 84 bytes long for each
   pub end_short : get_or ends count 0 ≤ 84 * count
   end_short = rw (← get_or-take (count + 1) ends count 0 (omega arith)) (h.short count (omega (arith, long)))
 
-  -- fewer
+  -- keeping fewer literals leaves the line of these
   pub line_kept : (new : ℕ) → new ≤ count →
       AreLine labels (take new ls) (take (get_or ends new 0) text) (take (new + 1) ends)
   line_kept new le =
@@ -209,7 +213,7 @@ module _ (labels : Labels) (ls : List Literal) (text ends : List ℕ) (count : �
       (rw (← at) (line_less labels (take count ls) (take (get_or ends count 0) text) (take (count + 1) ends) new h
       (omega (arith, le, long))))))
 
-  -- one more
+  -- setting the next literal, its text and its end gives the line of one literal more
   pub line_added : (more : List Literal) (put : List ℕ) (places : List ℕ) (l : Literal) (end : ℕ) →
       more ≡ set ls count l →
       places ≡ set ends (count + 1) end →
@@ -233,7 +237,7 @@ module _ (labels : Labels) (ls : List Literal) (text ends : List ℕ) (count : �
       ∙ ap (λ e. take (count + 1) ends ++ e ∷ []) (sym now_long) in
       rw lits (rw all (rw last made))
 
--- bytes that were all written over
+-- bytes that were all written over are the new ones
 pub refilled : (len : ℕ) (put old : List ℕ) → length put ≡ len → take len (put ++ drop (length put) old) ≡ put
 refilled len put old e =
     ap (λ n. take n (put ++ drop (length put) old)) (sym e) ∙ take-append_seam put (drop (length put) old)

@@ -7,9 +7,11 @@ use Rattle.std.proofs.lemmas.List.{append_assoc, map-append}
 use Rattle.cpg_base.specs.Numbers.{numbers_below}
 use Rattle.cpg_base.proofs.Lists.{below_push}
 
+-- adding one is the successor
 pub one_more : (i : ℕ) → i + 1 ≡ suc i
 one_more i = omega arith
 
+-- with the next element's image added, the images are those of one element more
 pub next_mapped : {X Y Z : Type 0} (v : X → Z) (h : Y → Z) (xs ys : List X) (x : X) (ps : List Y) (i : ℕ) (d : Y) →
     i < length ps → map v xs ≡ map h (take i ps) →
     ys ≡ xs ++ x ∷ [] →
@@ -19,7 +21,7 @@ next_mapped v h xs ys x ps i d l e is same =
     sym (ap (map h) (ap (λ n. take n ps) (one_more i) ∙ take-suc ps i d l)
     ∙ map-append h (take i ps) (get_or ps i d ∷ []))
 
--- what one more number adds
+-- with the piece of the next number added, the pieces are those of one number more
 pub next_piece : {X : Type 0} (f : ℕ → List X) (n : ℕ) (old text next : List X) →
     old ++ flat_map f (numbers_below n) ≡ text → next ≡ text ++ f n →
     old ++ flat_map f (numbers_below (n + 1)) ≡ next

@@ -9,20 +9,20 @@ use Rattle.cpg_cube.specs.declared.literal.Literal.{Literal}
 use Rattle.cpg_cube.specs.declared.column.Column.{Column}
 use Rattle.cpg_label.specs.Labels.{Labels, process_name, condition_name}
 
--- a range of fault counts
+-- the text of a range of fault counts
 abbrev pub range_text : ℕ → ℕ → List ℕ
 range_text low high = if low == high then decimal low else decimal low ++ codes ".." ++ decimal high
 
--- a value, by its number
+-- the text of a value, by its number
 abbrev pub value_text : ℕ → List ℕ
 value_text number = if number == 0 then codes "false" else codes "true"
 
--- a range of a fault count or of a value
+-- the text of a range of a fault count or of a value
 abbrev pub known_text : Labels → Variable → ℕ → ℕ → List ℕ
 known_text labels (Count p) low high = process_name labels p ++ codes " faults " ++ range_text low high
 known_text labels (Value c) low high = condition_name labels c ++ codes " " ++ value_text low
 
--- a literal
+-- the text of a literal
 abbrev pub literal_text : Labels → Literal → List ℕ
 literal_text labels l = known_text labels (variable_at l.variable) l.low l.high
 

@@ -6,7 +6,7 @@ use Rattle.cpg_base.specs.declared.item.Item.{Item}
 use Rattle.cpg_base.specs.declared.item.Item.TheVariants.{Start, Message, Broadcast, Start as StartItem}
 use Rattle.cpg_label.specs.Labels.{Labels, process_name, condition_name, edge_ends}
 
--- the item with this number, if there are so many processes and edges
+-- the item with this number, if there are this many processes and edges
 abbrev pub item_among : ℕ → ℕ → ℕ → Item
 item_among processes edges x = if nat_lt x processes then Start x else
     if nat_lt x (processes + edges) then Message (x - processes)

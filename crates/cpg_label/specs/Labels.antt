@@ -9,8 +9,10 @@ use Rattle.cpg_table.specs.Items.{conditioned}
 
 -- the names of the processes, the name of the process of each condition, and the ends of the edges
 pub record Labels : Type 0 where
+  -- names are lists of bytes
   pub processes : List (List ℕ)
   pub conditions : List (List ℕ)
+  -- the numbers of the two processes of each edge
   pub edges : List (ℕ × ℕ)
 
 -- the name of a process

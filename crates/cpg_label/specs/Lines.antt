@@ -7,11 +7,11 @@ use Rattle.cpg_label.specs.CubeText.{literal_text}
 use Rattle.cpg_label.specs.Labels.{Labels}
 use Rattle.cpg_label.specs.declared.line.Line.{Line}
 
--- a literal after another one
+-- the text of a literal after another one
 abbrev pub piece_text : Labels → Literal → List ℕ
 piece_text labels l = codes ", " ++ literal_text labels l
 
--- literals, and nothing of none
+-- the text of literals, which is empty if there are none
 abbrev pub front_text : Labels → List Literal → List ℕ
 front_text labels [] = []
 front_text labels (l ∷ ls) = literal_text labels l ++ flat_map (piece_text labels) ls
@@ -21,18 +21,18 @@ abbrev pub rest_text : Labels → List Literal → List Literal → List ℕ
 rest_text labels [] ls = front_text labels ls
 rest_text labels (x ∷ xs) ls = flat_map (piece_text labels) ls
 
--- what one more adds
+-- what one more literal adds
 abbrev pub added_text : Labels → List Literal → Literal → List ℕ
 added_text labels [] l = literal_text labels l
 added_text labels (x ∷ xs) l = piece_text labels l
 
--- so many literals are the same in two lists
+-- the first n literals are the same in two lists
 pub record AreAlike (first second : List Literal) (n : ℕ) : Type 0 where
   pub same : take n first ≡ take n second
   pub within : n ≤ length first
   pub inside : n ≤ length second
 
--- what a literal adds to the text of so many
+-- what a literal adds to the text of n others
 abbrev pub text_after : Labels → ℕ → Literal → List ℕ
 text_after labels n l = if n == 0 then literal_text labels l else piece_text labels l
 
@@ -41,13 +41,16 @@ pub record AreLine (labels : Labels) (ls : List Literal) (t es : List ℕ) : Typ
   pub text : t ≡ front_text labels ls
   pub count : length es ≡ length ls + 1
   pub ends : (n : ℕ) → n ≤ length ls → get_or es n 0 ≡ length (front_text labels (take n ls))
+  -- a literal's text has at most 84 bytes
   pub short : (n : ℕ) → n ≤ length ls → get_or es n 0 ≤ 84 * n
 
 -- a line has the text of its literals, and how long the text of the first ones is; and room for 256 literals
 pub record IsLine (labels : Labels) (line : Line) : Type 0 where
+  -- the first `count` literals, their text, and one end more than there are literals
   pub are : AreLine labels (take line.count line.literals.items)
       (take (get_or line.ends.items line.count 0) line.text.items) (take (line.count + 1) line.ends.items)
   pub few : line.count ≤ 256
+  -- the lists have room for 256 literals of 84 bytes each
   pub literals : length line.literals.items ≡ 256
   pub text : length line.text.items ≡ 256 * 84
   pub ends : length line.ends.items ≡ 256 + 1

@@ -10,7 +10,7 @@ use cpg_base::Variable;
 use cpg_cube::Literal;
 use std::alloc::AllocError;
 
-/// No literal is longer with what stands before it, in bytes: a comma, a name, a word and two numbers.
+/// The most bytes of a literal with what stands before it: a comma, a name, a word and two numbers.
 pub(crate) const MOST_LITERAL: usize = 84;
 
 /// A value, by its number.
@@ -65,7 +65,7 @@ fn place_literal(out: &mut [u8], at: usize, labels: &Labels<'_>, literal: Litera
     }
 }
 
-/// Puts a literal at a place where so many end, and says where it ends.
+/// Puts a literal at a place where this many literals end, and says where it ends.
 pub(crate) fn place_after(
     out: &mut [u8],
     at: usize,

@@ -16,6 +16,7 @@ pub fn item_among(processes: usize, edges: usize, number: u32) -> Item
     ensures { result ≡ item_among processes edges number }
 {
     let place = number as usize;
+    // the first numbers are the processes, the next ones the edges, and the last ones the conditions
     if place < processes {
         return Item::Start(number);
     }

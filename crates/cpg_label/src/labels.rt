@@ -27,6 +27,7 @@ impl<'a> Model for Labels<'a> {
     ghost view = { λ l. record { processes = map (λ n. n.now) l.processes.items; conditions = map (λ n. n.now) l.conditions.items; edges = l.edges.items } };
 }
 
+/// The names of processes.
 fn process_names<'a>(alloc: Global, processes: &'a [Process]) -> Result<Vec<&'a Name>, OutOfMemory>
     ensures { IfOk result (λ names. map (λ n. n.now) names.items ≡ map (λ p. p.name) processes.entry.now) }
 {
@@ -38,6 +39,7 @@ fn process_names<'a>(alloc: Global, processes: &'a [Process]) -> Result<Vec<&'a 
     Ok(names)
 }
 
+/// The name of the process of each condition.
 fn condition_names<'a>(alloc: Global, problem: &'a Problem) -> Result<Vec<&'a Name>, OutOfMemory>
     ensures { IfOk result (λ names. map (λ n. n.now) names.items ≡ map (λ p. (process_at problem.entry.now p).name) (disjunctions problem.entry.now)) }
 {
@@ -50,6 +52,7 @@ fn condition_names<'a>(alloc: Global, problem: &'a Problem) -> Result<Vec<&'a Na
     Ok(names)
 }
 
+/// The ends of edges.
 fn edge_ends(alloc: Global, edges: &[Edge]) -> Result<Vec<(u32, u32)>, OutOfMemory>
     ensures { IfOk result (λ ends. ends.items ≡ map (λ e. (e.from, e.to)) edges.now) }
 {
@@ -61,6 +64,7 @@ fn edge_ends(alloc: Global, edges: &[Edge]) -> Result<Vec<(u32, u32)>, OutOfMemo
     Ok(ends)
 }
 
+/// The names of the processes of a head.
 fn head_process_names<'a>(
     alloc: Global,
     processes: &'a [HeadProcess],
@@ -75,6 +79,7 @@ fn head_process_names<'a>(
     Ok(names)
 }
 
+/// The names of those processes of a head that have conditions.
 fn head_condition_names<'a>(
     alloc: Global,
     processes: &'a [HeadProcess],
@@ -90,6 +95,7 @@ fn head_condition_names<'a>(
     Ok(names)
 }
 
+/// A copy of the ends of a head's edges.
 fn head_edges(alloc: Global, edges: &[(u32, u32)]) -> Result<Vec<(u32, u32)>, OutOfMemory>
     ensures { IfOk result (λ ends. ends.items ≡ edges.now) }
 {

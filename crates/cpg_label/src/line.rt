@@ -13,13 +13,17 @@ use std::alloc::{AllocError, Global};
 /// How many literals a column may have: their variables are numbers of a byte, and rise.
 const MOST_LITERALS: usize = 256;
 
-/// So many literals with their text, and how long that of the first ones is, for each number of these. What is behind them is
-/// left of earlier ones.
+/// `count` literals with their text, and how long the text of the first ones is, for each number of these. What stands behind
+/// them is left of earlier ones.
 #[derive(Drop)]
 pub struct Line {
+    /// How many literals it has.
     count: usize,
+    /// Its literals, and behind them what is left of earlier ones.
     literals: Vec<Literal>,
+    /// Their text, and behind it what is left of earlier text.
     text: Vec<u8>,
+    /// How long the text of the first literals is, by their number.
     ends: Vec<usize>,
 }
 
@@ -30,7 +34,7 @@ fn is_same(first: Literal, second: Literal) -> bool
     (first.variable == second.variable) & (first.low == second.low) & (first.high == second.high)
 }
 
-/// Whether the literals of two blocks are the same: without a way out before the last, so that the compiler compares them at once.
+/// Whether the literals of two blocks are the same. It never stops early, so that the compiler compares them at once.
 fn are_same<const N: usize>(first: &[Literal; N], second: &[Literal; N]) -> bool
     ensures { OnTrue result (first.now ≡ second.now) }
 {
@@ -49,6 +53,7 @@ fn front_by_eights(first: &[Literal], second: &[Literal]) -> usize
     let mut right = second;
     let mut place = 0;
     while let Some((block, rest)) = left.split_first_chunk::<8>() {
+        // the second list has no more block of eight
         let Some((other, behind)) = right.split_first_chunk::<8>() else {
             return place;
         };
@@ -150,7 +155,7 @@ impl Line {
         &self.literals[..self.count]
     }
 
-    /// Leaves so many literals.
+    /// Leaves this many literals.
     fn keep(&mut self, labels: &Labels<'_>, count: usize)
         requires line { IsLine labels.now self.old }
         requires within { count ≤ self.old.count }
@@ -195,6 +200,7 @@ impl Line {
         ensures { IsLineOf labels.now cube.now self.new }
     {
         let literals = literals_of(cube);
+        // the literals that both begin with stay, with their text
         let count = common_front(self.literals(), literals);
         self.keep(labels, count);
         self.add_all(labels, &literals[count..]);

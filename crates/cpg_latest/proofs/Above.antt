@@ -18,6 +18,7 @@ use Rattle.cpg_latest.proofs.LateTimes.{late_active, late_end_active}
 use Rattle.cpg_latest.proofs.RunsGrow.{time_inactive, end_inactive}
 use Rattle.cpg_latest.proofs.Rests.{Cause, Cause.fixed, Cause.item, Cause.ended, IsBefore, value_in, unfrozen_grows}
 
+-- given: a run of an outcome, and the latest times of that outcome
 module _ (g : Graph) (order : List ℕ) (frozen : List (Option ℕ)) (s : Scenario) (t : Times) (late : ℕ → Times)
     (topological : IsTopological g order)
     (run : IsRun g order frozen s t) (are : AreLatest g order frozen s.values late) where
@@ -32,6 +33,7 @@ module _ (g : Graph) (order : List ℕ) (frozen : List (Option ℕ)) (s : Scenar
       (λ q e. let k = ltb-true (moment_of_end g order q) m e in
       lt-ltb (moment_of_end g order q) l (omega (arith, k, h)))
 
+  -- if p ends at the moment m or later, the faults spent before m and those of p are all spent just after p has ended
   spent_with : (m p : ℕ) → m ≤ moment_of_end g order p →
       spent_by m + fault_of s p ≤ spent_by (moment_of_end g order p + 1)
   unfolding spent_by
@@ -50,6 +52,7 @@ module _ (g : Graph) (order : List ℕ) (frozen : List (Option ℕ)) (s : Scenar
         spent_by (moment_of_end g order p + 1) ≤ n →
         end_in t p ≤ end_in (late n) p
 
+  -- what a bound rests on is no later in the run than in the latest times
   cause_le : (m x n : ℕ) → AboveBefore m → moment g order x ≤ m → n ≤ g.faults → spent_by (moment g order x) ≤ n
       → (c : Cause) → IsBefore g order (moment g order x) c → value_in t c ≤ value_in (late n) c
   cause_le m x n a k few b fixed h = omega arith
@@ -58,11 +61,13 @@ module _ (g : Graph) (order : List ℕ) (frozen : List (Option ℕ)) (s : Scenar
   cause_le m x n a k few b (ended p) h = a.ends n p few h.0 (omega (arith, h.1, k))
       (omega (arith, b, spent_later (moment_of_end g order p + 1) (moment g order x) (omega (arith, h.1))))
 
+  -- an item's unfrozen time is no later in the run than in the latest times
   unfrozen_le : (m x n : ℕ) → AboveBefore m → moment g order x ≤ m → x < item_count g → n ≤ g.faults →
       spent_by (moment g order x) ≤ n
       → unfrozen_time g order s t x ≤ unfrozen_time g order s (late n) x
   unfrozen_le m x n a k l few b = unfrozen_grows g order topological s t (late n) x l (cause_le m x n a k few b)
 
+  -- if the unfrozen time of an item is no later than its latest unfrozen one, its time is no later either
   time_le : (x n : ℕ) → x < item_count g → n ≤ g.faults →
       unfrozen_time g order s t x ≤ unfrozen_time g order s (late n) x →
       time_in t x ≤ time_in (late n) x
@@ -78,6 +83,7 @@ module _ (g : Graph) (order : List ℕ) (frozen : List (Option ℕ)) (s : Scenar
     | inr is ↦ omega (arith, time_inactive g order frozen s t run x l is)
   ]
 
+  -- an end is no later in the run than in the latest times
   end_le : (m p n : ℕ) → AboveBefore m → moment_of_end g order p ≤ m → p < process_count g → n ≤ g.faults →
       spent_by (moment_of_end g order p + 1) ≤ n →
       end_in t p ≤ end_in (late n) p
@@ -98,6 +104,7 @@ module _ (g : Graph) (order : List ℕ) (frozen : List (Option ℕ)) (s : Scenar
         | inr is ↦ omega (arith, end_inactive g order frozen s t run p l is)
       ]
 
+  -- by induction on moments: what comes before m in the run is no later than in the latest times
   above_before : (m : ℕ) → AboveBefore m
   above_before zero =
       record { items = λ n x few l h b. absurd (omega arith); ends = λ n p few l h b. absurd (omega arith) }
@@ -112,6 +119,7 @@ module _ (g : Graph) (order : List ℕ) (frozen : List (Option ℕ)) (s : Scenar
   unfolding spent_by
   all_spent m n h = omega (arith, h, spent-le (λ q. ltb (moment_of_end g order q) m) 0 s.faults)
 
+  -- the run is no later than the latest times with at least as many faults
   pub no_later : (n : ℕ) → sum s.faults ≤ n → n ≤ g.faults → IsNoLater g order s t (late n)
   no_later n h few =
       let a = above_before (last g) in

@@ -33,11 +33,13 @@ pub record AreActiveAlike (g : Graph) (s u : Scenario) : Type 0 where
       get_or s.values c false ≡ get_or u.values c false
   pub faults : (p : ℕ) → p < process_count g → active g s.values p ≡ true → fault_of s p ≡ fault_of u p
 
+-- given: two scenarios that agree on what is active in the first
 module _ (g : Graph) (urgency : List ℕ) (urgent : IsUrgencyOrder g urgency) (lawful : IsTopological g urgency)
     (s u : Scenario) (alike : AreActiveAlike g s u) where
   activation_is_same : (p : ℕ) → p < process_count g → activation g s.values p ≡ activation g u.values p
   activation_is_same p l = same_everywhere g urgency lawful s.values u.values p (omega arith) alike.values
 
+  -- the same processes and items are active in both
   pub active_is_same : (p : ℕ) → p < process_count g → active g s.values p ≡ active g u.values p
   active_is_same p l = ap is_active (activation_is_same p l)
 
@@ -50,6 +52,7 @@ module _ (g : Graph) (urgency : List ℕ) (urgent : IsUrgencyOrder g urgency) (l
   deciding_is_same p = deciding_same g urgency urgent p s.values u.values
       (λ c l d. alike.values c l (deciding_is_active g urgency urgent lawful s.values p c l d))
 
+  -- the same items are active in both
   pub item_is_same : (x : ℕ) → ItemCases g x →
       item_active g s.values (item_at g x) ≡ item_active g u.values (item_at g x)
   item_is_same x (inl c) =
@@ -61,6 +64,7 @@ module _ (g : Graph) (urgency : List ℕ) (urgent : IsUrgencyOrder g urgency) (l
       sym (ap (item_active g u.values) c.3)
 
   module _ (order : List ℕ) (topological : IsTopological g order) (frozen : List (Option ℕ)) (t : Times) where
+    -- a start has the same bounds in both: the same inputs are live and the same processes active
     start_same : (p : ℕ) → start_bounds g order s t p ≡ start_bounds g order u t p
     start_same p = ap (λ xs. (process_at g p).release ∷ xs) (ap₂ ◌++◌
         (ap₂ ◌++◌
@@ -79,6 +83,7 @@ module _ (g : Graph) (urgency : List ℕ) (urgent : IsUrgencyOrder g urgency) (l
         (λ y c. item_is_same y (item_cases g y (numbers-Contains (item_count g) y
         (Contains-filter_parts (λ (z : ℕ). is_queued_before g order z x) (numbers_below (item_count g)) y c).0))))
 
+    -- each item has the same bounds in both
     pub bounds_same : (x : ℕ) → ItemCases g x →
         bounds_of_item g order s t x (item_at g x) ≡ bounds_of_item g order u t x (item_at g x)
     bounds_same x (inl c) =
@@ -94,6 +99,7 @@ module _ (g : Graph) (urgency : List ℕ) (urgent : IsUrgencyOrder g urgency) (l
         (item_is_same x (item_cases g x l)) (bounds_same x (item_cases g x l))
 
     module _ (run : IsRun g order frozen s t) where
+      -- each process ends alike in both scenarios: an active one has the same faults, and an inactive one no start
       end_same : (p : ℕ) → p < process_count g → end_by g s t p ≡ end_by g u t p
       end_same p l = elim (cases_Bool (active g s.values p)) [
         | inl acts ↦

@@ -16,10 +16,12 @@ pub outcome_at : (scenarios : List Scenario) (i : ℕ) (d : Scenario) → i < le
     track_at (outcomes_of scenarios) i ≡ (get_or scenarios i d).values
 outcome_at scenarios i d l = get_or-map (λ s. s.values) scenarios i d [] l
 
+-- the track at a place has the outcome that was asked there
 pub outcome_asked : (asked : List Asked) (i : ℕ) (d : Asked) → i < length asked →
     track_at (outcomes_asked asked) i ≡ (get_or asked i d).scenario.now.values
 outcome_asked asked i d l = get_or-map (λ a. a.scenario.now.values) asked i d [] l
 
+-- if tracks are asked of a process and one more is, all of them are
 pub asked_more : (g : Graph) (guards : Guards) (p : ℕ) (asked more : List Asked) (one : Asked) →
     AreAsked g guards p asked → IsAsked g guards p one →
     more ≡ asked ++ one ∷ [] →
@@ -31,6 +33,7 @@ asked_more g guards p asked more one a is all i d l = elim (cases_lt i (length a
       subst (IsAsked g guards p) (sym (ap₂ (λ xs k. get_or xs k d) all at ∙ get_or-append_seam asked one [] d)) is
 ]
 
+-- the outcomes that were asked are still those of the first scenarios, with one more
 pub outcomes_more : (asked more : List Asked) (one : Asked) (scenarios : List Scenario) (i : ℕ) (d : Scenario) →
     outcomes_asked asked ≡ outcomes_of (take i scenarios) →
     i < length scenarios

@@ -34,7 +34,7 @@ not_sooner g p (suc n) start last = let is = cond-false (suc n == 0) (start + du
     (max (start + duration g p 0) (last + again g p)) (some_faults n) in
     omega (arith, is)
 
--- what is given to the first course, and to the next ones
+-- the last end that is given to the first course is 0
 pub last_first : (g : Graph) (late : ℕ → Times) (p : ℕ) → 0 ≡ last_end g late 0 p
 unfolding last_end
 last_first g late p = refl
@@ -43,6 +43,7 @@ last_at : (g : Graph) (late : ℕ → Times) (n m p : ℕ) → m ≡ suc n → l
 unfolding last_end
 last_at g late n m p e = subst (λ i. latest_end g late n p ≡ last_end g late i p) (sym e) refl
 
+-- the latest end with n faults is the last end for n + 1
 pub last_next : (g : Graph) (late : ℕ → Times) (n p : ℕ) → latest_end g late n p ≡ last_end g late (n + 1) p
 last_next g late n p = last_at g late n (n + 1) p (omega arith)
 
@@ -51,6 +52,7 @@ module _ (g : Graph) (order : List ℕ) (topological : IsTopological g order) (D
     (frozen : List (Option ℕ)) (values : List Bool)
     (limits : IsWithinLimits g) (long : length values ≡ condition_count g) (early : AreEarly frozen) (p : ℕ)
     (l : p < process_count g) (acts : active g values p ≡ true) where
+  -- the latest end with one fault less is below 2 ^ 60, as all latest ends are; with no faults it is 0
   pub last_small : (n : ℕ) → n < g.faults + 1 → last_end g (the_latest g order frozen values topological) n p < 2 ^ 60
   unfolding last_end
   last_small zero few = omega arith
@@ -64,7 +66,7 @@ module _ (g : Graph) (order : List ℕ) (topological : IsTopological g order) (D
       let is = late_end_active g order frozen s late are n (omega (arith, few)) p l on in
       omega (arith, is, small.ends p)
 
--- a course before a process
+-- the course once a process has begun
 abbrev pub begun : ProgressState → ℕ → ℕ → ℕ → ℕ → ProgressState
 begun c p node start end = record {
   known = record c.known { times = set c.known.times p (Some start); ends = set c.known.ends p (Some end) };
@@ -72,11 +74,11 @@ begun c p node start end = record {
   free = c.free;
 }
 
--- after the node has waited for one that is inactive
+-- the course once the node has waited for an inactive process
 abbrev pub waited : ProgressState → ℕ → ℕ → ProgressState
 waited c node ready = record { known = c.known; ready = set c.ready node ready; free = c.free }
 
--- and after an item is sent
+-- the course once an item is sent
 abbrev pub sent : ProgressState → ℕ → ℕ → ℕ → ℕ → ProgressState
 sent c x node time free = record {
   known = record c.known { times = set c.known.times x (Some time) };
@@ -84,6 +86,7 @@ sent c x node time free = record {
   free = set c.free node free;
 }
 
+-- given: a process, and a number of faults
 module _ (g : Graph) (order : List ℕ) (topological : IsTopological g order) (Done : ℕ → Type 0)
     (frozen : List (Option ℕ)) (values : List Bool)
     (p : ℕ) (l : p < process_count g) (on : node_of g p < length g.nodes) (n : ℕ) (few : n < g.faults + 1) where
@@ -91,6 +94,7 @@ module _ (g : Graph) (order : List ℕ) (topological : IsTopological g order) (D
       (is_ready : IsReadyFor g values p c ready) where
     -- ---- an inactive process
 
+    -- after an inactive process all is known before the next place
     pub passed : active g values p ≡ false → IsSending g order Done frozen values p 0 n (waited c (node_of g p) ready)
     passed idle = record {
       places = record {
@@ -112,9 +116,11 @@ module _ (g : Graph) (order : List ℕ) (topological : IsTopological g order) (D
 
     -- ---- an active one
 
+    -- given: an active process, and the start that is found for it
     module _ (done : Done p) (acts : active g values p ≡ true) (start : ℕ)
         (is_start : start ≡ max (max (max ready (process_at g p).release)
         (greatest (input_bounds g (with_faults values []) c.known p))) (frozen_in frozen p)) where
+      -- the start that is found is that of the latest times
       pub start_is_latest : ForLatest g order Done frozen values (λ late. start ≡ time_in (late n) p)
       start_is_latest more goes late are =
           let found : start ≡ max (max (max ready (process_at g p).release)
@@ -129,11 +135,13 @@ module _ (g : Graph) (order : List ℕ) (topological : IsTopological g order) (D
 
       module _ (end last : ℕ) (is_end : end ≡ end_after g p n start last)
           (is_last : ForLatest g order Done frozen values (λ late. last ≡ last_end g late n p)) where
+        -- the end that is found is that of the latest times
         pub end_is_latest : ForLatest g order Done frozen values (λ late. end ≡ latest_end g late n p)
         end_is_latest more goes late are =
             is_end ∙ ap₂ (end_after g p n) (start_is_latest more goes late are) (is_last more goes late are)
             ∙ sym (end_next g late n p)
 
+        -- in the course p has begun and sent nothing: its start and its end there are those of the latest times
         gone : ForLatest g order Done frozen values
             (λ late. HasGone g order (with_faults values []) (late n) p 0 (begun c p (node_of g p) start end))
         gone more goes late are =
@@ -167,6 +175,7 @@ module _ (g : Graph) (order : List ℕ) (topological : IsTopological g order) (D
                   course.places.times course.places.ends refl refl new free sent keeps;
             }
 
+        -- with its start and its end set, the process has begun and sent none of its items
         pub begins : IsSending g order Done frozen values p 0 n (begun c p (node_of g p) start end)
         begins = record {
           places = record {
@@ -184,12 +193,13 @@ module _ (g : Graph) (order : List ℕ) (topological : IsTopological g order) (D
 
   -- ---- what it sends
 
+  -- given: the next item that the process sends
   module _ (k : ℕ) (inside : k < length (queue_of g p)) (c : ProgressState)
       (sending : IsSending g order Done frozen values p k n c) where
     abbrev x : ℕ
     x = get_or (queue_of g p) k 0
 
-    -- an item that is inactive
+    -- if the item is inactive, the course as it is has sent one item more
     pub unsent : (active g values p ≡ true → item_active g values (item_at g x) ≡ false) →
         IsSending g order Done frozen values p (k + 1) n c
     unsent off = record {
@@ -212,6 +222,7 @@ module _ (g : Graph) (order : List ℕ) (topological : IsTopological g order) (D
       idle = sending.idle;
     }
 
+    -- given: an active item, and the time that is found for it
     module _ (done : Done x) (acts : active g values p ≡ true)
         (on_item : item_active g values (item_at g x) ≡ true) (time : ℕ)
         (is_time : time ≡ max (max (next_slot g (node_of g p) (end_in c.known p)) (get_or c.free (node_of g p) 0))
@@ -220,6 +231,7 @@ module _ (g : Graph) (order : List ℕ) (topological : IsTopological g order) (D
       end_there more goes late are = let h = sending.acts acts more goes late are in
           ap (λ es. unwrap_or (get_or es p None) 0) h.keeps.ends ∙ h.ended
 
+      -- the time that is found for the item is that of the latest times, whatever frozen times follow
       time_there : (more : List (Option ℕ)) → GoesOn g Done frozen more → (late : ℕ → Times) →
           AreLatest g order more values late
           → time ≡ max (max (next_slot g (node_of g p) (end_in (late n) p)) (get_or c.free (node_of g p) 0))
@@ -229,6 +241,7 @@ module _ (g : Graph) (order : List ℕ) (topological : IsTopological g order) (D
           is_time ∙ ap₂ (λ e o. max (max (next_slot g (node_of g p) e) (get_or c.free (node_of g p) 0)) (unwrap_or o 0))
           (end_there more goes late are) (sym (goes x q.within done))
 
+      -- the time that is found is that of the latest times
       pub time_is_latest : ForLatest g order Done frozen values (λ late. time ≡ time_in (late n) x)
       time_is_latest more goes late are =
           let s = with_faults values [] in
@@ -237,7 +250,7 @@ module _ (g : Graph) (order : List ℕ) (topological : IsTopological g order) (D
           ∙ send_is g order topological s p l k inside more (late n) (latest_is_timed g order more s late are n
           (omega arith)) (get_or c.free (node_of g p) 0) h.sent.slots_free on_item
 
-      -- it stays small
+      -- the end and the time of the send stay small
       pub sends_small : IsWithinLimits g → length values ≡ condition_count g → AreEarly frozen →
           (end_in c.known p < 2 ^ 59) × (time < 2 ^ 59)
       sends_small limits long early =
@@ -248,6 +261,7 @@ module _ (g : Graph) (order : List ℕ) (topological : IsTopological g order) (D
           let time_is = time_is_latest frozen (λ y h d. refl) late are in
           (omega (arith, end_is, small.ends p), omega (arith, time_is, small.times x))
 
+      -- with its time set, the process has sent one item more
       pub sends : (free : ℕ) → free ≡ time + round g →
           IsSending g order Done frozen values p (k + 1) n (sent c x (node_of g p) time free)
       sends free is = record {
@@ -288,7 +302,7 @@ module _ (g : Graph) (order : List ℕ) (topological : IsTopological g order) (D
           apart : true ≡ false → ⊥
           apart e = cc
 
-  -- all is sent
+  -- once all items are sent, all is known before the next place
   pub sent_all : (c : ProgressState) → IsSending g order Done frozen values p (length (queue_of g p)) n c →
       IsCourse g order Done frozen values (place order p + 1) n c
   sent_all c sending =

@@ -17,7 +17,7 @@ use Rattle.cpg_latest.proofs.LateSmall.{late_small}
 use Rattle.cpg_latest.proofs.LatestExists.{the_latest, latest_exist}
 use Rattle.cpg_latest.proofs.TimedStarts.{known_small}
 
--- a list stays as it is where it gets what it has
+-- setting a number to what it is leaves the list as it is
 pub set_same : (xs : List ℕ) (i : ℕ) → i < length xs → xs ≡ set xs i (get_or xs i 0)
 set_same xs i l =
     ext_get_or 0 xs (set xs i (get_or xs i 0)) (sym (length-set xs i (get_or xs i 0))) (λ j k. elim (cases_eq j i) [
@@ -26,7 +26,7 @@ set_same xs i l =
       | inr other ↦ sym (get_or-set_other xs i j (get_or xs i 0) 0 other)
     ])
 
--- the last one set there stays
+-- of two numbers set at one place the last one stays
 pub set_twice : (xs : List ℕ) (i a b : ℕ) → i < length xs → set (set xs i a) i b ≡ set xs i b
 set_twice xs i a b l = ext_get_or 0 (set (set xs i a) i b) (set xs i b)
     (length-set (set xs i a) i b ∙ length-set xs i a ∙ sym (length-set xs i b)) (λ j k. elim (cases_eq j i) [
@@ -36,17 +36,19 @@ set_twice xs i a b l = ext_get_or 0 (set (set xs i a) i b) (set xs i b)
           ∙ sym (get_or-set_other xs i j b 0 other)
     ])
 
+-- given: an outcome, and frozen times so far
 module _ (g : Graph) (order : List ℕ) (topological : IsTopological g order) (Done : ℕ → Type 0)
     (frozen : List (Option ℕ)) (values : List Bool) where
-  -- so it is of those under the frozen times so far
+  -- a fact for whatever frozen times follow is one of the latest times under those so far
   pub so_far : (P : (ℕ → Times) → Type 0) → ForLatest g order Done frozen values P →
       P (the_latest g order frozen values topological)
   so_far P f = f frozen (λ x l d. refl) (the_latest g order frozen values topological)
       (latest_exist g order frozen values topological)
 
-  -- those stay small
+  -- given: early frozen times within the limits
   module _ (within : IsWithinLimits g) (long : length values ≡ condition_count g) (early : AreEarly frozen) (n : ℕ)
       (few : n < g.faults + 1) where
+    -- under early frozen times the latest times are small, and so is what a course knows of them
     pub latest_small : AreSmall (the_latest g order frozen values topological n)
     latest_small = late_small g order frozen values (the_latest g order frozen values topological) within topological
         long early (latest_exist g order frozen values topological) n (omega arith)
@@ -57,6 +59,7 @@ module _ (g : Graph) (order : List ℕ) (topological : IsTopological g order) (D
         known_small g order (the_latest g order frozen values topological n) i c.known at.knows a.places.times
         a.places.ends latest_small
 
+-- a number of faults above none is not 0
 pub some_faults : (n : ℕ) → (suc n == 0) ≡ false
 some_faults n =
     elim (cases_Bool (suc n == 0)) [ inl e ↦ absurd (let k = eqb-true (suc n) 0 e in omega (arith, k)) | inr e ↦ e ]

@@ -9,11 +9,12 @@ use Rattle.cpg_base.proofs.Lists.{greatest-le}
 use Rattle.cpg_run.specs.Run.{Times, time_in}
 use Rattle.cpg_latest.specs.Latest.{again, end_with, latest_end}
 
+-- one fault more makes an execution longer by the same time
 pub duration_suc : (g : Graph) (p j : ℕ) → duration g p (suc j) ≡ duration g p j + again g p
 duration_suc g p j = omega (arith, suc-mul j (again g p))
 
 module _ (g : Graph) (late : ℕ → Times) (p : ℕ) where
-  -- it is one of them
+  -- the end with j of n faults of its own is no later than the latest end
   among : (n j : ℕ) → j ≤ n → end_with g late n p j ≤ latest_end g late n p
   among n j l = greatest_above (map (end_with g late n p) (numbers_below (n + 1))) (end_with g late n p j)
       (Contains-map (end_with g late n p) (numbers_below (n + 1)) j (Contains-numbers (n + 1) j (omega (arith, l))))
@@ -26,6 +27,7 @@ module _ (g : Graph) (late : ℕ → Times) (p : ℕ) where
   none_of_it : (n : ℕ) → end_with g late n p 0 ≡ time_in (late n) p + duration g p 0
   none_of_it n = let e : n - 0 ≡ n = omega arith in omega (arith, ap (λ m. time_in (late m) p) e)
 
+  -- without faults the latest end is the start and the execution
   pub end_zero : latest_end g late 0 p ≡ time_in (late 0) p + duration g p 0
   end_zero = omega
       (arith, none_of_it 0, among 0 0 (omega arith), no_more 0 (time_in (late 0) p + duration g p 0) (λ j l. below j l))
@@ -38,6 +40,8 @@ module _ (g : Graph) (late : ℕ → Times) (p : ℕ) where
   later_by n j l = let e : suc n - suc j ≡ n - j = omega arith in
       omega (arith, ap (λ m. time_in (late m) p) e, duration_suc g p j)
 
+  -- with one fault more the latest end is that of an execution without faults, or one more fault after the latest end
+  -- with one fault less, whichever is later
   pub end_suc : (n : ℕ) →
       latest_end g late (suc n) p ≡ max (time_in (late (suc n)) p + duration g p 0) (latest_end g late n p + again g p)
   end_suc n = omega (arith, none_of_it (suc n), among (suc n) 0 (omega arith), others, whole)

@@ -20,10 +20,12 @@ if_more : (b c : Bool) (f : ℕ) → (b ≡ true → c ≡ true) → (if b then 
 if_more true c f h = omega (arith, cond-true c f 0 (h refl))
 if_more false c f h = omega arith
 
+-- some of the processes have no more faults than all have
 pub spent-le : (b : ℕ → Bool) (i : ℕ) (fs : List ℕ) → spent b i fs ≤ sum fs
 spent-le b i [] = omega arith
 spent-le b i (f ∷ fs) = omega (arith, if_le (b i) f, spent-le b (suc i) fs, sum_by-cons (λ (n : ℕ). n) f fs)
 
+-- if more processes pass, they have no fewer faults
 pub spent-more : (b c : ℕ → Bool) (i : ℕ) (fs : List ℕ) → ((q : ℕ) → b q ≡ true → c q ≡ true) →
     spent b i fs ≤ spent c i fs
 spent-more b c i [] h = omega arith
@@ -32,7 +34,7 @@ spent-more b c i (f ∷ fs) h = omega (arith, if_more (b i) (c i) f (h i), spent
 none_at : (fs : List ℕ) (j : ℕ) → length fs ≡ 0 → get_or fs j 0 ≡ 0
 none_at fs j e = get_or_past fs j 0 (omega (arith, e))
 
--- with one process more
+-- if one process more passes, there are at least its faults more
 pub spent-one : (b c : ℕ → Bool) (i j q : ℕ) (fs : List ℕ) → ((r : ℕ) → b r ≡ true → c r ≡ true) → i + j ≡ q →
     b q ≡ false → c q ≡ true
     → spent b i fs + get_or fs j 0 ≤ spent c i fs
@@ -54,17 +56,20 @@ add_at [] p j = []
 add_at (f ∷ fs) zero j = (f + j) ∷ fs
 add_at (f ∷ fs) (suc p) j = f ∷ add_at fs p j
 
+-- adding faults to a process leaves the number of counts as it is
 pub length-add_at : (fs : List ℕ) (p j : ℕ) → length (add_at fs p j) ≡ length fs
 length-add_at [] p j = refl
 length-add_at (f ∷ fs) zero j = refl
 length-add_at (f ∷ fs) (suc p) j = ap suc (length-add_at fs p j)
 
+-- all faults grow by no more than is added
 pub sum-add_at : (fs : List ℕ) (p j : ℕ) → sum (add_at fs p j) ≤ sum fs + j
 sum-add_at [] p j = omega arith
 sum-add_at (f ∷ fs) zero j = omega (arith, sum_by-cons (λ (n : ℕ). n) (f + j) fs, sum_by-cons (λ (n : ℕ). n) f fs)
 sum-add_at (f ∷ fs) (suc p) j =
     omega (arith, sum_by-cons (λ (n : ℕ). n) f (add_at fs p j), sum_by-cons (λ (n : ℕ). n) f fs, sum-add_at fs p j)
 
+-- no process has fewer faults than before, and the one itself has at least those that are added
 pub add_at-grows : (fs : List ℕ) (p j q : ℕ) → get_or fs q 0 ≤ get_or (add_at fs p j) q 0
 add_at-grows [] p j q = omega arith
 add_at-grows (f ∷ fs) zero j zero = omega arith

@@ -16,13 +16,14 @@ first_of (Some n) ys = greatest-cons n ys
 past : (os : List (Option ℕ)) (p : ℕ) → length os ≤ p → at os p ≡ 0
 past os p l = ap (λ o. unwrap_or o 0) (get_or_past os p None l)
 
+-- no end is later than the greatest of all ends
 pub at_most_finish : (os : List (Option ℕ)) (p : ℕ) →
     unwrap_or (get_or os p None) 0 ≤ greatest (flat_map option_to_list os)
 at_most_finish [] p = omega (arith, past [] p (omega arith))
 at_most_finish (o ∷ os) zero = omega (arith, first_of o (flat_map option_to_list os))
 at_most_finish (o ∷ os) (suc p) = omega (arith, first_of o (flat_map option_to_list os), at_most_finish os p)
 
--- it is 0 or one of them
+-- the greatest end is 0 or the end of some process
 pub finish_at : (os : List (Option ℕ)) →
     (greatest (flat_map option_to_list os) ≡ 0) ⊎
     ((p : ℕ) × (p < length os) × (unwrap_or (get_or os p None) 0 ≡ greatest (flat_map option_to_list os)))

@@ -33,12 +33,14 @@ use Rattle.cpg_latest.proofs.LatestExists.{the_latest, latest_exist}
 use Rattle.cpg_latest.proofs.OverTracks.{greatest_are}
 use Rattle.cpg_latest.proofs.TimedStarts.{both_ways_equal}
 
+-- each process is on a node of the graph
 pub on_graph : (g : Graph) → IsWithinLimits g → (p : ℕ) → p < process_count g → node_of g p < length g.nodes
 on_graph g w p l = (w.processes p _ l).node
 
 -- ---- at the first place
 
 module _ (g : Graph) (order : List ℕ) where
+  -- before the first place no frozen time is set
   pub settled_none : AreSettledOf g order (IsEarlier g order 0) (nothing_frozen g)
   settled_none = record {
     count = length-replicate {A = Option ℕ} (item_count g) None;
@@ -50,6 +52,7 @@ module _ (g : Graph) (order : List ℕ) where
   abbrev nothing : ProgressState
   nothing = record { known = no_times g; ready = replicate (length g.nodes) 0; free = replicate (length g.nodes) 0 }
 
+  -- at place 0 no time and no end is known, and all nodes are ready and free from 0 on
   at_first : (s : Scenario) (t : Times) →
       IsAt g order s t 0 (no_times g) (replicate (length g.nodes) 0) (replicate (length g.nodes) 0)
   at_first s t = record {
@@ -70,6 +73,7 @@ module _ (g : Graph) (order : List ℕ) where
     };
   }
 
+  -- the course in which nothing is known is the one before place 0
   course_first : (Done : ℕ → Type 0) (frozen : List (Option ℕ)) (values : List Bool) (n : ℕ) →
       IsCourse g order Done frozen values 0 n nothing
   course_first Done frozen values n = record {
@@ -82,6 +86,7 @@ module _ (g : Graph) (order : List ℕ) where
     at = λ more goes late are. at_first (with_faults values []) (late n);
   }
 
+  -- before the first place each track has a lane in which nothing is known
   pub lanes_first : (Done : ℕ → Type 0) (frozen : List (Option ℕ)) (tracks : List (List Bool))
       (lanes : List (List ProgressState)) (count : ℕ) →
       count ≡ length tracks →
@@ -102,14 +107,14 @@ module _ (g : Graph) (order : List ℕ) where
 abbrev there : List (Option ℕ) → ℕ → ℕ
 there os p = unwrap_or (get_or os p None) 0
 
--- one number more
+-- the greatest over one number more is the greater of the greatest so far and that one
 pub greatest_below : (f : ℕ → ℕ) (n most next : ℕ) → most ≡ greatest (map f (numbers_below n)) → next ≡ max most (f n) →
     next ≡ greatest (map f (numbers_below (n + 1)))
 greatest_below f n most next h is =
     is ∙ ap (λ m. max m (f n)) h ∙ sym (greatest_push (map f (numbers_below n)) (f n))
     ∙ sym (ap (λ xs. greatest (map f xs)) (below_push n) ∙ ap greatest (map-append f (numbers_below n) (n ∷ [])))
 
--- the greatest end by places
+-- the greatest end over all places is the greatest of the list
 finish_by_places : (os : List (Option ℕ)) (n : ℕ) → length os ≡ n →
     greatest (map (there os) (numbers_below n)) ≡ greatest (flat_map option_to_list os)
 finish_by_places os n long =
@@ -125,6 +130,7 @@ finish_by_places os n long =
           omega (arith, r.2, above)
     ])
 
+-- two lists of numbers by places are the same if their numbers are
 same_lists : (lanes : List (List ProgressState)) (count : ℕ) (F : List ProgressState → ℕ) (G : ℕ → ℕ) →
     length lanes ≡ count →
     ((i : ℕ) → i < count → F (get_or lanes i []) ≡ G i) →
@@ -134,6 +140,8 @@ same_lists lanes count F G long same = ext_get_or 0 (map F lanes) (map G (number
     let k : i < count = omega (arith, l, length-map lanes F, long) in
     get_or-map F lanes i [] 0 (omega (arith, k, long)) ∙ same i k ∙ sym (get_or-map-below G count i 0 k))
 
+-- given: lanes of all tracks in which all is known behind the last place
+-- `urgent`, `lawful`, `topological`, `all`: the orders and all tracks; `settled`: frozen times; `known`: the lanes
 module _ (g : Graph) (urgency order : List ℕ) (frozen : List (Option ℕ)) (tracks : List (List Bool))
     (urgent : IsUrgencyOrder g urgency) (lawful : IsTopological g urgency) (topological : IsTopological g order)
     (all : AreTracks g tracks) (lanes : List (List ProgressState))
@@ -155,6 +163,7 @@ module _ (g : Graph) (urgency order : List ℕ) (frozen : List (Option ℕ)) (tr
     others = λ x f. settled.others x (λ h is d. true≢false (sym is ∙ f));
   }
 
+  -- the end of a process in a lane's last course is its latest end with all the faults
   ends_same : (i p : ℕ) → i < length tracks → p < process_count g →
       end_in (last_course g (get_or lanes i [])).known p ≡ end_in (lates i g.faults) p
   ends_same i p l h =
@@ -171,6 +180,7 @@ module _ (g : Graph) (urgency order : List ℕ) (frozen : List (Option ℕ)) (tr
       (excess_of g (lates i g.faults)) (numbers_below (process_count g))
       (λ p c. ap (λ e. e - due g p) (ends_same i p l (numbers-Contains (process_count g) p c))))
 
+  -- the finish of a lane's last course is the latest finish of its track with all the faults
   finish_same : (i : ℕ) → i < length tracks →
       finish_of g (last_course g (get_or lanes i [])) ≡ (lates i g.faults).finish
   finish_same i l =
@@ -182,6 +192,7 @@ module _ (g : Graph) (urgency order : List ℕ) (frozen : List (Option ℕ)) (tr
       ∙ length-map-range_with_len (latest_end_by g (lates i) g.faults) 0 (process_count g))
       ∙ sym ((are.each i l).finish g.faults (omega arith))
 
+  -- the greatest excess and the greatest finish of the last courses are those of the order
   pub figures_found : (excess worst : ℕ) → excess ≡ greatest (map (λ c. excess_of_course g (last_course g c)) lanes) →
       worst ≡ greatest (map (λ c. finish_of g (last_course g c)) lanes) →
       HasFigures g order excess worst

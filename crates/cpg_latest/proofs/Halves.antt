@@ -5,10 +5,12 @@ use Rattle.std.proofs.lemmas.Bool.{cases_eq}
 use Rattle.cpg_latest.specs.Course.{AreHalf}
 
 module _ {X : Type 0} (Old New : ℕ → X → Type 0) (count : ℕ) where
+  -- before the first element all have the old fact
   pub half_first : (xs : List X) → length xs ≡ count → ((j : ℕ) (d : X) → j < count → Old j (get_or xs j d)) →
       AreHalf Old New 0 count xs
   half_first xs is old = record { count_is = is; done = λ j d l k. absurd (omega arith); left = λ j d l k. old j d k }
 
+  -- with the next element set, one element more has the new fact
   pub half_more : (m : ℕ) (xs more : List X) (x : X) → AreHalf Old New m count xs → m < count → New m x →
       more ≡ set xs m x →
       AreHalf Old New (m + 1) count more
@@ -24,6 +26,7 @@ module _ {X : Type 0} (Old New : ℕ → X → Type 0) (count : ℕ) where
         (a.left j d (omega arith) k);
   }
 
+  -- behind the last element all have the new fact
   pub half_all : (m : ℕ) (xs : List X) → AreHalf Old New m count xs → m ≡ count → (j : ℕ) (d : X) → j < count →
       New j (get_or xs j d)
   half_all m xs a e j d l = a.done j d (omega arith) l

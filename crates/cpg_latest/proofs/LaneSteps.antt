@@ -18,6 +18,7 @@ use Rattle.cpg_latest.proofs.Settling.{send_one}
 use Rattle.cpg_latest.proofs.Halves.{half_first, half_all}
 use Rattle.cpg_latest.proofs.Settling.{for_more}
 
+-- what follows from a fact of each course holds of the whole lane
 pub lane_map : (g : Graph) (P Q : ℕ → ProgressState → Type 0) (courses : List ProgressState) →
     ((n : ℕ) (c : ProgressState) → n < g.faults + 1 → P n c → Q n c) →
     IsLane g P courses →
@@ -25,6 +26,7 @@ pub lane_map : (g : Graph) (P Q : ℕ → ProgressState → Type 0) (courses : L
 lane_map g P Q courses f lane =
     record { count = lane.count; each = λ n d l. f n (get_or courses n d) l (lane.each n d l) }
 
+-- what follows from a fact of each course holds of the lanes of all tracks
 pub lanes_map : (g : Graph) (P Q : List Bool → ℕ → ProgressState → Type 0) (tracks : List (List Bool))
     (lanes : List (List ProgressState))
     → ((values : List Bool) (n : ℕ) (c : ProgressState) → n < g.faults + 1 → P values n c → Q values n c) →
@@ -39,11 +41,13 @@ lanes_map g P Q tracks lanes f are = record {
 module _ (g : Graph) (order : List ℕ) (Done More : ℕ → Type 0) (frozen new : List (Option ℕ))
     (grows : (y : ℕ) → y < item_count g → Done y → More y)
     (same : (y : ℕ) → y < item_count g → Done y → get_or new y None ≡ get_or frozen y None) where
+  -- a course and a sending process stay what they are if more items are done under the same frozen times
   pub course_more : (values : List Bool) (i n : ℕ) (c : ProgressState) → IsCourse g order Done frozen values i n c →
       IsCourse g order More new values i n c
   course_more values i n c course =
       record { places = course.places; at = for_more g order Done More frozen new values _ grows same course.at }
 
+  -- what a process has sent in a course stays so once more frozen times are set
   pub sending_more : (values : List Bool) (p k n : ℕ) (c : ProgressState) →
       IsSending g order Done frozen values p k n c →
       IsSending g order More new values p k n c
@@ -53,19 +57,20 @@ module _ (g : Graph) (order : List ℕ) (Done More : ℕ → Type 0) (frozen new
     idle = λ off. for_more g order Done More frozen new values _ grows same (s.idle off);
   }
 
--- the lane of a track is so
+-- the lane of a track has a fact in each course
 abbrev pub LaneHas : Graph → (List Bool → ℕ → ProgressState → Type 0) → List (List Bool) → ℕ → List ProgressState →
     Type 0
 LaneHas g P tracks i lane = IsLane g (P (track_at tracks i)) lane
 
 module _ (g : Graph) (P Q : List Bool → ℕ → ProgressState → Type 0) (tracks : List (List Bool)) (count : ℕ)
     (long : length tracks ≡ count) where
-  -- of all tracks, one after another
+  -- before the first track all lanes have the old fact
   pub lanes_start : (lanes : List (List ProgressState)) → AreLanes g P tracks lanes →
       AreHalf (LaneHas g P tracks) (LaneHas g Q tracks) 0 count lanes
   lanes_start lanes are = half_first (LaneHas g P tracks) (LaneHas g Q tracks) count lanes (are.count ∙ long)
       (λ j d l. are.each j d (omega (arith, l, long)))
 
+  -- once all lanes are gone over, each has the new fact
   pub lanes_end : (m : ℕ) (lanes : List (List ProgressState)) →
       AreHalf (LaneHas g P tracks) (LaneHas g Q tracks) m count lanes → m ≡ count →
       AreLanes g Q tracks lanes
@@ -75,19 +80,21 @@ module _ (g : Graph) (P Q : List Bool → ℕ → ProgressState → Type 0) (tra
         λ i d l. half_all (LaneHas g P tracks) (LaneHas g Q tracks) count m lanes half e i d (omega (arith, l, long));
   }
 
--- an active item is sent in a course
+-- given: an active item that is the next to be sent in a course
 module _ (g : Graph) (order : List ℕ) (topological : IsTopological g order) (frozen : List (Option ℕ))
     (values : List Bool) (p : ℕ) (l : p < process_count g) (on : node_of g p < length g.nodes)
     (at : ℕ) (inside : at < length (queue_of g p))
     (n : ℕ) (few : n < g.faults + 1) (c : ProgressState)
     (s : IsSending g order (IsDone g order p (at + 1)) frozen values p at n c) (acts : active g values p ≡ true)
     (sent : item_active g values (item_at g (queued g p at)) ≡ true) where
+  -- under early frozen times the end and the time of the send are small
   pub item_small : IsWithinLimits g → length values ≡ condition_count g → AreEarly frozen →
       (end_in c.known p < 2 ^ 59) × (send_at g frozen p (queued g p at) c < 2 ^ 59)
   item_small limits long early = sends_small g order topological (IsDone g order p (at + 1)) frozen values p l on n few
       at inside c s (send_one g order topological p l at inside) acts sent
       (send_at g frozen p (queued g p at) c) refl limits long early
 
+  -- a course in which the item is sent has one item more sent
   pub item_sent : IsSending g order (IsDone g order p (at + 1)) frozen values p (at + 1) n
       (course_sent g frozen p (queued g p at) c)
   item_sent = sends g order topological (IsDone g order p (at + 1)) frozen values p l on n few at inside c s

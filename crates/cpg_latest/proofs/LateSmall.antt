@@ -13,6 +13,7 @@ use Rattle.cpg_latest.specs.Latest.{AreLatest, with_faults, latest_end_by}
 use Rattle.cpg_latest.specs.Laws.{AreReached}
 use Rattle.cpg_latest.proofs.Reached.{are_reached}
 
+-- given: the latest times of an outcome under early frozen times
 module _ (g : Graph) (order : List ℕ) (frozen : List (Option ℕ)) (values : List Bool) (late : ℕ → Times)
     (within : IsWithinLimits g) (topological : IsTopological g order)
     (long : length values ≡ condition_count g) (early : AreEarly frozen) (are : AreLatest g order frozen values late)
@@ -20,6 +21,7 @@ module _ (g : Graph) (order : List ℕ) (frozen : List (Option ℕ)) (values : L
   reached : AreReached g order frozen values late n
   reached = are_reached g order frozen values late topological long are n few
 
+  -- the latest times are small, as each of them is one of a run
   pub late_small : AreSmall (late n)
   late_small = record {
     times = λ x. elim (cases_lt x (item_count g)) [

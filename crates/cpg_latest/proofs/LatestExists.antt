@@ -12,6 +12,7 @@ use Rattle.cpg_run.proofs.RunUnique.{AgreeBefore, agree_sooner, time_by_same}
 use Rattle.cpg_latest.specs.Latest.{AreLatest, with_faults, end_with, latest_end_by}
 
 module _ (g : Graph) (order : List ℕ) (topological : IsTopological g order) (late other : ℕ → Times) where
+  -- the latest end of a process rests only on what lies before it, with as many faults or fewer
   pub latest_end_same : (p n : ℕ) → p < process_count g →
       ((i : ℕ) → i ≤ n → AgreeBefore g order (late i) (other i) (moment_of_end g order p)) →
       latest_end_by g late n p ≡ latest_end_by g other n p
@@ -31,13 +32,13 @@ module _ (g : Graph) (order : List ℕ) (frozen : List (Option ℕ)) (values : L
     finish = greatest (flat_map option_to_list (map (latest_end_by g late n) (numbers_below (process_count g))));
   }
 
-  -- and so on, from no times at all
+  -- the times that the rules make in so many rounds, from no times at all
   abbrev again_and_again : ℕ → ℕ → Times
   again_and_again zero n = record { times = []; ends = []; finish = 0 }
   again_and_again (suc m) n = again (again_and_again m) n
 
   module _ (topological : IsTopological g order) where
-    -- after m rounds what lies before the moment m stays
+    -- after m rounds the times before the moment m no longer change
     settled : (m n : ℕ) → AgreeBefore g order (again_and_again m n) (again_and_again (suc m) n) m
     settled zero n = record { items = λ x h k. absurd (omega arith); ends = λ p h k. absurd (omega arith) }
     settled (suc m) n = record {
@@ -56,9 +57,11 @@ module _ (g : Graph) (order : List ℕ) (frozen : List (Option ℕ)) (values : L
           ∙ sym (get_or-map-below (latest_end_by g (again_and_again (suc m)) n) (process_count g) p None h);
     }
 
+    -- the latest times of an outcome, for each number of faults
     pub the_latest : ℕ → Times
     the_latest = again_and_again (suc (last g))
 
+    -- they are the latest times of the outcome
     pub latest_exist : AreLatest g order frozen values the_latest
     unfolding the_latest
     latest_exist = record {

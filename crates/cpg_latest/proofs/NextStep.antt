@@ -17,7 +17,7 @@ use Rattle.cpg_latest.proofs.Settling.{start_grows}
 
 module _ (setting : Setting) (topological : IsTopological setting.problem.now setting.order.now) (p : ℕ)
     (l : p < process_count setting.problem.now) (tracks : List (List Bool)) where
-  -- the frozen time of the process is set
+  -- once the frozen time of a process is settled, the process can begin in each track
   pub can_begin : (old new : List (Option ℕ)) (lanes : List (List ProgressState)) → IsSettledBy p old new →
       AreLanes setting.problem.now (IsBefore setting old (place setting.order.now p)) tracks lanes
       → AreLanes setting.problem.now (CanBegin setting new p) tracks lanes
@@ -32,7 +32,7 @@ module _ (setting : Setting) (topological : IsTopological setting.problem.now se
       values (place setting.order.now p) n c course)
       known
 
-  -- that of one more item is set
+  -- once the frozen time of the next item is settled, it can be sent in each track
   pub can_send : (at : ℕ) → at < length (queue_of setting.problem.now p) →
       (old new : List (Option ℕ)) (lanes : List (List ProgressState)) →
       IsSettledBy (queued setting.problem.now p at) old new
@@ -51,7 +51,7 @@ module _ (setting : Setting) (topological : IsTopological setting.problem.now se
       values p at n c s)
       known
 
-  -- all is sent
+  -- once all items are sent, all is known before the next place
   pub next_known : (on : node_of setting.problem.now p < length setting.problem.now.nodes) →
       IsWithinLimits setting.problem.now →
       (frozen : List (Option ℕ)) (lanes : List (List ProgressState))

@@ -40,11 +40,12 @@ some_same : (a b : ℕ) → Some a ≡ Some b → a ≡ b
 some_same a b e = ap (λ o. unwrap_or o 0) e
 
 module _ (Acts : ℕ → Type 0) (Is : ℕ → ℕ → Type 0) where
+  -- over no tracks there is no latest time
   pub over_none : IsLatestOver 0 Acts Is None
   over_none = record { reached = λ time e. absurd (none-some time e); above = λ i l acts. absurd (omega arith) }
 
   module _ (m : ℕ) where
-    -- one that doesn't act
+    -- a track in which the item does not act leaves the latest time as it is
     pub over_idle : (latest : Option ℕ) → IsLatestOver m Acts Is latest → (Acts m → ⊥) →
         IsLatestOver (m + 1) Acts Is (later latest None)
     over_idle None o off = record {
@@ -62,7 +63,7 @@ module _ (Acts : ℕ → Type 0) (Is : ℕ → ℕ → Type 0) where
       ];
     }
 
-    -- one that does
+    -- a track in which the item acts raises the latest time to its own, if that is later
     pub over_acting : (latest : Option ℕ) (time : ℕ) → IsLatestOver m Acts Is latest → Acts m → Is m time →
         IsLatestOver (m + 1) Acts Is (later latest (Some time))
     over_acting None time o acts is = record {
@@ -86,7 +87,7 @@ module _ (Acts : ℕ → Type 0) (Is : ℕ → ℕ → Type 0) where
       ];
     }
 
--- one more, as the code says it
+-- one more track gives the later of the latest time and its own, as the code finds it
 pub over_more : (Acts : ℕ → Type 0) (Is : ℕ → ℕ → Type 0) (m : ℕ) (latest time next : Option ℕ) →
     IsLatestOver m Acts Is latest →
     next ≡ later latest time
@@ -98,6 +99,7 @@ over_more Acts Is m latest time next o is (inr r) =
 
 -- ---- the latest of all is the frozen time
 
+-- given: the tracks of a graph, an order and frozen times
 module _ (g : Graph) (urgency order : List ℕ) (frozen : List (Option ℕ)) (tracks : List (List Bool))
     (urgent : IsUrgencyOrder g urgency) (lawful : IsTopological g urgency) (topological : IsTopological g order)
     (all : AreTracks g tracks) where
@@ -107,15 +109,20 @@ module _ (g : Graph) (urgency order : List ℕ) (frozen : List (Option ℕ)) (tr
   are : AreLatestOf g order frozen tracks lates
   are = record { all = all; each = λ i l. latest_exist g order frozen (track_at tracks i) topological }
 
+  -- each track has a value for each condition
   pub long_track : (i : ℕ) → i < length tracks → length (track_at tracks i) ≡ condition_count g
   long_track i l = track_long g urgency order frozen tracks lates urgent lawful topological are i l
 
+  -- given: the latest of what an item has in the tracks in which it is active
+  -- `over`: `latest` is the latest over the tracks; `on`, `off`: `Acts` holds in the tracks in which x is active;
+  -- `right`: what `Is` says of a track is the unfrozen time there
   module _ (x : ℕ) (within : x < item_count g) (Acts : ℕ → Type 0) (Is : ℕ → ℕ → Type 0) (latest : Option ℕ)
       (over : IsLatestOver (length tracks) Acts Is latest)
       (on : (i : ℕ) → i < length tracks → acts_in g tracks x i ≡ true → Acts i)
       (off : (i : ℕ) → i < length tracks → Acts i → acts_in g tracks x i ≡ true)
       (right : (i time : ℕ) → i < length tracks → Acts i → Is i time →
       time ≡ unfrozen_in g order tracks lates x i) where
+    -- `latest` is a time of the item in some track, no track has a later one, and it is none only if all lack it
     latest_frozen : IsLatestFrozen g order tracks lates x latest
     latest_frozen = record {
       reached = λ time e. let r = over.reached time e in (r.0, r.1, off r.0 r.1 r.2, sym (right r.0 time r.1 r.2 r.3));
@@ -130,13 +137,15 @@ module _ (g : Graph) (urgency order : List ℕ) (frozen : List (Option ℕ)) (tr
       ];
     }
 
+    -- the latest of the unfrozen times of all tracks is the unfrozen time of the item
     pub unfrozen_over : IsUnfrozenTime g order frozen x latest
     unfrozen_over =
         unfrozen_is g urgency order frozen tracks lates urgent lawful topological are x latest within latest_frozen
 
-  -- a time that isn't frozen is that without its frozen time
+  -- given: an item that is active in a track and has no frozen time
   module _ (i : ℕ) (x : ℕ) (within : x < item_count g) (acts : acts_in g tracks x i ≡ true)
       (unset : get_or frozen x None ≡ None) where
+    -- in the latest times of the track, an active item without a frozen time has its unfrozen time
     pub unfrozen_is_time : time_in (lates i g.faults) x ≡ unfrozen_in g order tracks lates x i
     unfrozen_is_time =
         let is = late_active g order frozen (with_faults (track_at tracks i) []) (lates i)
@@ -147,17 +156,21 @@ module _ (g : Graph) (urgency order : List ℕ) (frozen : List (Option ℕ)) (tr
         alone : (u : ℕ) → greatest (u ∷ []) ≡ u
         alone u = let c = greatest-cons u [] in omega (arith, c)
 
+    -- it has no frozen time to wait for
     pub no_frozen : frozen_in frozen x ≡ 0
     no_frozen = ap (λ o. unwrap_or o 0) unset
 
   -- ---- a start
 
+  -- given: a process without a frozen time, and lanes in which all is known before its place
+  -- `limits`, `early`: no number overflows; `unset`: the start has no frozen time yet; `before`: what the lanes know
   module _ (p : ℕ) (l : p < process_count g) (on : node_of g p < length g.nodes) (limits : IsWithinLimits g)
       (early : AreEarly frozen) (unset : get_or frozen p None ≡ None)
       (lanes : List (List ProgressState))
       (before : AreLanes g
       (λ values n c. IsCourse g order (IsEarlier g order (place order p)) frozen values (place order p) n c)
       tracks lanes) where
+    -- each lane's last course says what a start needs
     pub tell_starts : TellStarts g tracks lanes
     tell_starts = record {
       count = before.count;
@@ -174,6 +187,7 @@ module _ (g : Graph) (urgency order : List ℕ) (frozen : List (Option ℕ)) (tr
           };
     }
 
+    -- the latest start over all tracks is the unfrozen time of the process
     pub start_over : (latest : Option ℕ) → IsLatestStart g tracks p lanes (length lanes) latest →
         IsUnfrozenTime g order frozen p latest
     start_over latest over = unfrozen_over p (omega arith) (λ i. active g (track_at tracks i) p ≡ true)
@@ -183,6 +197,7 @@ module _ (g : Graph) (urgency order : List ℕ) (frozen : List (Option ℕ)) (tr
         (λ i h acts. ap (item_active g (track_at tracks i)) (item_at-start g p l) ∙ acts)
         right
       where
+        -- the unfrozen start by a lane's last course is the latest unfrozen time of p in that track
         right : (i time : ℕ) → i < length tracks → active g (track_at tracks i) p ≡ true →
             IsUnfrozenStart g (track_at tracks i) p (last_course g (lane_at lanes i)) time →
             time ≡ unfrozen_in g order tracks lates p i
@@ -207,6 +222,8 @@ module _ (g : Graph) (urgency order : List ℕ) (frozen : List (Option ℕ)) (tr
 
   -- ---- an item that is sent
 
+  -- given: an item without a frozen time, and lanes in which its process has sent all items before it
+  -- `inside`: the item is the k-th that p sends; `limits`, `early`: no overflow; `unset`: it has no frozen time yet
   module _ (p : ℕ) (l : p < process_count g) (on : node_of g p < length g.nodes) (k : ℕ)
       (inside : k < length (queue_of g p)) (limits : IsWithinLimits g) (early : AreEarly frozen)
       (unset : get_or frozen (get_or (queue_of g p) k 0) None ≡ None) (lanes : List (List ProgressState))
@@ -215,6 +232,7 @@ module _ (g : Graph) (urgency order : List ℕ) (frozen : List (Option ℕ)) (tr
     abbrev x : ℕ
     x = get_or (queue_of g p) k 0
 
+    -- in each track in which the process is active, the end that the last course knows is the latest one
     pub end_known : (i : ℕ) (d : List ProgressState) → i < length tracks → active g (track_at tracks i) p ≡ true →
         end_in (last_course g (get_or lanes i d)).known p ≡ end_in (lates i g.faults) p
     end_known i d h acts =
@@ -224,6 +242,7 @@ module _ (g : Graph) (urgency order : List ℕ) (frozen : List (Option ℕ)) (tr
         (latest_exist g order frozen (track_at tracks i) topological) in
         ap (λ es. unwrap_or (get_or es p None) 0) gone.keeps.ends ∙ gone.ended
 
+    -- each lane's last course says what a send needs
     pub tell_sends : TellSends g tracks p lanes
     tell_sends = record {
       count = before.count;
@@ -244,6 +263,7 @@ module _ (g : Graph) (urgency order : List ℕ) (frozen : List (Option ℕ)) (tr
     sent_there : Contains (queue_of g p) x
     sent_there = here_sent g order topological (with_faults [] []) p l k inside
 
+    -- the latest send over all tracks is the unfrozen time of the item
     pub send_over : (latest : Option ℕ) → IsLatestSend g tracks p x lanes (length lanes) latest →
         IsUnfrozenTime g order frozen x latest
     send_over latest over = unfrozen_over x (in_queue g p x sent_there).within (λ i. AreSent g (track_at tracks i) p x)
@@ -257,6 +277,7 @@ module _ (g : Graph) (urgency order : List ℕ) (frozen : List (Option ℕ)) (tr
         (λ i h are. are.sent)
         right
       where
+        -- the unfrozen time by a lane's last course is the latest unfrozen time of x in that track
         right : (i time : ℕ) → i < length tracks → AreSent g (track_at tracks i) p x →
             time ≡ unfrozen_send g p (last_course g (lane_at lanes i)) →
             time ≡ unfrozen_in g order tracks lates x i

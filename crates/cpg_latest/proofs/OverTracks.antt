@@ -28,10 +28,12 @@ use Rattle.cpg_latest.proofs.Above.{no_later}
 use Rattle.cpg_latest.proofs.Reached.{are_reached}
 use Rattle.cpg_latest.proofs.TrackOf.{HasTrack, has_track}
 
+-- given: the latest times of all tracks
 module _ (g : Graph) (urgency order : List ℕ) (frozen : List (Option ℕ)) (tracks : List (List Bool))
     (lates : ℕ → ℕ → Times)
     (urgent : IsUrgencyOrder g urgency) (lawful : IsTopological g urgency) (topological : IsTopological g order)
     (are : AreLatestOf g order frozen tracks lates) where
+  -- each track has a value for each condition
   pub track_long : (i : ℕ) → i < length tracks → length (track_at tracks i) ≡ condition_count g
   track_long i l =
       let c = Contains-permutation tracks (filter (is_track g) (outcomes (condition_count g))) (track_at tracks i)
@@ -49,6 +51,7 @@ module _ (g : Graph) (urgency order : List ℕ) (frozen : List (Option ℕ)) (tr
     track : HasTrack g urgency urgent lawful s tracks
     no_later : IsNoLater g order (with_faults (track_at tracks track.place) s.faults) t (lates track.place g.faults)
 
+  -- each run is below the latest times, with all the faults, of the track of its scenario
   is_below : (s : Scenario) (t : Times) → IsScenario g s → IsRun g order frozen s t → IsBelow s t
   is_below s t law run =
       let h = has_track g urgency urgent lawful s tracks are.all in
@@ -61,6 +64,7 @@ module _ (g : Graph) (urgency order : List ℕ) (frozen : List (Option ℕ)) (tr
 
   -- ---- frozen times
 
+  -- what an item would have in some run it has in some track, or later
   would_below : (x time : ℕ) → x < item_count g → WouldHave g order frozen x time →
       (i : ℕ) × (i < length tracks) × (acts_in g tracks x i ≡ true) × (time ≤ unfrozen_in g order tracks lates x i)
   would_below x time l w =
@@ -71,6 +75,7 @@ module _ (g : Graph) (urgency order : List ℕ) (frozen : List (Option ℕ)) (tr
         omega (arith, w.has, b.track.unfrozen order w.times x topological l, b.no_later.unfrozen x l),
       )
 
+  -- the unfrozen time of an item in a track is one that the item would have in some run
   would_have : (x i : ℕ) → x < item_count g → i < length tracks → acts_in g tracks x i ≡ true →
       WouldHave g order frozen x (unfrozen_in g order tracks lates x i)
   would_have x i l k acts =
@@ -86,6 +91,7 @@ module _ (g : Graph) (urgency order : List ℕ) (frozen : List (Option ℕ)) (tr
         has = omega (arith, r.is, n.unfrozen x l);
       }
 
+  -- the latest of an item's unfrozen times in the tracks is its unfrozen time
   pub unfrozen_is : (x : ℕ) (latest : Option ℕ) → x < item_count g → IsLatestFrozen g order tracks lates x latest →
       IsUnfrozenTime g order frozen x latest
   unfrozen_is x latest l is = record {
@@ -100,6 +106,7 @@ module _ (g : Graph) (urgency order : List ℕ) (frozen : List (Option ℕ)) (tr
   frozen_time x l is = let u = unfrozen_is x (get_or frozen x None) l is in
       record { reached = u.reached; greatest = u.greatest; none = u.none }
 
+  -- the frozen times that the tracks give are those of the order
   pub frozen_times : AreLatestFrozen g order tracks lates frozen → AreFrozenTimes g order frozen
   frozen_times is = record {
     count = is.count;
@@ -109,6 +116,8 @@ module _ (g : Graph) (urgency order : List ℕ) (frozen : List (Option ℕ)) (tr
 
   -- ---- the greatest of all tracks
 
+  -- given: a number that is made of times; it grows with them, and in each track it is 0 or reached in a run
+  -- `grows`: no run has a greater number than its track; `reached`: the number of a track is 0 or that of a run
   module _ (of : Times → ℕ)
       (grows : (s : Scenario) (t : Times) (i : ℕ) → i < length tracks → IsRun g order frozen s t →
       IsNoLater g order s t (lates i g.faults) → s.values ≡ track_at tracks i →
@@ -125,6 +134,7 @@ module _ (g : Graph) (urgency order : List ℕ) (frozen : List (Option ℕ)) (tr
         (Contains-map (λ i. of (lates i g.faults)) (numbers_below (length tracks)) i
         (Contains-numbers (length tracks) i l))
 
+    -- no run has a number above the greatest of the tracks, as it is no later than the latest times of its track
     above : (s : Scenario) (t : Times) → IsScenario g s → IsRun g order frozen s t → of t ≤ most
     above s t law run =
         let b = is_below s t law run in
@@ -138,6 +148,7 @@ module _ (g : Graph) (urgency order : List ℕ) (frozen : List (Option ℕ)) (tr
     HasSome : ℕ → Type 0
     HasSome v = (s : Scenario) × (t : Times) × IsScenario g s × IsRun g order frozen s t × (of t ≡ v)
 
+    -- if the greatest number is 0, the run of the scenario of zeros has it
     nothing : most ≡ 0 → HasSome most
     unfolding HasSome
     nothing e =
@@ -150,6 +161,7 @@ module _ (g : Graph) (urgency order : List ℕ) (frozen : List (Option ℕ)) (tr
           omega (arith, e, above s (the_run g order frozen s topological) (zero_lawful g) run),
         )
 
+    -- the greatest number is that of some run
     found : (i : ℕ) → i < length tracks → of (lates i g.faults) ≡ most →
         IsReached g order frozen (track_at tracks i) g.faults of (of (lates i g.faults)) → HasSome most
     unfolding HasSome
@@ -161,6 +173,7 @@ module _ (g : Graph) (urgency order : List ℕ) (frozen : List (Option ℕ)) (tr
       omega (arith, e, r.is, above (with_faults (track_at tracks i) r.faults) r.times r.lawful r.run),
     )
 
+    -- some run has the greatest number: by whether it is 0 or the number of a track
     at_most : HasSome most
     unfolding most
     at_most = elim (greatest_cases (map (λ i. of (lates i g.faults)) (numbers_below (length tracks)))) [
@@ -180,6 +193,7 @@ module _ (g : Graph) (urgency order : List ℕ) (frozen : List (Option ℕ)) (tr
 
   -- ---- the excess
 
+  -- a run with ends no earlier has no less excess: how far an end is past its due at most
   excess_grows : (s : Scenario) (t u : Times) → IsNoLater g order s t u → excess_in_run g t ≤ excess_in_run g u
   excess_grows s t u h = greatest-le (map (excess_of g t) (numbers_below (process_count g))) (excess_in_run g u)
       (λ v c.
@@ -196,6 +210,7 @@ module _ (g : Graph) (urgency order : List ℕ) (frozen : List (Option ℕ)) (tr
   excess_above t p l = greatest_above (map (excess_of g t) (numbers_below (process_count g))) (excess_of g t p)
       (Contains-map (excess_of g t) (numbers_below (process_count g)) p (Contains-numbers (process_count g) p l))
 
+  -- the excess of each track is 0 or reached in a run
   excess_reached : (i : ℕ) → i < length tracks →
       (excess_in_run g (lates i g.faults) ≡ 0) ⊎
       IsReached g order frozen (track_at tracks i) g.faults (excess_in_run g) (excess_in_run g (lates i g.faults))
@@ -216,6 +231,7 @@ module _ (g : Graph) (urgency order : List ℕ) (frozen : List (Option ℕ)) (tr
         })
   ]
 
+  -- the greatest excess of all scenarios is that of the tracks
   pub excess_is : IsGreatest g order frozen (excess_in_run g) (latest_excess g tracks lates)
   unfolding most
   excess_is = is_greatest (excess_in_run g) (λ s t i l run h e. excess_grows s t (lates i g.faults) h) excess_reached
@@ -229,6 +245,7 @@ module _ (g : Graph) (urgency order : List ℕ) (frozen : List (Option ℕ)) (tr
   latest_long i l = ap length ((are.each i l).ends g.faults (omega arith))
       ∙ length-map-range_with_len (latest_end_by g (lates i) g.faults) 0 (process_count g)
 
+  -- the finish of a run is no later than that of the latest times of its track
   finish_grows : (s : Scenario) (t : Times) (i : ℕ) → i < length tracks → IsRun g order frozen s t →
       IsNoLater g order s t (lates i g.faults) →
       t.finish ≤ (lates i g.faults).finish
@@ -244,6 +261,7 @@ module _ (g : Graph) (urgency order : List ℕ) (frozen : List (Option ℕ)) (tr
     )
   ]
 
+  -- the finish of each track is 0 or reached in a run
   finish_reached : (i : ℕ) → i < length tracks →
       ((lates i g.faults).finish ≡ 0) ⊎
       IsReached g order frozen (track_at tracks i) g.faults (λ t. t.finish) (lates i g.faults).finish
@@ -263,9 +281,11 @@ module _ (g : Graph) (urgency order : List ℕ) (frozen : List (Option ℕ)) (tr
             })
       ]
 
+  -- the greatest finish of all scenarios is that of the tracks
   pub finish_is : IsGreatest g order frozen (λ t. t.finish) (latest_finish g tracks lates)
   unfolding most
   finish_is = is_greatest (λ t. t.finish) (λ s t i l run h e. finish_grows s t i l run h) finish_reached
 
+  -- the greatest finish and the greatest excess of the tracks are those of all scenarios
   pub greatest_are : HasGreatest g order frozen (latest_excess g tracks lates) (latest_finish g tracks lates)
   greatest_are = record { is_excess = excess_is; is_worst = finish_is }

@@ -20,10 +20,11 @@ use Rattle.cpg_latest.proofs.LateTimes.{late_active, late_inactive, late_end_act
 use Rattle.cpg_latest.proofs.RunsGrow.{times_grow, duration_grows}
 use Rattle.cpg_latest.proofs.Rests.{Cause, Cause.fixed, Cause.item, Cause.ended, IsBefore, value_in, rests}
 
+-- given: the latest times of an outcome
 module _ (g : Graph) (order : List ℕ) (frozen : List (Option ℕ)) (values : List Bool) (late : ℕ → Times)
     (topological : IsTopological g order)
     (long : length values ≡ condition_count g) (are : AreLatest g order frozen values late) where
-  -- what holds in the run without faults
+  -- a number that is 0 is reached in the run without faults
   without : (n : ℕ) (of : Times → ℕ) (v : ℕ) → v ≡ 0 → IsReached g order frozen values n of v
   without n of v e = record {
     faults = replicate (process_count g) 0;
@@ -44,6 +45,7 @@ module _ (g : Graph) (order : List ℕ) (frozen : List (Option ℕ)) (values : L
     ends : (n p : ℕ) → n ≤ g.faults → p < process_count g → moment_of_end g order p < m →
         IsReached g order frozen values n (λ t. end_in t p) (end_in (late n) p)
 
+  -- what a bound rests on is reached in a run, as late as in the latest times
   cause_reached : (m x n : ℕ) → ReachedBefore m → moment g order x ≤ m → n ≤ g.faults
       → (c : Cause) → IsBefore g order (moment g order x) c →
       IsReached g order frozen values n (λ t. value_in t c) (value_in (late n) c)
@@ -51,6 +53,7 @@ module _ (g : Graph) (order : List ℕ) (frozen : List (Option ℕ)) (values : L
   cause_reached m x n a k few (item y) h = a.items n y few h.0 (omega (arith, h.1, k))
   cause_reached m x n a k few (ended p) h = a.ends n p few h.0 (omega (arith, h.1, k))
 
+  -- an item's unfrozen time is reached in a run, as late as in the latest times
   unfrozen_reached : (m x n : ℕ) → ReachedBefore m → moment g order x ≤ m → x < item_count g → n ≤ g.faults
       → IsReached g order frozen values n (λ t. unfrozen_time g order (with_faults values []) t x)
       (unfrozen_time g order (with_faults values []) (late n) x)
@@ -78,6 +81,7 @@ module _ (g : Graph) (order : List ℕ) (frozen : List (Option ℕ)) (values : L
             }
       ]
 
+  -- if an item's unfrozen time is reached, so is its time
   time_reached : (x n : ℕ) → x < item_count g → n ≤ g.faults
       → IsReached g order frozen values n (λ t. unfrozen_time g order (with_faults values []) t x)
       (unfrozen_time g order (with_faults values []) (late n) x)
@@ -133,6 +137,7 @@ module _ (g : Graph) (order : List ℕ) (frozen : List (Option ℕ)) (values : L
         );
       }
 
+  -- if the starts of a process are reached with each number of faults, so is its end
   end_reached : (p n : ℕ) → p < process_count g → n ≤ g.faults
       → ((i : ℕ) → i ≤ g.faults → IsReached g order frozen values i (λ t. time_in t p) (time_in (late i) p))
       → IsReached g order frozen values n (λ t. end_in t p) (end_in (late n) p)
@@ -151,6 +156,7 @@ module _ (g : Graph) (order : List ℕ) (frozen : List (Option ℕ)) (values : L
         (late_end_inactive g order frozen (with_faults values []) late are n few p l is)
   ]
 
+  -- by induction on moments: each latest time and each latest end before the moment m is reached in a run
   reached_before : (m : ℕ) → ReachedBefore m
   reached_before zero =
       record { items = λ n x few l h. absurd (omega arith); ends = λ n p few l h. absurd (omega arith) }
@@ -162,6 +168,7 @@ module _ (g : Graph) (order : List ℕ) (frozen : List (Option ℕ)) (values : L
             (λ i less. a.items i p less (omega arith) (omega (arith, h, moment_of_start g order topological p l)));
       }
 
+  -- each latest time with n faults is reached in some run with no more
   pub are_reached : (n : ℕ) → n ≤ g.faults → AreReached g order frozen values late n
   are_reached n few =
       let a = reached_before (last g) in

@@ -40,6 +40,7 @@ no_turn j k turn off e = subst (λ n. j * n + off ≤ k * n + off) (sym e) (omeg
 more_turns : (j k turn off : ℕ) → j ≤ k → j * turn + off ≤ k * turn + off
 more_turns j k turn off l = omega (arith, mul-le-mul_right turn l)
 
+-- a later time has no earlier slot after it
 pub next_slot_later : (g : Graph) (node first second : ℕ) → first ≤ second →
     next_slot g node first ≤ next_slot g node second
 next_slot_later g node first second l = elim (cases_lt 0 (round g)) [
@@ -51,7 +52,7 @@ next_slot_later g node first second l = elim (cases_lt 0 (round g)) [
 
 -- ---- what a bound rests on
 
--- nothing, the time of an item, or the end of a process
+-- what a bound rests on: nothing, the time of an item, or the end of a process
 pub data Cause : Type 0 where
   fixed : Cause
   item : ℕ → Cause
@@ -62,13 +63,13 @@ value_in t fixed = 0
 value_in t (item y) = time_in t y
 value_in t (ended p) = end_in t p
 
--- it is settled before a moment
+-- the cause of a bound is settled before a moment
 abbrev pub IsBefore : Graph → List ℕ → ℕ → Cause → Type 0
 IsBefore g order m fixed = ⊤
 IsBefore g order m (item y) = (y < item_count g) × (moment g order y < m)
 IsBefore g order m (ended p) = (p < process_count g) × (moment_of_end g order p < m)
 
--- a bound, in all times
+-- a bound of an item, as it is in any times: it grows with the one thing that it rests on
 pub record Rests (g : Graph) (order : List ℕ) (s : Scenario) (t : Times) (x v : ℕ) : Type 0 where
   pub cause : Cause
   pub early : IsBefore g order (moment g order x) cause
@@ -77,17 +78,19 @@ pub record Rests (g : Graph) (order : List ℕ) (s : Scenario) (t : Times) (x v 
   pub among : (u : Times) → Contains (bounds_of_item g order s u x (item_at g x)) (bound u)
   pub grows : (u w : Times) → value_in u cause ≤ value_in w cause → bound u ≤ bound w
 
--- of a list of bounds
+-- the same for a number of a list of bounds
 record RestsIn (g : Graph) (order : List ℕ) (m : ℕ) (t : Times) (bounds : Times → List ℕ) (v : ℕ) : Type 0 where
   cause : Cause
   early : IsBefore g order m cause
   bound : Times → ℕ
   is : bound t ≡ v
+  -- in other times too it is one of the bounds, and it grows with its cause
   among : (u : Times) → Contains (bounds u) (bound u)
   grows : (u w : Times) → value_in u cause ≤ value_in w cause → bound u ≤ bound w
 
 module _ (g : Graph) (order : List ℕ) (topological : IsTopological g order) (s : Scenario) (t : Times) where
   module _ (p m : ℕ) (at : place order p * phases g ≤ m) where
+    -- when an input is there rests on one thing alone
     input_rests : (e : ℕ) → Contains (inputs g p) e → (bounds : Times → List ℕ) →
         ((u : Times) → Contains (bounds u) (input_there g u e)) →
         RestsIn g order m t bounds (input_there g t e)
@@ -126,6 +129,7 @@ module _ (g : Graph) (order : List ℕ) (topological : IsTopological g order) (s
           }
         ]
 
+    -- the end of a process before this one on its node rests on that process alone
     ended_rests : (q : ℕ) → Contains (before_on_node g order p) q → (bounds : Times → List ℕ) →
         ((u : Times) → Contains (bounds u) (end_in u q)) →
         RestsIn g order m t bounds (end_in t q)
@@ -143,6 +147,7 @@ module _ (g : Graph) (order : List ℕ) (topological : IsTopological g order) (s
           grows = λ u w l. l;
         }
 
+    -- when a node hears a condition rests on one thing alone
     heard_rests : (c : ℕ) → Contains (flat_map (deciding g s.values) (before_on_node g order p ++ p ∷ [])) c →
         (bounds : Times → List ℕ)
         → ((u : Times) → Contains (bounds u) (heard_there g u (node_of g p) c)) →
@@ -187,6 +192,7 @@ module _ (g : Graph) (order : List ℕ) (topological : IsTopological g order) (s
           }
         ]
 
+    -- each bound of a start rests on one thing: by whether it is the release, an input, the processor or a hearing
     start_rests : (v : ℕ) → Contains (start_bounds g order s t p) v →
         RestsIn g order m t (λ u. start_bounds g order s u p) v
     start_rests v c = elim (Contains-cases (process_at g p).release
@@ -233,6 +239,7 @@ module _ (g : Graph) (order : List ℕ) (topological : IsTopological g order) (s
               ]
         ]
 
+  -- each bound of a send rests on one thing alone
   send_rests : (x v : ℕ) → x < item_count g → phase (item_at g x) ≡ rank_of_item (item_at g x) + 2 →
       Contains (send_bounds g order s t x) v
       → RestsIn g order (moment g order x) t (λ u. send_bounds g order s u x) v
@@ -263,7 +270,7 @@ module _ (g : Graph) (order : List ℕ) (topological : IsTopological g order) (s
         }
   ]
 
-  -- as a bound of its item
+  -- a number of an item's bounds is a bound of the item
   of_item : (x v : ℕ) (i : Item) → item_at g x ≡ i →
       RestsIn g order (moment g order x) t (λ u. bounds_of_item g order s u x i) v →
       Rests g order s t x v
@@ -276,6 +283,7 @@ module _ (g : Graph) (order : List ℕ) (topological : IsTopological g order) (s
     grows = r.grows;
   }
 
+  -- each bound of an item rests on one thing: by whether it is a start, a message or a broadcast
   rests_by : (x v : ℕ) → x < item_count g → ItemCases g x → Contains (bounds_of_item g order s t x (item_at g x)) v →
       Rests g order s t x v
   rests_by x v l (inl c) k = of_item x v (Start x) c.1
@@ -289,6 +297,7 @@ module _ (g : Graph) (order : List ℕ) (topological : IsTopological g order) (s
       (send_rests x v l (subst (λ i. phase i ≡ rank_of_item i + 2) (sym c.3) (let r : 2 ≡ 0 + 2 = omega arith in r))
       (subst (λ i. Contains (bounds_of_item g order s t x i) v) c.3 k))
 
+  -- each bound of an item rests on one thing, which is settled before the item
   pub rests : (x v : ℕ) → x < item_count g → Contains (bounds_of_item g order s t x (item_at g x)) v →
       Rests g order s t x v
   rests x v l k = rests_by x v l (item_cases g x l) k

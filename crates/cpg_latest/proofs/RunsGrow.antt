@@ -16,6 +16,7 @@ use Rattle.cpg_run.proofs.Runs.{time_is, time_in_active, end_is, end_active, act
 use Rattle.cpg_latest.specs.Latest.{with_faults}
 use Rattle.cpg_latest.proofs.Rests.{Cause, Cause.fixed, Cause.item, Cause.ended, IsBefore, value_in, unfrozen_grows}
 
+-- an execution with more faults lasts no less
 pub duration_grows : (g : Graph) (p m n : ℕ) → m ≤ n → duration g p m ≤ duration g p n
 duration_grows g p m n h =
     let more : m
@@ -25,16 +26,20 @@ duration_grows g p m n h =
     ((process_at g p).mu + div_ceil (process_at g p).wcet (process_at g p).parts + (process_at g p).alpha) h in
     omega arith
 
+-- given: a run of one scenario
 module _ (g : Graph) (order : List ℕ) (frozen : List (Option ℕ)) (s : Scenario) (t : Times)
     (run : IsRun g order frozen s t) where
+  -- what is inactive has no time and no end
   pub time_inactive : (x : ℕ) → x < item_count g → item_active g s.values (item_at g x) ≡ false → time_in t x ≡ 0
   time_inactive x l a = ap (λ o. unwrap_or o 0) (time_is g order frozen s t run x l ∙ cond-false _ _ _ a)
 
+  -- a process that isn't active has no start, so its end counts as 0
   pub end_inactive : (p : ℕ) → p < process_count g → item_active g s.values (item_at g p) ≡ false → end_in t p ≡ 0
   end_inactive p l a = ap (λ o. unwrap_or o 0) (end_is g order frozen s t run p l
       ∙ ap (λ o. option_map (λ start. start + duration g p (fault_of s p)) o)
       (time_is g order frozen s t run p (omega arith) ∙ cond-false _ _ _ a))
 
+-- given: two runs of an outcome, in the second of which each process fails as often or more
 module _ (g : Graph) (order : List ℕ) (frozen : List (Option ℕ)) (values : List Bool) (fs hs : List ℕ)
     (topological : IsTopological g order)
     (more : (q : ℕ) → get_or fs q 0 ≤ get_or hs q 0) (t u : Times) (run : IsRun g order frozen
@@ -49,6 +54,7 @@ module _ (g : Graph) (order : List ℕ) (frozen : List (Option ℕ)) (values : L
   cause_le m x a k (item y) h = a.items y h.0 (omega (arith, h.1))
   cause_le m x a k (ended p) h = a.ends p h.0 (omega (arith, h.1))
 
+  -- if all before the moment m is no earlier in u, neither is an item of moment m; by whether it is active
   time_le : (m x : ℕ) → GrowBefore m → moment g order x ≤ m → x < item_count g → time_in t x ≤ time_in u x
   time_le m x a k l = elim (cases_Bool (item_active g values (item_at g x))) [
     | inl is ↦ omega (
@@ -62,6 +68,7 @@ module _ (g : Graph) (order : List ℕ) (frozen : List (Option ℕ)) (values : L
     | inr is ↦ omega (arith, time_inactive g order frozen (with_faults values fs) t run x l is)
   ]
 
+  -- if p starts no earlier in u, it ends no earlier, as it has at least as many faults there
   end_le : (p : ℕ) → p < process_count g → time_in t p ≤ time_in u p → end_in t p ≤ end_in u p
   end_le p l h = elim (cases_Bool (item_active g values (item_at g p))) [
     | inl is ↦ omega (
@@ -76,6 +83,7 @@ module _ (g : Graph) (order : List ℕ) (frozen : List (Option ℕ)) (values : L
     | inr is ↦ omega (arith, end_inactive g order frozen (with_faults values fs) t run p l is)
   ]
 
+  -- by induction on moments: what comes before m is no earlier in the second run
   grow_before : (m : ℕ) → GrowBefore m
   grow_before zero = record { items = λ x l h. absurd (omega arith); ends = λ p l h. absurd (omega arith) }
   grow_before (suc m) =
@@ -85,6 +93,7 @@ module _ (g : Graph) (order : List ℕ) (frozen : List (Option ℕ)) (values : L
         ends = λ p l h. end_le p l (a.items p (omega arith) (omega (arith, moment_of_start g order topological p l)));
       }
 
+  -- no item is sooner in the second run, and no process ends sooner
   pub times_grow : (x : ℕ) → x < item_count g → time_in t x ≤ time_in u x
   times_grow x l = (grow_before (last g)).items x l (moment_before_last g order topological x l)
 

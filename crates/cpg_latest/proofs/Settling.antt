@@ -27,11 +27,12 @@ use Rattle.cpg_latest.specs.Course.{AreSettledOf, ForLatest, IsDone, IsEarlier}
 use Rattle.cpg_latest.proofs.TimedSends.{Contains-take, in_next, take_next}
 
 module _ (g : Graph) (order : List ℕ) (topological : IsTopological g order) (within : IsWithinLimits g) where
+  -- frozen times that are settled are early
   pub early_of : (Done : ℕ → Type 0) (frozen : List (Option ℕ)) → AreSettledOf g order Done frozen → AreEarly frozen
   early_of Done frozen s = early_from_low g order frozen within topological s.count s.low
 
   module _ (Done More : ℕ → Type 0) (frozen : List (Option ℕ)) (settled : AreSettledOf g order Done frozen) where
-    -- the same frozen items are done
+    -- if the same frozen items are done, the frozen times stay settled
     pub settled_as : ((y : ℕ) → y < item_count g → is_frozen g y ≡ true → More y → Done y) →
         ((y : ℕ) → y < item_count g → Done y → More y) →
         AreSettledOf g order More frozen
@@ -42,20 +43,21 @@ module _ (g : Graph) (order : List ℕ) (topological : IsTopological g order) (w
       low = settled.low;
     }
 
+    -- given: one item more that is done
     module _ (x : ℕ) (l : x < item_count g) (later : (y : ℕ) → y < item_count g → Done y →
         moment g order y < moment g order x) (grows : (y : ℕ) → Done y → More y) (one : More x)
         (only : (y : ℕ) → More y → Done y ⊎ (y ≡ x)) where
-      -- an item isn't frozen
+      -- if the item is not frozen, the frozen times stay settled with it
       pub settled_idle : is_frozen g x ≡ false → AreSettledOf g order More frozen
       settled_idle thawed = settled_as
           (λ y h f m. elim (only y m) [ inl d ↦ d | inr e ↦ absurd (true≢false (sym f ∙ ap (is_frozen g) e ∙ thawed)) ])
           (λ y h d. grows y d)
 
-      -- its frozen time isn't set before
+      -- the frozen time of the item is not set before it is done
       pub not_yet : get_or frozen x None ≡ None
       not_yet = settled.others x (λ h f d. let m = later x h d in absurd (omega (arith, m)))
 
-      -- the frozen time of the item is set
+      -- once the frozen time of the item is set to its unfrozen time, the frozen times are settled with it
       pub settled_more : is_frozen g x ≡ true → (more : List (Option ℕ)) →
           IsUnfrozenTime g order frozen x (get_or more x None) →
           ((y : ℕ) → y ≢ x → get_or more y None ≡ get_or frozen y None) →
@@ -99,13 +101,16 @@ pub for_more : (g : Graph) (order : List ℕ) (Done More : ℕ → Type 0) (froz
 for_more g order Done More frozen new values P grows same f more goes late are =
     f more (λ y h d. goes y h (grows y h d) ∙ same y h d) late are
 
+-- given: a process of the order
 module _ (g : Graph) (order : List ℕ) (topological : IsTopological g order) (p : ℕ) (l : p < process_count g) where
   -- ---- the start of a process
 
+  -- a process is not earlier than its own place
   pub own_place : IsEarlier g order (place order p) p → ⊥
   own_place e = let is = ap (λ i. place order (producer_of_item g i)) (item_at-start g p l) in
       absurd (omega (arith, e, is))
 
+  -- each item of an earlier process has an earlier moment than the start
   pub start_later : (y : ℕ) → y < item_count g → IsEarlier g order (place order p) y →
       moment g order y < moment g order p
   start_later y h e =
@@ -114,12 +119,15 @@ module _ (g : Graph) (order : List ℕ) (topological : IsTopological g order) (p
       sooner (place order (producer g y)) (place order p) (phase (item_at g y)) (phases g) e (phase_below g y h) in
       omega (arith, own, less)
 
+  -- what is earlier is done once the process has started
   pub start_grows : (y : ℕ) → IsEarlier g order (place order p) y → IsDone g order p 0 y
   start_grows y e = inl e
 
+  -- the start itself is done then
   pub start_one : IsDone g order p 0 p
   start_one = inr (inl refl)
 
+  -- nothing but that and the earlier items is done
   pub start_only : (y : ℕ) → IsDone g order p 0 y → IsEarlier g order (place order p) y ⊎ (y ≡ p)
   start_only y (inl e) = inl e
   start_only y (inr (inl e)) = inr e
@@ -139,9 +147,11 @@ module _ (g : Graph) (order : List ℕ) (topological : IsTopological g order) (p
     in_here : Contains (queue_of g p) here
     in_here = Contains-get_or (queue_of g p) k 0 inside
 
+    -- the next item that is sent is one of the graph
     pub here_within : here < item_count g
     here_within = (in_queue g p here in_here).within
 
+    -- what is done before it has an earlier moment
     pub send_later : (y : ℕ) → y < item_count g → IsDone g order p k y → moment g order y < moment g order here
     send_later y h (inl e) =
         let at = moment_of_sent here in_here in
@@ -159,6 +169,7 @@ module _ (g : Graph) (order : List ℕ) (topological : IsTopological g order) (p
         below_first (rank_at g) (queue_of g p) (queue_rises g p) k inside y c in
         omega (arith, at, own, less)
 
+    -- what was done stays done, and the item is done too
     pub send_grows : (y : ℕ) → IsDone g order p k y → IsDone g order p (k + 1) y
     send_grows y (inl e) = inl e
     send_grows y (inr (inl e)) = inr (inl e)
@@ -167,6 +178,7 @@ module _ (g : Graph) (order : List ℕ) (topological : IsTopological g order) (p
     pub send_one : IsDone g order p (k + 1) here
     send_one = inr (inr (in_next (queue_of g p) k here inside (inr refl)))
 
+    -- nothing but that and the item is done then
     pub send_only : (y : ℕ) → IsDone g order p (k + 1) y → IsDone g order p k y ⊎ (y ≡ here)
     send_only y (inl e) = inl (inl e)
     send_only y (inr (inl e)) = inl (inr (inl e))
@@ -175,6 +187,7 @@ module _ (g : Graph) (order : List ℕ) (topological : IsTopological g order) (p
 
   -- ---- the next place
 
+  -- a frozen item of p is its start or one of the items that it sends, so it is among those that are done
   among : (x : ℕ) → x < item_count g → is_frozen g x ≡ true → producer g x ≡ p → ItemCases g x →
       IsDone g order p (length (queue_of g p)) x
   among x h f by (inl c) = inr (inl (sym (ap (producer_of_item g) c.1) ∙ by))
@@ -185,6 +198,7 @@ module _ (g : Graph) (order : List ℕ) (topological : IsTopological g order) (p
       (queue-Contains g p x h sent by)))
   among x h f by (inr (inr c)) = absurd (true≢false (sym f ∙ ap (is_frozen_item g) c.3))
 
+  -- a frozen item before the next place is done once the process has sent all
   pub next_done : (x : ℕ) → x < item_count g → is_frozen g x ≡ true → IsEarlier g order (place order p + 1) x →
       IsDone g order p (length (queue_of g p)) x
   next_done x h f e = elim (cases_lt (place order (producer g x)) (place order p)) [
@@ -198,6 +212,7 @@ module _ (g : Graph) (order : List ℕ) (topological : IsTopological g order) (p
         among x h f by (item_cases g x h)
   ]
 
+  -- what is done then is before the next place
   pub next_earlier : (x : ℕ) → x < item_count g → IsDone g order p (length (queue_of g p)) x →
       IsEarlier g order (place order p + 1) x
   next_earlier x h (inl e) = omega (arith, e)

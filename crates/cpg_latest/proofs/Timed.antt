@@ -25,12 +25,14 @@ use Rattle.cpg_latest.specs.Timed.{IsTimed, end_where}
 use Rattle.cpg_run.specs.Run.{Times, time_in, end_in, time_by, unfrozen_time, bounds_of_item, start_bounds}
 use Rattle.cpg_run.specs.Run.{input_bounds, processor_bounds, hearing_bounds, send_bounds, input_there, heard_there}
 
+-- given: times that keep the rules of a run
 module _ (g : Graph) (order : List ℕ) (frozen : List (Option ℕ)) (s : Scenario) (t : Times)
     (run : IsTimed g order frozen s t) where
   -- the item is active in the scenario
   abbrev pub Acts : ℕ → Type 0
   Acts x = item_active g s.values (item_at g x) ≡ true
 
+  -- the time of each item is that of the rules
   pub time_is : (x : ℕ) → x < item_count g → get_or t.times x None ≡ time_by g order frozen s t x
   time_is x l =
       ap (λ ts. get_or ts x None) run.times ∙ get_or-map-below (time_by g order frozen s t) (item_count g) x None l
@@ -39,15 +41,19 @@ module _ (g : Graph) (order : List ℕ) (frozen : List (Option ℕ)) (s : Scenar
   abbrev pub time_of : ℕ → ℕ
   time_of x = greatest (unfrozen_time g order s t x ∷ option_to_list (get_or frozen x None))
 
+  -- an active item has its time
   pub time_active : (x : ℕ) → x < item_count g → Acts x → get_or t.times x None ≡ Some (time_of x)
   time_active x l a = time_is x l ∙ cond-true _ _ _ a
 
+  -- the time of an active item is that of the rules
   pub time_in_active : (x : ℕ) → x < item_count g → Acts x → time_in t x ≡ time_of x
   time_in_active x l a = ap (λ o. unwrap_or o 0) (time_active x l a)
 
+  -- an active item has a time
   pub has_time : (x : ℕ) → x < item_count g → Acts x → get_or t.times x None ≡ Some (time_in t x)
   has_time x l a = time_active x l a ∙ ap (λ n. Some n) (sym (time_in_active x l a))
 
+  -- an item that has a time is one of the graph and active
   pub time_parts : (x y : ℕ) → get_or t.times x None ≡ Some y → (x < item_count g) × Acts x × (y ≡ time_in t x)
   time_parts x y e = elim (cases_lt x (item_count g)) [
     | inl l ↦ elim (cases_Bool (item_active g s.values (item_at g x))) [
@@ -59,22 +65,26 @@ module _ (g : Graph) (order : List ℕ) (frozen : List (Option ℕ)) (s : Scenar
         ∙ e))
   ]
 
+  -- a process is active exactly if its start is
   pub start_acts : (p : ℕ) → p < process_count g → active g s.values p ≡ true → Acts p
   start_acts p l a = ap (item_active g s.values) (item_at-start g p l) ∙ a
 
   pub acts_start : (p : ℕ) → p < process_count g → Acts p → active g s.values p ≡ true
   acts_start p l a = sym (ap (item_active g s.values) (item_at-start g p l)) ∙ a
 
+  -- the end of each process is that of the rules
   pub end_is : (p : ℕ) → p < process_count g → get_or t.ends p None ≡ end_where t run.end_of p
   end_is p l =
       ap (λ ts. get_or ts p None) run.ends ∙ get_or-map-below (end_where t run.end_of) (process_count g) p None l
 
+  -- an active process has an end
   pub has_end : (p : ℕ) → p < process_count g → active g s.values p ≡ true → get_or t.ends p None ≡ Some (run.end_of p)
   has_end p l a = end_is p l ∙ ap (option_map (λ start. run.end_of p)) (has_time p (omega arith) (start_acts p l a))
 
   pub end_active : (p : ℕ) → p < process_count g → active g s.values p ≡ true → end_in t p ≡ run.end_of p
   end_active p l a = ap (λ o. unwrap_or o 0) (has_end p l a)
 
+  -- the unfrozen time of an active item is no later than its time
   pub unfrozen_below : (x : ℕ) → x < item_count g → Acts x → unfrozen_time g order s t x ≤ time_in t x
   unfrozen_below x l a = omega (
     arith,
@@ -93,10 +103,12 @@ module _ (g : Graph) (order : List ℕ) (frozen : List (Option ℕ)) (s : Scenar
   start_bound p b l a k = bound_below p b (omega arith) (start_acts p l a)
       (subst (λ i. Contains (bounds_of_item g order s t p i) b) (sym (item_at-start g p l)) k)
 
+  -- a process starts no earlier than its release
   pub release_below : (p : ℕ) → p < process_count g → active g s.values p ≡ true →
       (process_at g p).release ≤ time_in t p
   release_below p l a = start_bound p _ l a (Contains-first _ _)
 
+  -- it starts no earlier than its live inputs are there
   pub input_below : (p e : ℕ) → p < process_count g → active g s.values p ≡ true → Contains (inputs g p) e →
       live g s.values e ≡ true →
       input_there g t e ≤ time_in t p
@@ -104,6 +116,7 @@ module _ (g : Graph) (order : List ℕ) (frozen : List (Option ℕ)) (s : Scenar
       (Contains-rest _ _ _ (Contains-append_left _ _ _ (Contains-append_left _ _ _
       (Contains-map (input_there g t) _ e (Contains-filter (live g s.values) (inputs g p) e v k)))))
 
+  -- it starts no earlier than the processes before it on its node end
   pub before_below : (p q : ℕ) → p < process_count g → active g s.values p ≡ true →
       Contains (before_on_node g order p) q → active g s.values q ≡ true →
       end_in t q ≤ time_in t p
@@ -112,6 +125,7 @@ module _ (g : Graph) (order : List ℕ) (frozen : List (Option ℕ)) (s : Scenar
       (Contains-append_right (input_bounds g s t p) (processor_bounds g order s t p) _
       (Contains-map (end_in t) _ q (Contains-filter (active g s.values) (before_on_node g order p) q v k)))))
 
+  -- it starts no earlier than its node hears what decides these or the process itself
   pub hearing_below : (p c : ℕ) → p < process_count g → active g s.values p ≡ true →
       Contains (flat_map (deciding g s.values) (before_on_node g order p ++ p ∷ [])) c →
       heard_there g t (node_of g p) c ≤ time_in t p
@@ -125,6 +139,7 @@ module _ (g : Graph) (order : List ℕ) (frozen : List (Option ℕ)) (s : Scenar
   sent_bounds x (Message e) h = refl
   sent_bounds x (Broadcast c) h = refl
 
+  -- the unfrozen time of what is sent is the greatest of its bounds
   pub unfrozen_sent : (x : ℕ) → is_sent g x ≡ true → unfrozen_time g order s t x ≡ greatest (send_bounds g order s t x)
   unfrozen_sent x e = ap greatest (sent_bounds x (item_at g x) e)
 
@@ -132,10 +147,12 @@ module _ (g : Graph) (order : List ℕ) (frozen : List (Option ℕ)) (s : Scenar
       b ≤ time_in t x
   send_bound x b l a e k = bound_below x b l a (subst (λ bs. Contains bs b) (sym (sent_bounds x (item_at g x) e)) k)
 
+  -- it is sent no earlier than in the next slot after its producer's end
   pub producer_below : (x : ℕ) → x < item_count g → Acts x → is_sent g x ≡ true →
       next_slot g (home g x) (end_in t (producer g x)) ≤ time_in t x
   producer_below x l a e = send_bound x _ l a e (Contains-first _ _)
 
+  -- it is sent no earlier than a round after what stands before it in the queue
   pub queue_below : (x y : ℕ) → x < item_count g → Acts x → is_sent g x ≡ true → Contains (queued_before g order x) y →
       Acts y →
       time_in t y + round g ≤ time_in t x

@@ -21,6 +21,9 @@ use Rattle.cpg_latest.proofs.TimedStarts.{decided_in_run, start_is}
 use Rattle.cpg_latest.proofs.TimedSteps.{ready_other, ready_idle, ready_active, free_other, free_idle, free_here}
 use Rattle.cpg_latest.proofs.TimedSteps.{knows_idle, knows_active}
 
+-- given: what is known before the place of a process, and when its node has heard what decides it
+-- `run`: the times of a run; `at`, `on`: the place and the node of p; `a`, `long`, `far`: what is known there;
+-- `is_heard`: when the node has heard what decides p
 module _ (g : Graph) (order : List ℕ) (topological : IsTopological g order) (frozen : List (Option ℕ)) (s : Scenario)
     (t : Times) (run : IsTimed g order frozen s t)
     (i p : ℕ) (l : p < process_count g) (at : place order p ≡ i) (on : node_of g p < length g.nodes)
@@ -35,6 +38,7 @@ module _ (g : Graph) (order : List ℕ) (topological : IsTopological g order) (f
       (heard_there g t (node_of g p)) heard
   heard_in_run = decided_in_run g order t i known a.knows topological s p l at heard is_heard
 
+  -- if the node of the process is ready, all nodes are ready at the next place
   readies_next : (v : ℕ) → IsReady g order s t (i + 1) (node_of g p) v → (n : ℕ) → n < length g.nodes →
       IsReady g order s t (i + 1) n (get_or (set readies (node_of g p) v) n 0)
   readies_next v ready n k = elim (cases_eq n (node_of g p)) [
@@ -45,6 +49,8 @@ module _ (g : Graph) (order : List ℕ) (topological : IsTopological g order) (f
         (ready_other g order topological frozen s t run i p l at n (get_or readies n 0) other (a.nodes_ready n k))
   ]
 
+  -- after an inactive process all is known before the next place, with its node ready once it has heard what decides
+  -- it
   pub at_idle : (v : ℕ) → active g s.values p ≡ false → v ≡ max (get_or readies (node_of g p) 0) heard →
       IsAt g order s t (i + 1) known (set readies (node_of g p) v) frees
   at_idle v idle is = record {
@@ -55,10 +61,12 @@ module _ (g : Graph) (order : List ℕ) (topological : IsTopological g order) (f
         λ n k. free_idle g order topological frozen s t run i p l at n (get_or frees n 0) idle (a.slots_free n k);
   }
 
+  -- given: an active process, and the start that is found for it
   module _ (acts : active g s.values p ≡ true) (ready start : ℕ)
       (ready_at : ready ≡ max (get_or readies (node_of g p) 0) heard)
       (found : start ≡ max (max (max ready (process_at g p).release) (greatest (input_bounds g s known p)))
       (frozen_in frozen p)) where
+    -- the start that is found is that of the times
     pub start_right : start ≡ time_in t p
     start_right = found ∙ ap (λ r.
         max (max (max r (process_at g p).release) (greatest (input_bounds g s known p))) (frozen_in frozen p)) ready_at
@@ -66,10 +74,12 @@ module _ (g : Graph) (order : List ℕ) (topological : IsTopological g order) (f
         (a.nodes_ready (node_of g p) on) is_heard
 
     module _ (end : ℕ) (after : start ≤ end) (end_right : end ≡ end_in t p) where
+      -- given: the times once the start and the end of the process are set
       module _ (begun : Times) (times_long : length known.times ≡ item_count g)
           (ends_long : length known.ends ≡ process_count g)
           (started : begun.times ≡ set known.times p (Some start))
           (ended : begun.ends ≡ set known.ends p (Some end)) where
+        -- once its start and its end are set, the process can send
         pub can_send : (free : ℕ) → free ≡ get_or frees (node_of g p) 0 → CanSend g order s t p begun free
         can_send free is = record {
           ends = ap (λ es. unwrap_or (get_or es p None) 0) ended
@@ -83,6 +93,7 @@ module _ (g : Graph) (order : List ℕ) (topological : IsTopological g order) (f
               (a.slots_free (node_of g p) on));
         }
 
+        -- once it has sent all, everything is known before the next place
         pub at_active : (new : Times) (free : ℕ) → HasSent g order s t p (length (queue_of g p)) begun new free →
             KeepsEnds begun new
             → IsAt g order s t (i + 1) new (set readies (node_of g p) end) (set frees (node_of g p) free)

@@ -45,6 +45,7 @@ take_next xs k y l c =
           elim (Contains-cases (get_or xs k 0) [] y b) [ inl e ↦ inr (sym e) | inr none ↦ absurd (Contains-nil y none) ]
     ]
 
+-- one of the first k elements, or the next one, is one of the first k + 1
 pub in_next : (xs : List ℕ) (k y : ℕ) → k < length xs → Contains (take k xs) y ⊎ (y ≡ get_or xs k 0) →
     Contains (take (k + 1) xs) y
 in_next xs k y l c =
@@ -56,10 +57,12 @@ in_next xs k y l c =
           (Contains-append_right (take k xs) (get_or xs k 0 ∷ []) (get_or xs k 0) (Contains-first (get_or xs k 0) []))
     ])
 
+-- one of the first n elements is one of the list
 pub Contains-take : (n : ℕ) (xs : List ℕ) (x : ℕ) → Contains (take n xs) x → Contains xs x
 Contains-take n xs x c =
     subst (λ ys. Contains ys x) (take-append-drop n xs) (Contains-append_left (take n xs) (drop n xs) x c)
 
+-- given: a process of an order, in one scenario
 module _ (g : Graph) (order : List ℕ) (topological : IsTopological g order) (s : Scenario) (p : ℕ)
     (l : p < process_count g) where
   -- ---- what a node has sent before an item
@@ -68,9 +71,11 @@ module _ (g : Graph) (order : List ℕ) (topological : IsTopological g order) (s
     abbrev here : ℕ
     here = get_or (queue_of g p) k 0
 
+    -- the item at a place of the queue is one that the process sends
     pub here_sent : Contains (queue_of g p) here
     here_sent = Contains-get_or (queue_of g p) k 0 inside
 
+    -- an active item queued before this one is one that the node has sent by then
     queued_is_by : (y : ℕ) → Contains (queued_before g order here) y → item_active g s.values (item_at g y) ≡ true →
         IsSentBy g order s p k y
     queued_is_by y c acts =
@@ -91,6 +96,7 @@ module _ (g : Graph) (order : List ℕ) (topological : IsTopological g order) (s
               (or_cases _ _ b.1),
         )
 
+    -- the other way around: what the node has sent by then is queued before this item
     by_is_queued : (y : ℕ) → IsSentBy g order s p k y → Contains (queued_before g order here) y
     by_is_queued y h =
         let x = in_queue g p here here_sent in
@@ -112,6 +118,7 @@ module _ (g : Graph) (order : List ℕ) (topological : IsTopological g order) (s
 
     -- ---- when it is sent
 
+    -- given: an active item, and from when on the slots of its node are free
     module _ (frozen : List (Option ℕ)) (t : Times) (run : IsTimed g order frozen s t) (free : ℕ)
         (is_free : IsMost (IsSentBy g order s p k) (free_after g t) free)
         (acts : item_active g s.values (item_at g here) ≡ true) where
@@ -136,6 +143,7 @@ module _ (g : Graph) (order : List ℕ) (topological : IsTopological g order) (s
       bounds_found = send_bounds_le g order s t here found (omega (arith, at_producer))
           (λ y c a. omega (arith, is_free.above y (queued_is_by y c a)))
 
+      -- the time that is found for the item is that of the times
       pub send_is : max (max (next_slot g (node_of g p) (end_in t p)) free) (frozen_in frozen here) ≡ time_in t here
       send_is = let x = in_queue g p here here_sent in
           both_ways_equal found (time_in t here)
@@ -143,6 +151,7 @@ module _ (g : Graph) (order : List ℕ) (topological : IsTopological g order) (s
           (arith, free_by, item_time, at_producer, producer_below g order frozen s t run here x.within acts x.sent))
           (omega (arith, item_time, bounds_found))
 
+      -- the slots are free a round after the item then
       pub free_next : IsMost (IsSentBy g order s p (k + 1)) (free_after g t) (time_in t here + round g)
       free_next = let x = in_queue g p here here_sent in record {
         above = λ y h. elim h.1 [
@@ -178,6 +187,7 @@ module _ (g : Graph) (order : List ℕ) (topological : IsTopological g order) (s
 
   -- ---- one item more has its time
 
+  -- a process that has begun has sent none of its items
   pub nothing_sent : (t known : Times) (free : ℕ) → CanSend g order s t p known free →
       HasSent g order s t p 0 known known free
   nothing_sent t known free can = record {
@@ -190,12 +200,14 @@ module _ (g : Graph) (order : List ℕ) (topological : IsTopological g order) (s
         can.slots_free;
   }
 
+  -- given: what is known once the first k items are sent
   module _ (frozen : List (Option ℕ)) (t : Times) (run : IsTimed g order frozen s t) (old known : Times) (k free : ℕ)
       (inside : k < length (queue_of g p))
       (has : HasSent g order s t p k old known free) where
     abbrev item : ℕ
     item = get_or (queue_of g p) k 0
 
+    -- an inactive item counts as sent without a time
     pub sent_idle : ((x : ℕ) → Contains (queue_of g p) x → get_or old.times x None ≡ None) →
         item_active g s.values (item_at g item) ≡ false →
         HasSent g order s t p (k + 1) old known free
@@ -213,6 +225,7 @@ module _ (g : Graph) (order : List ℕ) (topological : IsTopological g order) (s
           slots_free = free_same k inside t free idle has.slots_free;
         }
 
+    -- an active item counts as sent once its time is set
     pub sent_active : (new : Times) (time : ℕ) → item < length known.times →
         new.times ≡ set known.times item (Some time) →
         item_active g s.values (item_at g item) ≡ true

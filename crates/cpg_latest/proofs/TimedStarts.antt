@@ -42,7 +42,9 @@ greatest_option (Some n) = greatest-cons n [] ∙ omega arith
 pub both_ways_equal : (a b : ℕ) → a ≤ b → b ≤ a → a ≡ b
 both_ways_equal a b h k = omega arith
 
+-- given: what is known of times before a place
 module _ (g : Graph) (order : List ℕ) (t : Times) (i : ℕ) (known : Times) (knows : Knows g order t i known) where
+  -- what is known of an item or a process from before the place is its time or its end
   pub known_item : (x : ℕ) → x < item_count g → place order (producer g x) < i → time_in known x ≡ time_in t x
   known_item x l h = ap (λ o. unwrap_or o 0) (knows.times x l h)
 
@@ -52,6 +54,7 @@ module _ (g : Graph) (order : List ℕ) (t : Times) (i : ℕ) (known : Times) (k
   known_frame : (x : ℕ) → x < item_count g → place order (producer g x) < i → frame_there g known x ≡ frame_there g t x
   known_frame x l h = ap (λ n. n + slot_length g (home g x)) (known_item x l h)
 
+  -- it is known when an input from before the place is there
   pub known_input_of : (e : ℕ) → e < edge_count g → source g e < process_count g → place order (source g e) < i →
       input_there g known e ≡ input_there g t e
   known_input_of e h l less = ap₂ (λ v w. if is_message g e then v else w)
@@ -59,6 +62,7 @@ module _ (g : Graph) (order : List ℕ) (t : Times) (i : ℕ) (known : Times) (k
       (omega (arith, ap (λ j. place order (producer_of_item g j)) (item_at-message g e h))))
       (known_end (source g e) l less)
 
+  -- it is known when a node hears a condition from before the place
   pub known_heard_of : (node c : ℕ) → c < condition_count g → place order (process_of g c) < i →
       heard_there g known node c ≡ heard_there g t node c
   known_heard_of node c h less = ap₂ (λ v w. if node_of g (process_of g c) == node then v else w)
@@ -66,6 +70,7 @@ module _ (g : Graph) (order : List ℕ) (t : Times) (i : ℕ) (known : Times) (k
       (known_frame (broadcast_item g c) (omega arith)
       (omega (arith, ap (λ j. place order (producer_of_item g j)) (item_at-broadcast g c))))
 
+  -- what is known of small times is small
   pub known_small : length known.times ≡ item_count g → length known.ends ≡ process_count g → AreSmall t →
       AreSmall known
   known_small items processes small = record {
@@ -90,12 +95,14 @@ module _ (g : Graph) (order : List ℕ) (t : Times) (i : ℕ) (known : Times) (k
 
   module _ (topological : IsTopological g order) (s : Scenario) (p : ℕ) (l : p < process_count g)
       (at : place order p ≡ i) where
+    -- it is known when each input of the process at the place is there
     pub known_input : (e : ℕ) → Contains (inputs g p) e → input_there g known e ≡ input_there g t e
     known_input e c =
         let h = (inputs_parts g p e c).0 in
         known_input_of e h (source_in_order g order topological e h)
         (omega (arith, input_goes_up g order topological p e c))
 
+    -- what decides a process at the place or before it is from before the place
     pub decided_sooner : (q c : ℕ) → place order q ≤ i → c < condition_count g → decides g s.values q c ≡ true →
         place order (process_of g c) < i
     decided_sooner q c h k d = omega (arith, decides_earlier g order topological s.values q c k d)
@@ -106,6 +113,7 @@ module _ (g : Graph) (order : List ℕ) (t : Times) (i : ℕ) (known : Times) (k
         Contains-filter (λ (r : ℕ). node_of g r == node_of g p) (before order p) q (eq-eqb _ _ same)
         (Contains-before order q p (Contains-order (process_count g) order topological.all q k) (omega arith))
 
+    -- a condition that decides one of these processes is among those that their node hears
     in_hearing : (q c : ℕ) → Contains (before_on_node g order p ++ p ∷ []) q → c < condition_count g →
         decides g s.values q c ≡ true
         → Contains (flat_map (deciding g s.values) (before_on_node g order p ++ p ∷ [])) c
@@ -124,6 +132,7 @@ module _ (g : Graph) (order : List ℕ) (t : Times) (i : ℕ) (known : Times) (k
           (λ c d. omega (arith, h c d, known_heard_of (node_of g p) c d.0 (decided_sooner p c (omega arith) d.0 d.1)));
     }
 
+    -- given: an active process, when its node is ready, and when that has heard what decides the process
     module _ (frozen : List (Option ℕ)) (run : IsTimed g order frozen s t) (acts : active g s.values p ≡ true)
         (ready heard : ℕ) (is_ready : IsReady g order s t i (node_of g p) ready)
         (is_heard : IsMost (λ c. (c < condition_count g) × (decides g s.values p c ≡ true))
@@ -157,6 +166,7 @@ module _ (g : Graph) (order : List ℕ) (t : Times) (i : ℕ) (known : Times) (k
           (λ e k. let r = Contains-filter_parts (live g s.values) (inputs g p) e k in
           omega (arith, known_input e r.0, input_below g order frozen s t run p e l acts r.0 r.1)) c)
 
+      -- a condition that decides p or an earlier process of its node is heard by the found time
       heard_found : (c : ℕ) → Contains (flat_map (deciding g s.values) (before_on_node g order p ++ p ∷ [])) c →
           heard_there g t (node_of g p) c ≤ found
       heard_found c k =
@@ -182,6 +192,7 @@ module _ (g : Graph) (order : List ℕ) (t : Times) (i : ℕ) (known : Times) (k
             ]
           ]
 
+      -- no bound of the start is later than the found time
       bounds_found : greatest (start_bounds g order s t p) ≤ found
       bounds_found = start_bounds_le g order s t p found (omega arith)
           (λ e c a. omega (

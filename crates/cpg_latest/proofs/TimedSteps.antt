@@ -58,6 +58,7 @@ message_start e q h = true≢false (sym (ap starts_one h))
 broadcast_start : (c q : ℕ) → Broadcast c ≡ Start q → ⊥
 broadcast_start c q h = true≢false (sym (ap starts_one h))
 
+-- given: times that keep the rules of a run, and the process at a place
 module _ (g : Graph) (order : List ℕ) (topological : IsTopological g order) (frozen : List (Option ℕ)) (s : Scenario)
     (t : Times) (run : IsTimed g order frozen s t)
     (i p : ℕ) (l : p < process_count g) (at : place order p ≡ i) where
@@ -70,6 +71,7 @@ module _ (g : Graph) (order : List ℕ) (topological : IsTopological g order) (f
 
   -- ---- when nodes are ready
 
+  -- another node is ready when it was before
   pub ready_other : (node v : ℕ) → node ≢ node_of g p → IsReady g order s t i node v →
       IsReady g order s t (i + 1) node v
   ready_other node v other r = record {
@@ -83,6 +85,8 @@ module _ (g : Graph) (order : List ℕ) (topological : IsTopological g order) (f
         (λ q c k less same m d. y q c k (omega arith) same m d);
   }
 
+  -- the node of the process is ready at the least time that is no earlier than before, than what it has heard and
+  -- than the end
   pub ready_here : (r h v : ℕ) → IsReady g order s t i (node_of g p) r →
       IsMost (λ c. (c < condition_count g) × (decides g s.values p c ≡ true)) (heard_there g t (node_of g p)) h
       → max r h ≤ v → (active g s.values p ≡ true → end_in t p ≤ v) →
@@ -104,12 +108,14 @@ module _ (g : Graph) (order : List ℕ) (topological : IsTopological g order) (f
         least b (omega arith) (λ acts. x p l (omega arith) refl acts);
   }
 
+  -- if the process is inactive, its node is ready once it was ready before and has heard what decides the process
   pub ready_idle : (r h v : ℕ) → active g s.values p ≡ false → v ≡ max r h → IsReady g order s t i (node_of g p) r →
       IsMost (λ c. (c < condition_count g) × (decides g s.values p c ≡ true)) (heard_there g t (node_of g p)) h
       → IsReady g order s t (i + 1) (node_of g p) v
   ready_idle r h v idle is ready heard = ready_here r h v ready heard (omega arith)
       (λ acts. absurd (true≢false (sym acts ∙ idle))) (λ b m acts. omega arith)
 
+  -- if the process is active, its node is ready at the end
   pub ready_active : (r h v : ℕ) → active g s.values p ≡ true → v ≡ end_in t p → max r h ≤ v →
       IsReady g order s t i (node_of g p) r →
       IsMost (λ c. (c < condition_count g) × (decides g s.values p c ≡ true)) (heard_there g t (node_of g p)) h
@@ -119,6 +125,7 @@ module _ (g : Graph) (order : List ℕ) (topological : IsTopological g order) (f
 
   -- ---- when slots are free
 
+  -- another node's slots are free when they were before
   pub free_other : (node v : ℕ) → node ≢ node_of g p → IsFree g order s t i node v → IsFree g order s t (i + 1) node v
   free_other node v other m =
       most_same (free_after g t) (IsSentBefore g order s node i) (IsSentBefore g order s node (i + 1)) v
@@ -132,6 +139,7 @@ module _ (g : Graph) (order : List ℕ) (topological : IsTopological g order) (f
       ))
       m
 
+  -- if the process is inactive, the slots of each node are free when they were before
   pub free_idle : (node v : ℕ) → active g s.values p ≡ false → IsFree g order s t i node v →
       IsFree g order s t (i + 1) node v
   free_idle node v idle m =
@@ -150,6 +158,7 @@ module _ (g : Graph) (order : List ℕ) (topological : IsTopological g order) (f
   in_whole : (y : ℕ) → Contains (queue_of g p) y → Contains (take (length (queue_of g p)) (queue_of g p)) y
   in_whole y c = subst (λ ys. Contains ys y) (sym (take_all (length (queue_of g p)) (queue_of g p) (omega arith))) c
 
+  -- once the process has sent all, the slots of its node are free after what it sent
   pub free_here : (v : ℕ) → IsMost (IsSentBy g order s p (length (queue_of g p))) (free_after g t) v →
       IsFree g order s t (i + 1) (node_of g p) v
   free_here v m = most_same (free_after g t) (IsSentBy g order s p (length (queue_of g p)))
@@ -178,6 +187,7 @@ module _ (g : Graph) (order : List ℕ) (topological : IsTopological g order) (f
   no_time : (x : ℕ) → x < item_count g → item_active g s.values (item_at g x) ≡ false → get_or t.times x None ≡ None
   no_time x k idle = time_is g order frozen s t run x k ∙ cond-false _ _ _ idle
 
+  -- an inactive process changes nothing, so all is known before the next place
   pub knows_idle : (known : Times) → active g s.values p ≡ false → Knows g order t i known →
       Knows g order t (i + 1) known
   knows_idle known idle knows = record {
@@ -197,6 +207,9 @@ module _ (g : Graph) (order : List ℕ) (topological : IsTopological g order) (f
     no_ends = λ q k h. knows.no_ends q k (omega arith);
   }
 
+  -- given: an active process with its start and its end, and what it sends
+  -- `knows`, `places`, `ends`: what is known before; `starts`, `stops`, `start_is`, `end_is`: p has begun at its
+  -- time; `sent`, `keeps`: all that it sends is sent, and no end has changed
   module _ (acts : active g s.values p ≡ true) (known begun new : Times) (start end free : ℕ)
       (knows : Knows g order t i known)
       (places : length known.times ≡ item_count g) (ends : length known.ends ≡ process_count g)
@@ -223,6 +236,7 @@ module _ (g : Graph) (order : List ℕ) (topological : IsTopological g order) (f
         ∙ ap Some start_is
         ∙ sym (has_time g order frozen s t run p (omega arith) (start_acts g order frozen s t run p l acts))
 
+    -- an item of p has its time of the run: the start, an item that is sent, or one without a time
     its_item : (x : ℕ) → x < item_count g → producer g x ≡ p → get_or new.times x None ≡ get_or t.times x None
     its_item x k by = elim (cases_eq x p) [
       | inl e ↦ subst (λ z. get_or new.times z None ≡ get_or t.times z None) (sym e) its_start
@@ -251,6 +265,7 @@ module _ (g : Graph) (order : List ℕ) (topological : IsTopological g order) (f
     other_end q other =
         ap (λ ts. get_or ts q None) (keeps.ends ∙ stops) ∙ get_or-set_other known.ends p q (Some end) None other
 
+    -- once an active process has started, ended and sent all, all is known before the next place
     pub knows_active : Knows g order t (i + 1) new
     knows_active = record {
       times = λ x k h. elim (up_to (producer g x) (producer_in_range g order topological x k) h) [

@@ -50,6 +50,7 @@ module _ (g : Graph) (urgency : List ℕ) (urgent : IsUrgencyOrder g urgency) (l
   long = length-map-range_with_len (λ c. get_or s.values c false && active g s.values (process_of g c)) 0
       (condition_count g)
 
+  -- in the cleared outcome a condition is false, or its process is active; by whether the process is active in s
   passes : (c : ℕ) → c < condition_count g →
       (not (get_or (cleared g s.values) c false) || active g (cleared g s.values) (process_of g c)) ≡ true
   passes c l = elim (cases_Bool (active g s.values (process_of g c))) [
@@ -68,8 +69,10 @@ module _ (g : Graph) (urgency : List ℕ) (urgent : IsUrgencyOrder g urgency) (l
 
   -- the track at a place has the runs of the scenario, and what they rest on
   pub record HasTrack (tracks : List (List Bool)) : Type 0 where
+    -- the place of the track, and that it is one of the tracks
     pub place : ℕ
     pub there : place < length tracks
+    -- the track with the faults of s is a scenario too, with the runs and the active items of s
     pub scenario : IsScenario g s → IsScenario g (with_faults (track_at tracks place) s.faults)
     pub run : (order : List ℕ) (frozen : List (Option ℕ)) (t : Times) → IsTopological g order →
         IsRun g order frozen s t →
@@ -98,6 +101,7 @@ module _ (g : Graph) (urgency : List ℕ) (urgent : IsUrgencyOrder g urgency) (l
         (with_faults (cleared g s.values) s.faults) alike order topological [] t x (item_cases g x k)));
   }
 
+  -- each scenario has a track with its runs
   pub has_track : (tracks : List (List Bool)) → AreTracks g tracks → HasTrack tracks
   has_track tracks all =
       let c =

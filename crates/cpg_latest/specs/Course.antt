@@ -32,7 +32,7 @@ IsDone g order p k x = IsEarlier g order (place order p) x ⊎ ((x ≡ p) ⊎ Co
 abbrev pub GoesOn : Graph → (ℕ → Type 0) → List (Option ℕ) → List (Option ℕ) → Type 0
 GoesOn g Done frozen more = (x : ℕ) → x < item_count g → Done x → get_or more x None ≡ get_or frozen x None
 
--- so it is of the latest times of an outcome, whatever frozen times follow
+-- the latest times of an outcome have a fact, whatever frozen times follow
 abbrev pub ForLatest : Graph → List ℕ → (ℕ → Type 0) → List (Option ℕ) → List Bool → ((ℕ → Times) → Type 0) → Type 0
 ForLatest g order Done frozen values P = (more : List (Option ℕ)) → GoesOn g Done frozen more → (late : ℕ → Times) →
     AreLatest g order more values late → P late
@@ -46,18 +46,25 @@ pub record IsCourse (g : Graph) (order : List ℕ) (Done : ℕ → Type 0) (froz
 
 -- a process has begun and sent the first k of its items, and with the rest all is known before the next place
 pub record HasGone (g : Graph) (order : List ℕ) (s : Scenario) (t : Times) (p k : ℕ) (c : ProgressState) : Type 0 where
+  -- the times once p has begun and sent nothing
   pub begun : Times
+  -- from when on the slots of each node are free, at that point
   pub frees : List ℕ
   pub ended : end_in begun p ≡ end_in t p
+  -- of what p sends nothing has a time in these yet
   pub none : (x : ℕ) → Contains (queue_of g p) x → get_or begun.times x None ≡ None
+  -- the course has these times and those of the first k items of p
   pub sent : HasSent g order s t p k begun c.known (get_or c.free (node_of g p) 0)
   pub keeps : KeepsEnds begun c.known
+  -- sending has changed when the slots of the node of p are free, and those of no other node
   pub free : c.free ≡ slice_set frees (node_of g p) (get_or c.free (node_of g p) 0)
+  -- once all items of p are sent, all is known before the next place
   pub next : (new : Times) (free : ℕ) → HasSent g order s t p (length (queue_of g p)) begun new free →
       KeepsEnds begun new →
       IsAt g order s t (place order p + 1) new c.ready (slice_set frees (node_of g p) free)
 
--- so it is of the latest times with n faults, if the process is active; else all is known before the next place
+-- if the process is active, it has begun and sent the first k of its items in the latest times with n faults;
+-- otherwise all is known before the next place
 pub record IsSending (g : Graph) (order : List ℕ) (Done : ℕ → Type 0) (frozen : List (Option ℕ)) (values : List Bool)
     (p k n : ℕ) (c : ProgressState) : Type 0 where
   pub places : HasPlaces g c.known c.ready c.free
@@ -72,15 +79,16 @@ pub record IsLane (g : Graph) (P : ℕ → ProgressState → Type 0) (courses : 
   pub count : length courses ≡ g.faults + 1
   pub each : (n : ℕ) (d : ProgressState) → n < g.faults + 1 → P n (get_or courses n d)
 
--- and such a lane for each track
+-- a lane for each track
 pub record AreLanes (g : Graph) (P : List Bool → ℕ → ProgressState → Type 0) (tracks : List (List Bool))
     (lanes : List (List ProgressState)) : Type 0 where
   pub count : length lanes ≡ length tracks
   pub each : (i : ℕ) (d : List ProgressState) → i < length tracks → IsLane g (P (track_at tracks i)) (get_or lanes i d)
 
--- the first of a list are already so, and the others still as before
+-- the first m elements of a list have the new fact, and the others still have the old one
 pub record AreHalf {X : Type 0} (Old New : ℕ → X → Type 0) (m count : ℕ) (xs : List X) : Type 0 where
   pub count_is : length xs ≡ count
+  -- d is the default of `get_or`; any can stand there, as j is below the length
   pub done : (j : ℕ) (d : X) → j < m → j < count → New j (get_or xs j d)
   pub left : (j : ℕ) (d : X) → m ≤ j → j < count → Old j (get_or xs j d)
 
@@ -95,6 +103,7 @@ abbrev pub HaveValues : Graph → List Scenario → Type 0
 HaveValues g scenarios =
     (i : ℕ) (d : Scenario) → i < length scenarios → length (get_or scenarios i d).values ≡ condition_count g
 
+-- what a track says of a process: whether it is active, which conditions decide it, and which of its inputs are live
 pub record IsAsked (g : Graph) (guards : Guards) (p : ℕ) (a : Asked) : Type 0 where
   pub long : length a.scenario.now.values ≡ condition_count g
   pub acts : a.acts ≡ active g a.scenario.now.values p
@@ -102,6 +111,7 @@ pub record IsAsked (g : Graph) (guards : Guards) (p : ℕ) (a : Asked) : Type 0 
       a.conditions.items ≡ deciding_along g urgency a.scenario.now.values p
   pub inputs : a.inputs.items ≡ filter (live g a.scenario.now.values) (inputs g p)
 
+-- what each track says of a process
 abbrev pub AreAsked : Graph → Guards → ℕ → List Asked → Type 0
 AreAsked g guards p asked = (i : ℕ) (d : Asked) → i < length asked → IsAsked g guards p (get_or asked i d)
 
@@ -112,18 +122,19 @@ outcomes_asked asked = map (λ a. a.scenario.now.values) asked
 -- a node is ready for a process when it was ready before and has heard what decides the process
 pub record IsReadyFor (g : Graph) (values : List Bool) (p : ℕ) (c : ProgressState) (ready : ℕ) : Type 0 where
   pub heard : ℕ
+  -- the latest time when the node hears one of the conditions that decide p
   pub is_heard : IsMost (λ c. (c < condition_count g) × (decides g values p c ≡ true))
       (heard_there g c.known (node_of g p)) heard
   pub is : ready ≡ max (get_or c.ready (node_of g p) 0) heard
 
 -- ---- the ends of a process
 
--- with one fault less, or 0 with none
+-- the latest end of a process with one fault less, or 0 if there is none
 unfoldable pub last_end : Graph → (ℕ → Times) → ℕ → ℕ → ℕ
 last_end g late zero p = 0
 last_end g late (suc n) p = latest_end g late n p
 
--- with n faults, by the start with as many and the end with one less
+-- the latest end with n faults, given the start with as many and the end with one less
 abbrev pub end_after : Graph → ℕ → ℕ → ℕ → ℕ → ℕ
 end_after g p n start last = if n == 0 then start + duration g p 0 else max (start + duration g p 0) (last + again g p)
 

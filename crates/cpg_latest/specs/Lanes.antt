@@ -48,21 +48,21 @@ abbrev pub last_course : Graph → List ProgressState → ProgressState
 last_course g courses =
     get_or courses g.faults (record { known = record { times = []; ends = []; finish = 0 }; ready = []; free = [] })
 
--- when a process could start that isn't frozen
+-- when a process could start if it were not frozen
 pub record IsUnfrozenStart (g : Graph) (values : List Bool) (p : ℕ) (c : ProgressState) (time : ℕ) : Type 0 where
   pub ready : ℕ
   pub is_ready : IsReadyFor g values p c ready
   pub is : time ≡ max (max ready (process_at g p).release) (greatest (input_bounds g (with_faults values []) c.known p))
 
--- when an item of a process could be sent that isn't frozen
+-- when an item of a process could be sent if it were not frozen
 abbrev pub unfrozen_send : Graph → ℕ → ProgressState → ℕ
 unfrozen_send g p c = max (next_slot g (node_of g p) (end_in c.known p)) (get_or c.free (node_of g p) 0)
 
--- when it is sent
+-- when the item is sent
 abbrev pub send_at : Graph → List (Option ℕ) → ℕ → ℕ → ProgressState → ℕ
 send_at g frozen p x c = max (unfrozen_send g p c) (frozen_in frozen x)
 
--- the course then
+-- the course once the item is sent
 abbrev pub course_sent : Graph → List (Option ℕ) → ℕ → ℕ → ProgressState → ProgressState
 course_sent g frozen p x c = record {
   known = record c.known { times = slice_set c.known.times x (Some (send_at g frozen p x c)) };
@@ -81,7 +81,7 @@ pub record AreKnown (setting : Setting) (tracks : List (List Bool)) (i : ℕ) (f
       (IsEarlier setting.problem.now setting.order.now i) frozen
   pub known : AreLanes setting.problem.now (IsBefore setting frozen i) tracks lanes
 
--- and while a process sends
+-- what is known while a process sends: the frozen times so far, and the courses of all tracks
 pub record AreSending (setting : Setting) (tracks : List (List Bool)) (p k : ℕ) (frozen : List (Option ℕ))
     (lanes : List (List ProgressState)) : Type 0 where
   pub settled : AreSettledOf setting.problem.now setting.order.now
@@ -97,7 +97,7 @@ pub record IsSettledBy (x : ℕ) (old new : List (Option ℕ)) : Type 0 where
 abbrev pub finish_of : Graph → ProgressState → ℕ
 finish_of g c = greatest (map (λ p. end_in c.known p) (numbers_below (process_count g)))
 
--- and how far an end in it is past its due
+-- how far an end in a course is past its due at most
 abbrev pub excess_of_course : Graph → ProgressState → ℕ
 excess_of_course g c = greatest (map (λ p. end_in c.known p - due g p) (numbers_below (process_count g)))
 

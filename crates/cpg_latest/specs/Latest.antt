@@ -1,5 +1,5 @@
--- The latest times of a track along an order: those with at most so many faults on the ways to each item, from which
--- the rules make the next ones as they make the times of a run.
+-- The latest times of a track along an order, for each number of faults: those with at most that many faults on the
+-- ways to each item. The rules make the next ones of them as they make the times of a run.
 use Rattle.std.specs.Prelude.{ℕ, ◌+◌, ◌-◌, ◌≡◌, ◌≤◌, Bool, List, [], Option, None, map, get_or, option_map}
 use Rattle.std.specs.Prelude.{option_to_list}
 use Rattle.std.specs.Int.{div_ceil}
@@ -22,7 +22,7 @@ end_with g late n p j = time_in (late (n - j)) p + duration g p j
 abbrev pub latest_end : Graph → (ℕ → Times) → ℕ → ℕ → ℕ
 latest_end g late n p = greatest (map (end_with g late n p) (numbers_below (n + 1)))
 
--- of a process that starts
+-- the latest end of a process, if it starts
 abbrev pub latest_end_by : Graph → (ℕ → Times) → ℕ → ℕ → Option ℕ
 latest_end_by g late n p = option_map (λ start. latest_end g late n p) (get_or (late n).times p None)
 

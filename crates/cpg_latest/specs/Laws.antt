@@ -33,7 +33,7 @@ pub record IsReached (g : Graph) (order : List ℕ) (frozen : List (Option ℕ))
   pub run : IsRun g order frozen (with_faults values faults) times
   pub is : v ≤ of times
 
--- so it is of each latest time
+-- each latest time is reached so
 pub record AreReached (g : Graph) (order : List ℕ) (frozen : List (Option ℕ)) (values : List Bool) (late : ℕ → Times)
     (n : ℕ) : Type 0 where
   pub items : (x : ℕ) → x < item_count g → IsReached g order frozen values n (λ t. time_in t x) (time_in (late n) x)
@@ -42,6 +42,7 @@ pub record AreReached (g : Graph) (order : List ℕ) (frozen : List (Option ℕ)
       (unfrozen_time g order (with_faults values []) (late n) x)
   pub ends : (p : ℕ) → p < process_count g → IsReached g order frozen values n (λ t. end_in t p) (end_in (late n) p)
 
+-- each latest time with n faults is reached in some run of the track with no more
 abbrev pub LatestAreReached : Type 0
 LatestAreReached =
     (g : Graph) (order : List ℕ) (frozen : List (Option ℕ)) (values : List Bool) (late : ℕ → Times) (n : ℕ) →
@@ -69,6 +70,7 @@ pub record HasGreatest (g : Graph) (order : List ℕ) (frozen : List (Option ℕ
   pub is_excess : IsGreatest g order frozen (excess_in_run g) excess
   pub is_worst : IsGreatest g order frozen (λ t. t.finish) worst
 
+-- the greatest finish and the greatest excess of all runs are those of the latest times of the tracks
 abbrev pub LatestAreGreatest : Type 0
 LatestAreGreatest = (g : Graph) (urgency order : List ℕ) (frozen : List (Option ℕ)) (tracks : List (List Bool))
     (lates : ℕ → ℕ → Times) →

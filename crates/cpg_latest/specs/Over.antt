@@ -8,7 +8,7 @@ use Rattle.cpg_run.specs.Run.{end_in}
 use Rattle.cpg_latest.specs.Lanes.{IsUnfrozenStart, last_course, unfrozen_send}
 use Rattle.cpg_latest.specs.Tracks.{track_at}
 
--- the greatest of what some of the first numbers have, and None where none has any
+-- the greatest time of those of the first `count` numbers that act, and None if none acts
 pub record IsLatestOver (count : ℕ) (Acts : ℕ → Type 0) (Is : ℕ → ℕ → Type 0) (latest : Option ℕ) : Type 0 where
   pub reached : (time : ℕ) → latest ≡ Some time → (i : ℕ) × (i < count) × Acts i × Is i time
   pub above : (i : ℕ) → i < count → Acts i → (time : ℕ) × (most : ℕ) × Is i time × (latest ≡ Some most) × (time ≤ most)
@@ -17,23 +17,24 @@ pub record IsLatestOver (count : ℕ) (Acts : ℕ → Type 0) (Is : ℕ → ℕ 
 abbrev pub lane_at : List (List ProgressState) → ℕ → List ProgressState
 lane_at lanes i = get_or lanes i []
 
--- what its last course has to tell a start
+-- what the last course of a lane has to give for a start
 pub record TellsStart (g : Graph) (courses : List ProgressState) : Type 0 where
   pub count : length courses ≡ g.faults + 1
   pub ready : length (last_course g courses).ready ≡ length g.nodes
   pub small : AreSmall (last_course g courses).known
 
--- and when an item is sent
+-- what the last course of a lane has to give when an item is sent
 pub record TellsSend (g : Graph) (values : List Bool) (p : ℕ) (courses : List ProgressState) : Type 0 where
   pub count : length courses ≡ g.faults + 1
   pub free : length (last_course g courses).free ≡ length g.nodes
   pub early : active g values p ≡ true → end_in (last_course g courses).known p < 2 ^ 59
 
--- so it is of each track
+-- each lane gives this for a start
 pub record TellStarts (g : Graph) (tracks : List (List Bool)) (lanes : List (List ProgressState)) : Type 0 where
   pub count : length lanes ≡ length tracks
   pub each : (i : ℕ) (d : List ProgressState) → i < length tracks → TellsStart g (get_or lanes i d)
 
+-- each lane gives this when an item is sent
 pub record TellSends (g : Graph) (tracks : List (List Bool)) (p : ℕ) (lanes : List (List ProgressState)) : Type 0 where
   pub count : length lanes ≡ length tracks
   pub each : (i : ℕ) (d : List ProgressState) → i < length tracks → TellsSend g (track_at tracks i) p (get_or lanes i d)

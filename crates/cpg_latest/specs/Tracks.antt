@@ -12,7 +12,7 @@ use Rattle.cpg_latest.specs.Latest.{AreLatest, with_faults}
 abbrev pub track_at : List (List Bool) → ℕ → List Bool
 track_at tracks i = get_or tracks i []
 
--- of each track those of each number of faults, under the same frozen times
+-- the latest times of each track with each number of faults, all under the same frozen times
 pub record AreLatestOf (g : Graph) (order : List ℕ) (frozen : List (Option ℕ)) (tracks : List (List Bool))
     (lates : ℕ → ℕ → Times) : Type 0 where
   pub all : AreTracks g tracks
@@ -26,7 +26,7 @@ acts_in g tracks x i = item_active g (track_at tracks i) (item_at g x)
 abbrev pub unfrozen_in : Graph → List ℕ → List (List Bool) → (ℕ → ℕ → Times) → ℕ → ℕ → ℕ
 unfrozen_in g order tracks lates x i = unfrozen_time g order (with_faults (track_at tracks i) []) (lates i g.faults) x
 
--- a frozen item has the latest of these, or no time where it is active in no track
+-- a frozen item has the latest of these times, or no time if it is active in no track
 pub record IsLatestFrozen (g : Graph) (order : List ℕ) (tracks : List (List Bool)) (lates : ℕ → ℕ → Times) (x : ℕ)
     (frozen : Option ℕ) : Type 0 where
   pub reached : (time : ℕ) → frozen ≡ Some time →
@@ -47,6 +47,6 @@ pub record AreLatestFrozen (g : Graph) (order : List ℕ) (tracks : List (List B
 abbrev pub latest_finish : Graph → List (List Bool) → (ℕ → ℕ → Times) → ℕ
 latest_finish g tracks lates = greatest (map (λ i. (lates i g.faults).finish) (numbers_below (length tracks)))
 
--- and how far an end in them is past its due
+-- how far an end of the tracks is past its due at most
 abbrev pub latest_excess : Graph → List (List Bool) → (ℕ → ℕ → Times) → ℕ
 latest_excess g tracks lates = greatest (map (λ i. excess_in_run g (lates i g.faults)) (numbers_below (length tracks)))

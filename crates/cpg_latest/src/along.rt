@@ -42,7 +42,7 @@ fn settle(frozen: &mut FrozenTimes, item: u32, latest: Option<u64>)
     }
 }
 
-/// The latest start of a process over all tracks if it isn't frozen, and `None` exactly if it is never active.
+/// The latest start of a process over all tracks as if it were not frozen, and `None` exactly if it is never active.
 fn latest_start(
     setting: &Setting<'_>,
     asked: &[Asked<'_>],
@@ -78,6 +78,7 @@ fn settle_start(
     ensures settled { AreSettledOf setting.now.problem.now setting.now.order.now (IsDone setting.now.problem.now setting.now.order.now process 0) frozen.new }
     ensures others { IsSettledBy process frozen.old frozen.new }
 {
+    // the start isn't frozen, so no time is set
     if !setting.problem.is_frozen(process) {
         return;
     }
@@ -85,7 +86,8 @@ fn settle_start(
     settle(frozen, process, latest);
 }
 
-/// The latest time of an item of a process over all tracks if it isn't frozen, and `None` exactly if it is never active.
+/// The latest time of an item of a process over all tracks as if it were not frozen, and `None` exactly if it is
+/// never active.
 fn latest_send(
     setting: &Setting<'_>,
     asked: &[Asked<'_>],
@@ -127,6 +129,7 @@ fn settle_send(
     ensures others { IsSettledBy (queued setting.now.problem.now process at) frozen.old frozen.new }
 {
     let item = setting.plan.queue(setting.problem, process)[at];
+    // the item isn't frozen, so no time is set
     if !setting.problem.is_frozen(item) {
         return;
     }
@@ -199,7 +202,7 @@ fn send_all(
     }
 }
 
-/// Goes on in each track over a process and all that it sends.
+/// Adds a process and all that it sends to each track.
 pub(crate) fn step(
     alloc: Global,
     setting: &Setting<'_>,

@@ -15,7 +15,7 @@ use cpg_run::Setting;
 use smallvec::SmallVec;
 use std::alloc::Global;
 
-/// How many live inputs need no memory of their own.
+/// How many live inputs are kept without memory of their own.
 const FEW: usize = 4;
 
 /// What a track says of a process.
@@ -87,6 +87,7 @@ pub(crate) fn is_item_active(
     ensures { result ≡ item_active problem.now scenario.now.values (item_at problem.now item) }
 {
     let processes = problem.processes().len() as u32;
+    // items are numbered: first the processes, then the edges, and then the broadcasts
     if item >= processes + problem.edges().len() as u32 {
         return true;
     }

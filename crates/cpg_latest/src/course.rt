@@ -1,4 +1,4 @@
-//! What is known of the latest times of a track with so many faults.
+//! What is known of the latest times of a track with a number of faults.
 ghost use Rattle.std.specs.Prelude.{◌≡◌, ◌<◌, IfOk, Some, get_or, length, replicate, slice_set};
 ghost use Rattle.cpg_run.specs.Known.{no_times};
 ghost use Rattle.cpg_run.specs.Run.{time_in, end_in};
@@ -7,13 +7,17 @@ use cpg_base::{OutOfMemory, Problem};
 use std::alloc::Global;
 use std::marker::Model;
 
-/// The times and ends that are known so far, by node when it is ready for its next process but for what decides that one, and
-/// by node from when on its slots are free, in time units.
+/// The times and ends that are known so far; for each node when it is ready for its next process, apart from what
+/// decides that process; and for each node from when on its slots are free. All are in time units.
 #[derive(Drop)]
 pub(crate) struct LatestCourse {
+    /// The time of each item, if it is known.
     times: Vec<Option<u64>>,
+    /// The end of each process, if it is known.
     ends: Vec<Option<u64>>,
+    /// When each node is ready for its next process, apart from what decides that process.
     ready: Vec<u64>,
+    /// From when on the slots of each node are free.
     free: Vec<u64>,
 }
 
@@ -26,7 +30,7 @@ impl Model for LatestCourse {
 }
 
 impl LatestCourse {
-    /// Nothing is known.
+    /// A course in which nothing is known.
     pub(crate) fn none(alloc: Global, problem: &Problem) -> Result<LatestCourse, OutOfMemory>
         ensures { IfOk result (λ course. course ≡
             record { known = no_times problem.now; ready = replicate (length problem.now.nodes) 0; free = replicate (length problem.now.nodes) 0 }) }
@@ -42,7 +46,7 @@ impl LatestCourse {
         })
     }
 
-    /// The time of an item, or 0 where none is known.
+    /// The time of an item, or 0 if none is known.
     pub(crate) fn time(&self, item: u32) -> u64
         ensures { result ≡ time_in self.now.known item }
     {
@@ -52,7 +56,7 @@ impl LatestCourse {
         }
     }
 
-    /// The end of a process, or 0 where none is known.
+    /// The end of a process, or 0 if none is known.
     pub(crate) fn end(&self, process: u32) -> u64
         ensures { result ≡ end_in self.now.known process }
     {
@@ -62,7 +66,7 @@ impl LatestCourse {
         }
     }
 
-    /// When a node is ready for its next process, but for what decides that one.
+    /// When a node is ready for its next process, apart from what decides that process.
     pub(crate) fn ready(&self, node: u32) -> u64
         requires { node < length self.now.ready }
         ensures { result ≡ get_or self.now.ready node 0 }
@@ -78,7 +82,7 @@ impl LatestCourse {
         self.free[node as usize]
     }
 
-    /// Sets the start and the end of a process. Its node is ready then.
+    /// Sets the start and the end of a process. Its node is ready at the end.
     pub(crate) fn begin(&mut self, process: u32, node: u32, start: u64, end: u64)
         requires start { process < length self.old.known.times }
         requires end { process < length self.old.known.ends }

@@ -44,6 +44,7 @@ fn is_sent(setting: &Setting<'_>, asked: &Asked<'_>, process: u32, item: u32) ->
     ensures unsent { result ≡ false → active setting.now.problem.now asked.now.scenario.now.values process ≡ true
         → item_active setting.now.problem.now asked.now.scenario.now.values (item_at setting.now.problem.now item) ≡ false }
 {
+    // an inactive process sends nothing
     if !asked.acts {
         return false;
     }
@@ -57,7 +58,7 @@ fn is_sent(setting: &Setting<'_>, asked: &Asked<'_>, process: u32, item: u32) ->
 }
 
 impl Lane {
-    /// Nothing is known.
+    /// A lane in which nothing is known.
     pub(crate) fn none(alloc: Global, problem: &Problem) -> Result<Lane, OutOfMemory>
         ensures { IfOk result (λ lane. lane ≡ no_lane problem.now) }
     {
@@ -68,7 +69,7 @@ impl Lane {
         Ok(Lane { courses })
     }
 
-    /// When a process could start with all the faults if it isn't frozen, and `None` exactly if it is inactive.
+    /// When a process could start with all the faults if it were not frozen, and `None` exactly if it is inactive.
     pub(crate) fn start(
         &self,
         setting: &Setting<'_>,
@@ -93,7 +94,8 @@ impl Lane {
         Some(start(setting, course, asked, process, ready))
     }
 
-    /// When an item of a process could be sent with all the faults if it isn't frozen, and `None` exactly if it is inactive.
+    /// When an item of a process could be sent with all the faults if it were not frozen, and `None` exactly if it is
+    /// inactive.
     pub(crate) fn send_time(
         &self,
         setting: &Setting<'_>,
@@ -122,7 +124,7 @@ impl Lane {
         Some(unfrozen_send(setting, course, process))
     }
 
-    /// Starts a process if it is active, and else lets its node wait for what decides it.
+    /// Starts a process if it is active, and otherwise lets its node wait for what decides it.
     pub(crate) fn begin(
         &mut self,
         setting: &Setting<'_>,
@@ -138,6 +140,7 @@ impl Lane {
         requires lane { IsLane setting.now.problem.now (CanBegin setting.now frozen.now process asked.now.scenario.now.values) self.old }
         ensures { IsLane setting.now.problem.now (HasSentTo setting.now frozen.now process 0 0 asked.now.scenario.now.values) self.new }
     {
+        // the latest end with one fault less; the course without faults doesn't use it
         let mut last = 0;
         for faults in 0..self.courses.len() {
             let course = &mut self.courses[faults];

@@ -17,7 +17,7 @@ use cpg_rules::Admitted;
 use cpg_run::{FrozenTimes, Setting};
 use std::alloc::Global;
 
-/// Nothing is known of so many tracks.
+/// Lanes of `count` tracks in which nothing is known.
 fn beginnings(alloc: Global, problem: &Problem, count: usize) -> Result<Vec<Lane>, OutOfMemory>
     ensures { IfOk result (λ lanes. lanes.items ≡ replicate count (no_lane problem.now)) }
 {
@@ -29,9 +29,9 @@ fn beginnings(alloc: Global, problem: &Problem, count: usize) -> Result<Vec<Lane
     Ok(lanes)
 }
 
-/// The greatest excess and the greatest finish of all scenarios under an order in time units, given the outcomes of a graph's tracks.
-/// No scenario is run: the latest times of a track with each number of faults follow from those of earlier processes, in
-/// (processes + edges) * (faults + 1) steps a track.
+/// The greatest excess and the greatest finish of all scenarios under an order, in time units, given the outcomes of
+/// a graph's tracks. No scenario is run. The latest times of a track with each number of faults follow from those of
+/// earlier processes, in (processes + edges) * (faults + 1) steps for each track.
 pub fn latest(
     alloc: Global,
     admitted: &Admitted,

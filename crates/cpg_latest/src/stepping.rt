@@ -14,7 +14,7 @@ use crate::ends::latest_end;
 use crate::waiting::{ready, start};
 use cpg_run::{FrozenTimes, Setting};
 
-/// The frozen time of an item, or 0 where none is set.
+/// The frozen time of an item, or 0 if none is set.
 fn frozen_time(frozen: &FrozenTimes, item: u32) -> u64
     requires { item < length frozen.now }
     ensures { result ≡ frozen_in frozen.now item }
@@ -22,8 +22,8 @@ fn frozen_time(frozen: &FrozenTimes, item: u32) -> u64
     frozen.of(item).unwrap_or(0)
 }
 
-/// Starts a process if it is active, with so many faults, and else lets its node wait for what decides it. Given is its latest end
-/// with one fault less; its latest end is told.
+/// Starts a process if it is active, with a number of faults, and otherwise lets its node wait for what decides it.
+/// Given is the latest end of the process with one fault less. Returns its latest end.
 pub(crate) fn begin(
     setting: &Setting<'_>,
     frozen: &FrozenTimes,
@@ -46,10 +46,12 @@ pub(crate) fn begin(
 {
     let node = setting.problem.node_of(process);
     let ready = ready(setting, course, asked, process);
+    // an inactive process doesn't start, but its node has waited for what decides it
     if !asked.acts {
         course.wait(node, ready);
         return 0;
     }
+    // a frozen process starts at its frozen time, if it could start before
     let unfrozen = start(setting, course, asked, process, ready);
     let start = unfrozen.max(frozen_time(frozen, process));
     let end = latest_end(setting.problem, process, faults, start, last);
@@ -57,7 +59,7 @@ pub(crate) fn begin(
     end
 }
 
-/// When an item could be sent that isn't frozen, by the end of its process and its node's slots.
+/// When an item could be sent if it were not frozen, by the end of its process and the slots of its node.
 pub(crate) fn unfrozen_send(setting: &Setting<'_>, course: &LatestCourse, process: u32) -> u64
     requires setting { IsSetting setting.now }
     requires process { process < process_count setting.now.problem.now }

@@ -40,6 +40,7 @@ fn input_there(problem: &Problem, plan: &Plan, course: &LatestCourse, edge: u32)
     ensures { result ≡ input_there problem.now course.now.known edge }
 {
     let sender = problem.source(edge);
+    // a message is there with its frame, and an edge on one node once the sender has ended
     if problem.is_message(edge) {
         frame_there(
             problem,
@@ -70,6 +71,7 @@ fn heard_there(
 {
     let process = problem.process_of(condition);
     let sender = problem.node_of(process);
+    // the node's own process has only to end; another node's condition comes in a frame
     if sender == node {
         course.end(process)
     } else {
@@ -159,7 +161,7 @@ pub(crate) fn ready(
     before.max(heard(setting, course, asked, process))
 }
 
-/// When an active process could start that isn't frozen, given when its node is ready for it.
+/// When an active process could start if it were not frozen, given when its node is ready for it.
 pub(crate) fn start(
     setting: &Setting<'_>,
     course: &LatestCourse,

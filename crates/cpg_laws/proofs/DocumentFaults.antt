@@ -1,4 +1,4 @@
--- The faults of a graph file are those of its document, and the first of them is told.
+-- The faults of a graph file are those of its document, and the first of them is reported.
 use Rattle.std.proofs.Common.{◌≡◌, ◌↔◌, ℕ, List, [], ◌∷◌, ◌++◌, Option, Some, None, Ok, Err, Contains, refl, sym, ap}
 use Rattle.std.proofs.Common.{◌∙◌, subst, inl, inr}
 use Rattle.std.proofs.lemmas.List.Elements.{Contains-append_left, Contains-append_right}
@@ -132,6 +132,7 @@ module _ (bytes : List ℕ) where
       let (faultless, read) = read_where (faults_of bytes) (problem_of bytes) (graph_files_show_first_faults bytes) in
       (λ h fault faulty. faultless h fault (back fault faulty), λ none. read (λ fault c. none fault (there fault c)))
 
+-- a graph file is rejected by the first fault of its document
 pub files_are_refused_by_document : FilesAreRefusedByDocument
 files_are_refused_by_document bytes = record {
   faults = file_faults_are bytes;

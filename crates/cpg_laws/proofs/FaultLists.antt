@@ -1,4 +1,4 @@
--- What stands in a list of faults: what holds of each of them, and which of them are there.
+-- Lists of faults: facts that hold for each of them, and which of them are there.
 use Rattle.std.proofs.Common.{◌≡◌, ℕ, zero, suc, ◌+◌, Bool, true, false, cond, ◌||◌, List, [], ◌∷◌, ◌++◌, Some, is_some}
 use Rattle.std.proofs.Common.{Contains, map, position, slice_get, refl, sym, ap, ◌∙◌, subst, ⊎_elim, arith}
 use Rattle.std.proofs.Common.{add-zero, zero-add}
@@ -20,24 +20,29 @@ Stand Q i [] = Unit {0}
 Stand Q i (x ∷ xs) = Q i x × Stand Q (i + 1) xs
 
 module _ (P : ReadFault → Type 0) where
+  -- what holds for each fault of a list holds for one that is in it
   pub each_contained : (faults : List ReadFault) → Each P faults → (fault : ReadFault) → Contains faults fault → P fault
   each_contained [] h fault c = absurd (Contains-nil fault c)
   each_contained (f ∷ faults) h fault c =
       ⊎_elim (λ same. subst P same h.0) (λ rest. each_contained faults h.1 fault rest) (Contains-cases f faults fault c)
 
+  -- what holds for each fault of two lists holds for each of both together
   pub each_joined : (faults others : List ReadFault) → Each P faults → Each P others → Each P (faults ++ others)
   each_joined [] others h k = k
   each_joined (f ∷ faults) others h k = (h.0, each_joined faults others h.1 k)
 
+  -- what holds for a fault if a test fails holds for each of the faults that the test leaves
   pub each_unless : (b : Bool) (fault : ReadFault) → (b ≡ false → P fault) → Each P (unless b fault)
   each_unless true fault h = tt
   each_unless false fault h = (h refl, tt)
 
+  -- if one fact implies another for each fault, so it does for a list
   pub each_weaker : (Q : ReadFault → Type 0) → ((fault : ReadFault) → P fault → Q fault) → (faults : List ReadFault) →
       Each P faults → Each Q faults
   each_weaker Q weaker [] h = tt
   each_weaker Q weaker (f ∷ faults) h = (weaker f h.0, each_weaker Q weaker faults h.1)
 
+  -- what holds for the faults of each element holds for those of the whole list
   pub each_of_each : {T : Type 0} (Q : ℕ → T → Type 0) (faults : ℕ → T → List ReadFault) →
       ((i : ℕ) (x : T) → Q i x → Each P (faults i x)) → (i : ℕ) (xs : List T) → Stand Q i xs →
       Each P (of_each faults i xs)
@@ -45,6 +50,7 @@ module _ (P : ReadFault → Type 0) where
   each_of_each Q faults each i (x ∷ xs) h =
       each_joined (faults i x) (of_each faults (i + 1) xs) (each i x h.0) (each_of_each Q faults each (i + 1) xs h.1)
 
+-- if the test fails, the fault is there
 pub unless_contains : (b : Bool) (fault : ReadFault) → b ≡ false → Contains (unless b fault) fault
 unless_contains true fault e = absurd (false≢true (sym e))
 unless_contains false fault e = Contains-first fault []
@@ -78,6 +84,7 @@ module _ {T : Type 0} where
       Contains-append_right (faults i y) (of_each faults (i + 1) ys) fault
       (contains_from faults fault (i + 1) k ys x e (subst (λ n. Contains (faults n x) fault) (onward i k) c))
 
+  -- a fault of the element at a place is among those of the whole list
   pub of_each_contains : (faults : ℕ → T → List ReadFault) (fault : ReadFault) (k : ℕ) (xs : List T) (x : T) →
       slice_get xs k ≡ Some x →
       Contains (faults k x) fault →
@@ -85,6 +92,7 @@ module _ {T : Type 0} where
   of_each_contains faults fault k xs x e c =
       contains_from faults fault 0 k xs x e (subst (λ n. Contains (faults n x) fault) (sym (zero-add k)) c)
 
+-- the faults of a mapped list are those of the images
 pub of_each_mapped : {S T : Type 0} (faults : ℕ → T → List ReadFault) (f : S → T) (i : ℕ) (xs : List S) →
     of_each faults i (map f xs) ≡ of_each (λ i x. faults i (f x)) i xs
 of_each_mapped faults f i [] = refl
@@ -101,5 +109,6 @@ some_from test i (x ∷ xs) = by (test x) (some_from test (i + 1) xs)
     by true h = refl
     by false h = h
 
+-- an element that passes has a place exactly if some element passes
 pub some_position : {T : Type 0} (test : T → Bool) (xs : List T) → is_some (position test xs) ≡ list_any test xs
 some_position test xs = ap is_some (position_from-zero test xs) ∙ some_from test 0 xs

@@ -160,6 +160,7 @@ elements_are_bad ms table members are =
     (λ i x e. row_is_bad ms (row_of table i x) (are i ∙ e)) 0 members
     (stand_all (λ i x. slice_get members i ≡ Some x) members (λ k x e. e))
 
+-- each fault in the list of field faults is a bad field of the document
 pub fields_are_bad : (ms : Members) → Each (IsBad ms) (field_faults ms)
 fields_are_bad ms =
     each_joined (IsBad ms) _ _ (row_is_bad ms (top_of ms) refl)
@@ -173,6 +174,8 @@ module _ (ms : Members) (fault : ReadFault) where
   abbrev part : Table → Key → List Field → List ReadFault
   part table key fields = bad_elements table fields (elements ms key)
 
+  -- a fault of a row's fields is among the field faults of the document; by cases on the table, each with its part of
+  -- the list
   row_there : (table : Table) (i : ℕ) (row : Members) → table_at ms table i ≡ Some row →
       Contains (bad_in (fields_of table) (row_of table i row)) fault →
       Contains (field_faults ms) fault
@@ -198,6 +201,7 @@ module _ (ms : Members) (fault : ReadFault) where
       (Contains-append_right (part tables.Process Process process_fields) _ fault
       (of_each_contains (λ i x. bad_in edge_fields (row_of tables.Edge i x)) fault i (elements ms Edge) row at c))))
 
+-- each bad field of the document is in the list of field faults
 pub bad_field_there : (ms : Members) (place : Place) → IsBadField ms place → Contains (field_faults ms) (BadField place)
 bad_field_there ms place (members, at, inl (f, c, same, e)) =
     row_there ms (BadField place) place.table place.index members at
@@ -214,6 +218,7 @@ bad_field_there ms place (members, at, inr (unknown, other)) =
 
 -- ---- a document has no fault of a field if its fields are good
 
+-- a document with good fields has no field faults
 pub good_fields : (ms : Members) → HasGoodFields ms → field_faults ms ≡ []
 good_fields ms good = by (field_faults ms) (fields_are_bad ms)
   where
@@ -221,6 +226,7 @@ good_fields ms good = by (field_faults ms) (fields_are_bad ms)
     by [] h = refl
     by (f ∷ faults) h = absurd (good h.0.0 h.0.2)
 
+-- a document without field faults has good fields
 pub fields_are_good : (ms : Members) → field_faults ms ≡ [] → HasGoodFields ms
 fields_are_good ms none place bad = Contains-nil (BadField place)
     (subst (λ faults. Contains faults (BadField place)) none (bad_field_there ms place bad))

@@ -17,6 +17,7 @@ again zero xs = refl
 again (suc n) [] = refl
 again (suc n) (x ∷ xs) = ap (λ l. x ∷ l) (again n xs)
 
+-- a proper front of a pack is rejected where it ends
 pub fronts_of_packs : FrontsOfPacksAreRefused
 fronts_of_packs t n h l =
     let front : length (take n (spelling t)) ≡ n = omega (arith, length-take n (spelling t), l) in

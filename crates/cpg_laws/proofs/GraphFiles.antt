@@ -136,7 +136,7 @@ module _ {T : Type 0} (row : DocumentRow) (key : Key) (as_type : Data → Option
   default_first value = bind_last (of_field row key false as_type (value_at row key)) (optional as_type row key)
       (λ found. unwrap_or found value) optional_first
 
-  -- what is found at a key, or its default, if what stands there is good
+  -- the value at a key, or its default, if what stands there is good
   default_by : (value : T) (o : Option Data) (x : T) →
       (optional_in row key as_type o >>= (λ found. pure (unwrap_or found value))) ≡ Ok x →
       x ≡ unwrap_or (option_and_then as_type o) value
@@ -237,6 +237,7 @@ rows_of ms key table fields element_at first members e =
     subst (λ rows. IsFirst (bad_elements table fields rows) (read_rows table element_at members))
     (default_is (top_of ms) key as_tables [] members e) (rows_first table fields element_at first members)
 
+-- reading a document's fields is rejected by the first of its field faults
 pub fields_first : (ms : Members) → IsFirst (field_faults ms) (read_raw ms)
 unfolding read_raw
 fields_first ms =
@@ -408,6 +409,7 @@ document_first : (r : Reading Members) → IsFirst (document_faults r) (r >>= re
 document_first (Err fault) = refl
 document_first (Ok ms) = problem_first ms
 
+-- reading a graph file is rejected by the first of its faults
 pub graph_files_show_first_faults : GraphFilesShowFirstFaults
 unfolding problem_of
 graph_files_show_first_faults bytes = document_first (document_of bytes)

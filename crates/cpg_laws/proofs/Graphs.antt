@@ -36,6 +36,7 @@ none g answer other acyclic = record {
 acyclic : (g : Graph) (order : List ℕ) → IsOrdered g order → HasCycle g → ⊥
 acyclic g order is = no_cycle g order is.topological
 
+-- a graph is rejected for a cycle exactly if it has one
 pub cycles_are_refused_first : CyclesAreRefusedFirst
 cycles_are_refused_first g (Ok a) may kept =
     none g (Ok a) (λ walk e. cc) (subst (λ g. HasCycle g → ⊥) may.0 (no_cycle a.graph a.order may.1.topological))
@@ -57,6 +58,7 @@ cycles_are_refused_first g (Err OutOfMemory) may kept = absurd (kept refl)
 
 -- A refusal tells the first cause.
 
+-- a fault that the checks show is the first cause: the checks before it have passed
 first : (g : Graph) (fault : RuleFault) → ShowsFault g fault → IsFirstCause g fault
 first g (Cycle walk) h = h
 first g TooManyTracks h = (acyclic g h.0 h.1, h.2)
@@ -187,6 +189,7 @@ module _ (g : Graph) where
     ]
   ]
 
+  -- two causes of two live inputs name one join and one scenario: each is the first one
   same_two : (p q : ℕ) (s t : Scenario) → HasTwoInputs g p s → HasTwoInputs g q t →
       TwoAlternatives p s ≡ TwoAlternatives q t
   same_two p q s t h k =
@@ -196,6 +199,8 @@ module _ (g : Graph) where
       λ i. TwoAlternatives (join i) (one_least g h.order h.urgency.all (λ u. has_two_live g u.values q ≡ true) s t
       (subst (λ r. IsLeast g h.order (λ u. has_two_live g u.values r ≡ true) s) join h.two.least) least i)
 
+  -- two first causes of one kind are equal; by cases on the two kinds, of which those with different ranks can't be,
+  -- and in each other case both are the first of their kind
   alike : (fault other : RuleFault) → rank_of_fault fault ≡ rank_of_fault other → 0 < rank_of_fault fault →
       rank_of_fault fault < 6 → IsFirstCause g fault → IsFirstCause g other → fault ≡ other
   alike (Cycle walk) other e l m h k = absurd (omega (arith, l))
@@ -238,6 +243,7 @@ module _ (g : Graph) where
   alike (BadOrder p) (TooBig b) e l m h k = absurd (omega (arith, e))
   alike (BadOrder p) OutOfMemory e l m h k = absurd (omega (arith, e))
 
+-- a graph is rejected for its first cause
 pub graphs_show_first_causes : GraphsShowFirstCauses
 graphs_show_first_causes g = record {
   first = first g;

@@ -1,4 +1,4 @@
--- What is beyond its limit is so in the document.
+-- The limit faults of a graph are those of its document.
 use Rattle.std.proofs.Common.{◌≡◌, ℕ, zero, suc, ◌<◌, ℤ, pos, Bool, true, false, List, [], ◌∷◌, ◌++◌, Option, Some}
 use Rattle.std.proofs.Common.{None, is_some, unwrap_or, option_and_then, option_map, Contains, length, map}
 use Rattle.std.proofs.Common.{filter, cond, slice_get, refl, sym, ap, ◌∙◌, subst, inl, inr, true≢false, le-leb}
@@ -36,6 +36,7 @@ use Rattle.cpg_laws.proofs.FaultLists.{of_each_contains, of_each_mapped}
 
 -- ---- what stands at a place
 
+-- in a document with good fields, what stands at each field of a table is good
 pub good_value : (ms : Members) → HasGoodFields ms → (t : Table) (i : ℕ) (row : Members) → table_at ms t i ≡ Some row →
     (f : Field) →
     Contains (fields_of t) f →
@@ -43,10 +44,12 @@ pub good_value : (ms : Members) → HasGoodFields ms → (t : Table) (i : ℕ) (
 good_value ms good t i row at f c = true_from_ne_false (is_good_value f (get_member (text_of f.key) row))
     (λ e. good (record { table = t; index = i; key = f.key }) (row, at, inl (f, c, refl, e)))
 
+-- what is found at a key of a table of the document is what the table has there
 pub found_in : (ms : Members) (t : Table) (i : ℕ) (row : Members) (key : Key) → table_at ms t i ≡ Some row →
     found_at ms t i key ≡ get_member (text_of key) row
 found_in ms t i row key at = ap (λ o. option_and_then (get_member (text_of key)) o) at
 
+-- if something is found at a key of a table, the table is there and has it
 pub found_parts : (o : Option Members) (text : List ℕ) (d : Data) → option_and_then (get_member text) o ≡ Some d →
     (row : Members) × (o ≡ Some row) × (get_member text row ≡ Some d)
 found_parts None text d e = cc
@@ -125,6 +128,7 @@ rows_over ms t said numbers rows same are =
     0 rows
     (stand_all (λ i row. slice_get rows i ≡ Some row) rows (λ k row e. e)))
 
+-- a number out of its range is among the faults of its row; by induction on the ranges
 number_there : (t : Table) (i : ℕ) (row : Members) (z : ℤ) (rs : List Range) (r : Range) → Contains rs r →
     get_member (text_of r.key) row ≡ Some (integer z) →
     is_within r.low r.high z ≡ false →
@@ -192,6 +196,7 @@ sources_are ms good = edges_are_conditional (elements ms Edge) (λ e c.
 -- ---- the document
 
 module _ (ms : Members) (good : HasGoodFields ms) where
+  -- each fault in the list of limit faults is something in the document beyond its limit
   pub limits_over : Each (IsOver ms) (limit_faults (graph_in ms))
   limits_over =
       each_joined (IsOver ms) _ _ (each_unless (IsOver ms) _ (OverLimit Nodes)
@@ -289,6 +294,7 @@ module _ (ms : Members) (good : HasGoodFields ms) where
         (map edge_in (elements ms Edge)) (edge_in row)
         (slice_get-map edge_in (elements ms Edge) i ∙ ap (option_map edge_in) at) c))
 
+  -- each thing in the document beyond its limit is in the list of limit faults
   pub limit_there : (what : What) → IsOverLimit ms what → Contains (limit_faults (graph_in ms)) (OverLimit what)
   limit_there Nodes l =
       Contains-append_left node_count _ (OverLimit Nodes) (too_many_there node_in MOST_NODES Nodes (elements ms Node) l)

@@ -66,7 +66,7 @@ same_bytes : (a b : List ℕ) → bytes_eq a b ≡ true → a ≡ b
 same_bytes a b e = (bytes_eq-Decides a b).0 e
 
 module _ (ms : Members) (good : HasGoodFields ms) where
-  -- a name of a table: what is read there is what the document says
+  -- a name of a table: the name that is read is the one that the document has
   name_stands : (t : Table) (i : ℕ) (row : Members) (key : Key) → table_at ms t i ≡ Some row →
       Contains (fields_of t) (needed_name key) →
       found_at ms t i key ≡ Some (string (name_in row key))
@@ -82,6 +82,8 @@ module _ (ms : Members) (good : HasGoodFields ms) where
       let stands = name_stands t i row key at field in
       (row, at, let same : name_in row key ≡ name = cc in same)
 
+  -- the rows of a table of the document that have a name at a key
+  -- `t`, `key`, `field`: a table, and a key of it that holds a name; `rows`, `are`: its rows in the document
   module _ (t : Table) (key : Key) (rows : List Members) (are : (i : ℕ) → table_at ms t i ≡ slice_get rows i)
       (field : Contains (fields_of t) (needed_name key)) where
     abbrev names : List (List ℕ)
@@ -146,6 +148,7 @@ module _ (ms : Members) (t : Table) (key : Key) (own : is_own_name t key ≡ tru
   abbrev StandsBefore : ℕ → List ℕ → Type 0
   StandsBefore i name = (j : ℕ) × (j < i) × (found_at ms t j key ≡ Some (string name))
 
+  -- each name that is listed as double stands twice in the document; by induction on the names
   doubles_are_twice : (i : ℕ) (before names : List (List ℕ)) →
       ((name : List ℕ) → list_any (bytes_eq name) before ≡ true → StandsBefore i name) →
       Stand (λ i name. found_at ms t i key ≡ Some (string name)) i names →
@@ -165,6 +168,8 @@ module _ (ms : Members) (t : Table) (key : Key) (own : is_own_name t key ≡ tru
       more other (inr same) = (i, omega arith, stand.0 ∙ ap (λ n. Some (string n)) (sym same))
 
 module _ (t : Table) (key : Key) where
+  -- the k-th name is listed as double if it stands among the names before the list, or at an earlier place of the
+  -- list; by induction on the names and on k
   double_from : (i k : ℕ) (before names : List (List ℕ)) (name : List ℕ) → slice_get names k ≡ Some name →
       (list_any (bytes_eq name) before ≡ true) ⊎
       ((j : ℕ) × (j < k) × (slice_get names j ≡ Some name)) →
@@ -304,6 +309,7 @@ module _ (ms : Members) (good : HasGoodFields ms) where
       (doubles_are_twice ms t key own 0 [] (map (λ row. name_in row key) rows) (λ name e. absurd (true≢false (sym e)))
       (names_stand ms good t key rows are field))
 
+  -- each fault in the list of double names is a name that stands twice in the document
   pub doubles_stand : Each (IsTwice ms) (double_faults (graph_in ms))
   doubles_stand =
       each_joined (IsTwice ms) _ _
@@ -328,6 +334,8 @@ module _ (ms : Members) (good : HasGoodFields ms) where
       (found_name ms good t key rows are field i name here) l
       (found_name ms good t key rows are field j name there))
 
+  -- a name that an earlier row of its own table has too is in the list of double names; by cases on the tables, each
+  -- with its part of the list
   double_in : (t : Table) (key : Key) → is_own_name t key ≡ true → (i j : ℕ) (name : List ℕ) →
       found_at ms t i key ≡ Some (string name) → j < i →
       found_at ms t j key ≡ Some (string name) →
@@ -353,6 +361,7 @@ module _ (ms : Members) (good : HasGoodFields ms) where
       (process_names (map process_in (elements ms Process))) processes_named i j name here l there)))
   double_in t key own i j name here l there = absurd (true≢false (sym own))
 
+  -- each name that stands twice in the document is in the list of double names
   pub double_there : (at : Place) → IsDouble ms at → Contains (double_faults (graph_in ms)) (DoubleName at)
   double_there at (inl (own, name, here, j, l, there)) = double_in at.table at.key own at.index j name here l there
   double_there at (inr (same, twice)) = subst (λ p. Contains (double_faults (graph_in ms)) (DoubleName p)) (sym same)
@@ -411,6 +420,7 @@ module _ (ms : Members) (good : HasGoodFields ms) where
   abbrev stands_in : Key → ℕ → Members → Type 0
   stands_in key i row = slice_get (elements ms key) i ≡ Some row
 
+  -- each fault in the list of unknown names is a name in the document that names nothing
   pub unknowns_stand : Each (IsNameless ms) (unknown_faults (graph_in ms))
   unknowns_stand =
       each_joined (IsNameless ms) _ _ (subst (Each (IsNameless ms)) (sym
@@ -461,10 +471,13 @@ module _ (ms : Members) (good : HasGoodFields ms) where
   name_told names name other t i key same e = unless_contains (is_some (position (bytes_eq other) names))
       (UnknownName (place t i key)) (ap (λ n. is_some (position (bytes_eq n) names)) same ∙ e)
 
+  -- a name at a key that no name of the other table is equal to is an unknown name; by cases on the four keys that
+  -- refer to other tables, each with its part of the list
   unknown_in : (t : Table) (key : Key) (others : Table) → named_in t key ≡ Some others → (i : ℕ) (name : List ℕ) →
       found_at ms t i key ≡ Some (string name) →
       ((j : ℕ) → found_at ms others j Name ≢ Some (string name)) →
       Contains (unknown_faults (graph_in ms)) (UnknownName (place t i key))
+  -- a slot's node: the first part
   unknown_in tables.Slot Node others named i name found none =
       let (row, at, same) = name_is ms good tables.Slot i Node name (0, omega arith, refl) found in
       let is : others ≡ tables.Node = cc in
@@ -475,6 +488,7 @@ module _ (ms : Members) (good : HasGoodFields ms) where
       (slice_get-map slot_in (elements ms Slot) i ∙ ap (option_map slot_in) at)
       (name_told (node_names ms good) name (name_in row Node) tables.Slot i Node same
       (node_missing name (subst (λ t. (j : ℕ) → found_at ms t j Name ≢ Some (string name)) is none))))
+  -- a process's node: the second part
   unknown_in tables.Process Node others named i name found none =
       let (row, at, same) = name_is ms good tables.Process i Node name (1, omega arith, refl) found in
       let is : others ≡ tables.Node = cc in
@@ -486,6 +500,7 @@ module _ (ms : Members) (good : HasGoodFields ms) where
       (slice_get-map process_in (elements ms Process) i ∙ ap (option_map process_in) at)
       (name_told (node_names ms good) name (name_in row Node) tables.Process i Node same
       (node_missing name (subst (λ t. (j : ℕ) → found_at ms t j Name ≢ Some (string name)) is none)))))
+  -- the start of an edge: the third part, first half
   unknown_in tables.Edge From others named i name found none =
       let (row, at, same) = name_is ms good tables.Edge i From name (0, omega arith, refl) found in
       let is : others ≡ tables.Process = cc in
@@ -500,6 +515,7 @@ module _ (ms : Members) (good : HasGoodFields ms) where
       (unknown process_texts (name_in row To) tables.Edge i To) (UnknownName (place tables.Edge i From))
       (name_told process_texts name (name_in row From) tables.Edge i From same
       (process_missing name (subst (λ t. (j : ℕ) → found_at ms t j Name ≢ Some (string name)) is none)))))))
+  -- the end of an edge: the third part, second half
   unknown_in tables.Edge To others named i name found none =
       let (row, at, same) = name_is ms good tables.Edge i To name (1, omega arith, refl) found in
       let is : others ≡ tables.Process = cc in
@@ -514,8 +530,10 @@ module _ (ms : Members) (good : HasGoodFields ms) where
       (unknown process_texts (name_in row To) tables.Edge i To) (UnknownName (place tables.Edge i To))
       (name_told process_texts name (name_in row To) tables.Edge i To same
       (process_missing name (subst (λ t. (j : ℕ) → found_at ms t j Name ≢ Some (string name)) is none)))))))
+  -- no other key refers to a table
   unknown_in t key others named i name found none = absurd (nothing others named)
 
+  -- each name in the document that names nothing is in the list of unknown names
   pub unknown_there : (at : Place) → IsUnknown ms at → Contains (unknown_faults (graph_in ms)) (UnknownName at)
   unknown_there at (inl (others, named, name, found, none)) =
       unknown_in at.table at.key others named at.index name found none

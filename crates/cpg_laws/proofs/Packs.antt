@@ -16,6 +16,7 @@ answered bytes (Err n) e = inr (n, refused_is_bad bytes n e)
 at_most : (bytes : List ℕ) (n m : ℕ) → IsBadPack bytes n → IsBadPack bytes m → n ≤ m
 at_most bytes n m bad other = other.longest n bad.place bad.goes_on
 
+-- bytes are a pack, or are none from one place on
 pub packs_are_refused_at_one_place : PacksAreRefusedAtOnePlace
 packs_are_refused_at_one_place bytes = record {
   some = answered bytes (read bytes) refl;

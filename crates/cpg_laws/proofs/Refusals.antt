@@ -191,6 +191,8 @@ number_rows_rise table numbers xs order = from_below (2 ∷ 4 ∷ table_number t
     (λ i x. out_of_range table i (numbers x)) (λ i x. number_row_rises table i (numbers x) (order x))
     (λ i. inr (refl, inr (refl, inl (omega arith)))) 0 xs)
 
+-- the limit faults of a document come in the order of their ranks: nodes, slots, processes, edges, and then the
+-- numbers out of range
 limit_faults_rise : (g : RawGraph) → Rise (2 ∷ []) (limit_faults g) (3 ∷ [])
 limit_faults_rise g =
     one_more (nat_le (length g.nodes) MOST_NODES) (OverLimit Nodes) _ (2 ∷ []) (3 ∷ []) (inr (refl, tt))
@@ -371,6 +373,7 @@ first_is_told low high (f ∷ faults) r h told fault first = by (first_or_same l
     by (inr (inl less)) = absurd (let le = first.kinds f (here f faults) in omega (arith, less, le))
     by (inr (inr l)) = absurd (first.places f (here f faults) l.0 l.1)
 
+-- a graph file is rejected by the one fault that stands before all others
 pub refusals_are_first : RefusalsAreFirst
 refusals_are_first bytes =
     let rise = document_faults_rise (document_of bytes) in

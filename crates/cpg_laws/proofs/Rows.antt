@@ -5,6 +5,7 @@ use Rattle.cpg_run.proofs.RowLaw.{columns_within_views}
 use Rattle.cpg_run.proofs.RowRules.{row_keeps}
 use Rattle.cpg_laws.specs.Tables.{FormedRowsHaveFewColumns}
 
+-- a formed row has no more columns than there are ways in which its variables can stand
 pub formed_rows_have_few_columns : FormedRowsHaveFewColumns
 formed_rows_have_few_columns g tables urgency reached x few activity single l formed =
     columns_within_views g few reached urgency (columns_of tables x) formed

@@ -1,4 +1,4 @@
--- What is faulty in a graph file, kind by kind: said of the document alone, by what stands at its places.
+-- The faults of a graph file, kind by kind, stated over the document alone, by what stands at its places.
 use Rattle.std.specs.Prelude.{ℕ, zero, suc, ◌≡◌, ◌≢◌, ◌<◌, ◌⊎◌, ◌↔◌, ℤ, Bool, true, false, List, [], ◌∷◌, Option, Some}
 use Rattle.std.specs.Prelude.{None, is_some, unwrap_or, option_and_then, Ok, Err, Contains, length, map, filter}
 use Rattle.std.specs.Prelude.{slice_get, if◌then◌else◌}
@@ -46,6 +46,7 @@ found_at ms table i key = option_and_then (get_member (text_of key)) (table_at m
 
 -- ---- bad fields
 
+-- the fields of a table
 abbrev pub fields_of : Table → List Field
 fields_of tables.Top = top_fields
 fields_of tables.Node = node_fields
@@ -63,11 +64,13 @@ abbrev pub HasOtherKey : Members → List Field → Type 0
 HasOtherKey members fields = (text : List ℕ) × (d : Data) × (get_member text members ≡ Some d) ×
     ((f : Field) → Contains fields f → text_of f.key ≢ text)
 
+-- a table of the document has a bad value at the key, or a key that isn't one of the table's
 abbrev pub IsBadField : Members → Place → Type 0
 IsBadField ms place = (members : Members) × (table_at ms place.table place.index ≡ Some members)
     × (HasBadValue members (fields_of place.table) place.key ⊎
     ((place.key ≡ Unknown) × HasOtherKey members (fields_of place.table)))
 
+-- no field of the document is bad
 abbrev pub HasGoodFields : Members → Type 0
 HasGoodFields ms = (place : Place) → IsBadField ms place → ⊥
 
@@ -79,9 +82,11 @@ pub record Range : Type 0 where
   pub low : ℕ
   pub high : ℕ
 
+-- the range of a number between the least and the greatest
 abbrev pub range : Key → ℕ → ℕ → Range
 range key low high = record { key = key; low = low; high = high }
 
+-- the ranges of a table's numbers
 abbrev pub ranges_of : Table → List Range
 ranges_of tables.Top = range Faults 0 MOST_FAULTS ∷ range Deadline 0 LONGEST ∷ []
 ranges_of tables.Node = []
@@ -100,9 +105,11 @@ IsOutOfRange ms place = (r : Range) × Contains (ranges_of place.table) r × (r.
 abbrev pub conditional_edges : Members → List Members
 conditional_edges ms = filter (λ e. is_some (get_member (text_of When) e)) (elements ms Edge)
 
+-- the name at an edge's `from`, and the empty one if there is none
 abbrev pub source_of : Members → List ℕ
 source_of e = unwrap_or (option_and_then as_name (get_member (text_of From) e)) []
 
+-- there are too many of something in the document, or a number is out of its range
 abbrev pub IsOverLimit : Members → What → Type 0
 IsOverLimit ms Nodes = MOST_NODES < length (elements ms Node)
 IsOverLimit ms Slots = MOST_NODES < length (elements ms Slot)
@@ -158,6 +165,7 @@ abbrev pub HasUnknown : Members → Type 0
 HasUnknown ms = (name : List ℕ) × Contains (order_names ms) name ×
     ((j : ℕ) → found_at ms tables.Process j Name ≢ Some (string name))
 
+-- the name at the place names nothing, or the order has a name that no process has
 abbrev pub IsUnknown : Members → Place → Type 0
 IsUnknown ms place = IsUnknownName ms place ⊎ ((place ≡ order_place) × HasUnknown ms)
 
@@ -177,17 +185,23 @@ abbrev pub IsFaultIn : Option Members → ReadFault → Type 0
 IsFaultIn None fault = fault ≡ NotToml
 IsFaultIn (Some ms) fault = IsFaultOf ms fault
 
+-- the bytes of a graph file have the fault
 abbrev pub IsFaulty : List ℕ → ReadFault → Type 0
 IsFaulty bytes fault = IsFaultIn (document bytes) fault
 
--- The faults of a graph file are those of its document. It is refused with a fault exactly if that is the first of
--- them, of which there is one at most, and read as a graph exactly if nothing is faulty.
+-- The faults of a graph file are those of its document. It has at most one first fault. It is refused with a fault
+-- exactly if that is the first, and read as a graph exactly if nothing is faulty.
 pub record IsRefusedByDocument (bytes : List ℕ) : Type 0 where
+  -- the listed faults are those that the document has
   pub faults : (fault : ReadFault) → Contains (faults_of bytes) fault ↔ IsFaulty bytes fault
+  -- the refusal names the first of them
   pub first : (fault : ReadFault) → (problem_of bytes ≡ Err fault) ↔ IsFirstOf (IsFaulty bytes) fault
+  -- there is one first fault at most
   pub one : (fault other : ReadFault) → IsFirstOf (IsFaulty bytes) fault → IsFirstOf (IsFaulty bytes) other →
       fault ≡ other
+  -- a file without faults is read as a graph
   pub read : ((g : Graph) × (problem_of bytes ≡ Ok g)) ↔ ((fault : ReadFault) → IsFaulty bytes fault → ⊥)
 
+-- each graph file is rejected by what its document has
 abbrev pub FilesAreRefusedByDocument : Type 0
 FilesAreRefusedByDocument = (bytes : List ℕ) → IsRefusedByDocument bytes

@@ -43,58 +43,75 @@ pub record Field : Type 0 where
   pub needed : Bool
   pub fits : Data → Bool
 
+-- whether a value fits a field, or may be missing
 abbrev pub is_good_value : Field → Option Data → Bool
 is_good_value f None = not f.needed
 is_good_value f (Some d) = f.fits d
 
+-- whether a value is a name
 abbrev pub is_name : Data → Bool
 is_name d = is_some (as_name d)
 
+-- whether a value is an integer
 abbrev pub is_integer : Data → Bool
 is_integer d = is_some (as_integer d)
 
+-- whether a value is true or false
 abbrev pub is_flag : Data → Bool
 is_flag d = is_some (as_bool d)
 
+-- whether a value is a list of tables
 abbrev pub are_tables : Data → Bool
 are_tables d = is_some (as_tables d)
 
+-- whether a value is a list of names
 abbrev pub are_names : Data → Bool
 are_names d = is_some (as_names d)
 
+-- a field with a name, which has to stand there
 abbrev pub needed_name : Key → Field
 needed_name key = record { key = key; needed = true; fits = is_name }
 
+-- a field with an integer, which has to stand there
 abbrev pub needed_integer : Key → Field
 needed_integer key = record { key = key; needed = true; fits = is_integer }
 
+-- a field with an integer, which may be missing
 abbrev pub integer : Key → Field
 integer key = record { key = key; needed = false; fits = is_integer }
 
+-- a field that is true or false, and may be missing
 abbrev pub flag : Key → Field
 flag key = record { key = key; needed = false; fits = is_flag }
 
+-- a field with a list of tables, which may be missing
 abbrev pub list : Key → Field
 list key = record { key = key; needed = false; fits = are_tables }
 
+-- a field with a list of names, which may be missing
 abbrev pub name_list : Key → Field
 name_list key = record { key = key; needed = false; fits = are_names }
 
+-- the fields of the document's top
 abbrev pub top_fields : List Field
 top_fields = needed_integer Faults ∷ needed_integer Deadline ∷ list Node ∷ list Slot ∷ list Process ∷ list Edge
     ∷ name_list Order ∷ []
 
+-- the fields of a node
 abbrev pub node_fields : List Field
 node_fields = needed_name Name ∷ []
 
+-- the fields of a slot
 abbrev pub slot_fields : List Field
 slot_fields = needed_name Node ∷ needed_integer Length ∷ needed_integer Bytes ∷ []
 
+-- the fields of a process
 abbrev pub process_fields : List Field
 process_fields =
     needed_name Name ∷ needed_name Node ∷ needed_integer Wcet ∷ integer Parts ∷ integer Alpha ∷ integer Chi ∷ integer Mu
     ∷ flag Join ∷ flag Frozen ∷ integer Release ∷ integer Deadline ∷ []
 
+-- the fields of an edge
 abbrev pub edge_fields : List Field
 edge_fields = needed_name From ∷ needed_name To ∷ integer Bytes ∷ flag When ∷ flag Frozen ∷ []
 
@@ -104,9 +121,11 @@ bad_fields row keys [] = unless (are_listed keys row.members) (BadField (place_i
 bad_fields row keys (f ∷ fs) =
     unless (is_good_value f (value_at row f.key)) (BadField (place_in row f.key)) ++ bad_fields row keys fs
 
+-- the bad fields of one table of the document
 abbrev pub bad_in : List Field → DocumentRow → List ReadFault
 bad_in fields row = bad_fields row (map (λ f. f.key) fields) fields
 
+-- the top of a document, as a table
 abbrev pub top_of : Members → DocumentRow
 top_of ms = record { table = tables.Top; index = 0; members = ms }
 
@@ -114,6 +133,7 @@ top_of ms = record { table = tables.Top; index = 0; members = ms }
 abbrev pub elements : Members → Key → List Members
 elements ms key = unwrap_or (option_and_then as_tables (value_at (top_of ms) key)) []
 
+-- the bad fields of each element of a list
 abbrev pub bad_elements : Table → List Field → List Members → List ReadFault
 bad_elements table fields members =
     of_each (λ i ms. bad_in fields (record { table = table; index = i; members = ms })) 0 members
@@ -128,17 +148,21 @@ field_faults ms = bad_in top_fields (top_of ms)
 
 -- ---- what is beyond its limit
 
+-- the fault of more elements than the limit, if there are more
 abbrev pub too_many : {T : Type 0} → ℕ → What → List T → List ReadFault
 too_many limit what xs = unless (nat_le (length xs) limit) (OverLimit what)
 
+-- the numbers of an element that are out of their ranges
 abbrev pub out_of_range : Table → ℕ → List BoundedField → List ReadFault
 out_of_range table i [] = []
 out_of_range table i (n ∷ ns) = unless (is_within n.low n.high n.value)
     (OverLimit (Number (record { table = table; index = i; key = n.key }))) ++ out_of_range table i ns
 
+-- the numbers of each element of a list that are out of their ranges
 abbrev pub all_out_of_range : {T : Type 0} → Table → (T → List BoundedField) → List T → List ReadFault
 all_out_of_range table numbers_of xs = of_each (λ i x. out_of_range table i (numbers_of x)) 0 xs
 
+-- all limits that a graph is beyond: counts, numbers, and then conditions
 abbrev pub limit_faults : RawGraph → List ReadFault
 limit_faults g = too_many MOST_NODES Nodes g.nodes
     ++ (too_many MOST_NODES Slots g.slots
@@ -168,6 +192,7 @@ differ_from earlier (name ∷ names) = not (list_any (bytes_eq name) earlier) &&
 abbrev pub order_place : Place
 order_place = place tables.Top 0 Order
 
+-- the fault of an order with a name twice, if it has one
 abbrev pub order_doubles : List (List ℕ) → List ReadFault
 order_doubles order = unless (differ_from [] order) (DoubleName order_place)
 
@@ -180,18 +205,23 @@ double_faults g = doubles_from tables.Node Name 0 [] g.nodes
 
 -- ---- names that name nothing
 
+-- the fault of a name that isn't among those that it may be, if it isn't
 abbrev pub unknown : List (List ℕ) → List ℕ → Table → ℕ → Key → List ReadFault
 unknown names name table i key = unless (is_some (position (bytes_eq name) names)) (UnknownName (place table i key))
 
+-- the unknown names at the ends of an edge
 abbrev pub unknown_ends : List (List ℕ) → ℕ → RawEdge → List ReadFault
 unknown_ends names i e = unknown names e.from tables.Edge i From ++ unknown names e.to tables.Edge i To
 
+-- whether a name is among some names
 abbrev pub is_known : List (List ℕ) → List ℕ → Bool
 is_known names name = is_some (position (bytes_eq name) names)
 
+-- the fault of an order with a name that no process has, if it has one
 abbrev pub order_unknowns : List (List ℕ) → List (List ℕ) → List ReadFault
 order_unknowns names order = unless (list_all (is_known names) order) (UnknownName order_place)
 
+-- the names that name nothing: at slots, processes and edges, and then in the order
 abbrev pub unknown_faults : RawGraph → List ReadFault
 unknown_faults g = of_each (λ i s. unknown g.nodes s.node tables.Slot i Node) 0 g.slots
     ++ (of_each (λ i p. unknown g.nodes p.node tables.Process i Node) 0 g.processes
@@ -210,6 +240,7 @@ abbrev pub document_faults : Reading Members → List ReadFault
 document_faults (Err fault) = fault ∷ []
 document_faults (Ok ms) = field_faults ms ++ graph_faults (read_raw ms)
 
+-- all faults of the bytes of a graph file, in order
 abbrev pub faults_of : List ℕ → List ReadFault
 faults_of bytes = document_faults (document_of bytes)
 

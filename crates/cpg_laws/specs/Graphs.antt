@@ -35,7 +35,7 @@ abbrev pub CyclesAreRefusedFirst : Type 0
 CyclesAreRefusedFirst = (g : Graph) (answer : Result Admission RuleFault) → MayAnswer g answer →
     answer ≢ Err OutOfMemory → RefusesCycles g answer
 
--- which cause a refusal tells, by its place among them
+-- which cause a refusal shows, by its place among them
 abbrev pub rank_of_fault : RuleFault → ℕ
 rank_of_fault (Cycle walk) = 0
 rank_of_fault TooManyTracks = 1
@@ -63,7 +63,7 @@ IsFirstCause g (BadOrder p) =
     (HasCycle g → ⊥) × (track_count g ≤ most_tracks) × HasSingleJoins g × HasSenderSlots g × AllFit g × IsBadOrder g p
 IsFirstCause g OutOfMemory = ⊤
 
--- a refusal tells the first cause, of which a graph has one at most; of cycles it may have several
+-- a refusal shows the first cause; a graph has at most one, except that it may have several cycles
 pub record AreFirstCauses (g : Graph) : Type 0 where
   pub first : (fault : RuleFault) → ShowsFault g fault → IsFirstCause g fault
   pub one : (fault other : RuleFault) → fault ≢ OutOfMemory → other ≢ OutOfMemory → IsFirstCause g fault →

@@ -76,6 +76,7 @@ abbrev pub name_table : Table → ℕ
 name_table tables.Top = 5
 name_table table = table_number table
 
+-- places of names go by table, then by element, then by key
 abbrev pub name_numbers_of : Place → List ℕ
 name_numbers_of place = name_table place.table ∷ place.index ∷ position_of place.table place.key ∷ []
 
@@ -111,18 +112,25 @@ ComesBefore fault other = (kind_of fault < kind_of other) ⊎
 -- a fault is the first of those that stand: none of an earlier kind stands anywhere, and none of its kind at an
 -- earlier place
 pub record IsFirstOf (Stands : ReadFault → Type 0) (fault : ReadFault) : Type 0 where
+  -- the fault stands
   pub stands : Stands fault
+  -- no fault of an earlier kind stands
   pub kinds : (other : ReadFault) → Stands other → kind_of fault ≤ kind_of other
+  -- none of its kind stands at an earlier place
   pub places : (other : ReadFault) → Stands other → kind_of other ≡ kind_of fault →
       IsEarlier (place_of_fault other) (place_of_fault fault) → ⊥
 
+-- the fault is the first of those of the bytes
 abbrev pub IsFirstRefusal : List ℕ → ReadFault → Type 0
 IsFirstRefusal bytes fault = IsFirstOf (Contains (faults_of bytes)) fault
 
 -- a graph file is refused with a fault exactly if that is its first one, and no two of its faults stand at one place
 pub record RefusesFirst (bytes : List ℕ) : Type 0 where
+  -- the refusal names the first fault
   pub first : (fault : ReadFault) → (problem_of bytes ≡ Err fault) ↔ IsFirstRefusal bytes fault
+  -- the faults are listed in this order, with no two at one place
   pub rise : AllPairs ComesBefore (faults_of bytes)
 
+-- each graph file is rejected by its first fault
 abbrev pub RefusalsAreFirst : Type 0
 RefusalsAreFirst = (bytes : List ℕ) → RefusesFirst bytes

@@ -11,7 +11,7 @@ use Rattle.cpg_table.specs.declared.rule.Rule.{Rule}
 use Rattle.cpg_run.specs.Exact.{IsFormed}
 use Rattle.cpg_run.specs.Laws.{Keeps}
 
--- what a node has heard by a time is true of the scenario
+-- each literal that a node has heard by a time is true of the scenario
 abbrev pub HeardLiteralsAreTrue : Type 0
 HeardLiteralsAreTrue =
     (g : Graph) (tables : List NodeTable) (node time : ℕ) (s : Scenario) (l : Literal) → IsScenario g s →

@@ -34,7 +34,7 @@ pub fn cycles_are_refused_first()
     ensures { CyclesAreRefusedFirst }
 {}
 
-/// A graph is refused for its first cause, of which it has one at most, but that it may have several cycles: a cycle, too many
+/// A graph is refused for its first cause. It has at most one, except that it may have several cycles: a cycle, too many
 /// tracks, two live inputs of a join, a node without its slot, a message that is too big, a given order that isn't topological.
 pub fn graphs_show_first_causes()
     ensures { GraphsShowFirstCauses }
@@ -50,12 +50,12 @@ pub fn fronts_of_packs_are_refused()
     ensures { FrontsOfPacksAreRefused }
 {}
 
-/// What a node has heard is true of the scenario, whatever the tables are.
+/// Each literal that a node has heard is true of the scenario, whatever the tables are.
 pub fn heard_literals_are_true()
     ensures { HeardLiteralsAreTrue }
 {}
 
-/// In tables that keep V1 and V2 a formed row has no more columns than there are ways in which the variables that it rests
+/// In tables that keep V1 and V2, a formed row has no more columns than there are ways in which the variables that it rests
 /// on can stand.
 pub fn formed_rows_have_few_columns()
     ensures { FormedRowsHaveFewColumns }

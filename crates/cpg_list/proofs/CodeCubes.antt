@@ -1,4 +1,4 @@
--- Cubes that are narrowed by literals: they are cubes of what was known and of these, in whatever order.
+-- Cubes that are narrowed by literals: they are the cubes of the earlier literals and of these, in any order.
 use Rattle.std.proofs.Common.{◌≡◌, ◌≢◌, ◌∙◌, ℕ, ◌<◌, ◌≤◌, max, min, List, [], ◌∷◌, ◌++◌, get_or, Contains, All, arith}
 use Rattle.std.proofs.Common.{refl, sym, ap, ap₂, inl, inr, subst, append_assoc}
 use Rattle.std.proofs.lemmas.Bool.{cases_eq}
@@ -22,9 +22,11 @@ use Rattle.cpg_list.specs.Learning.{Within}
 use Rattle.cpg_list.specs.Narrowing.{met, IsNarrowed}
 use Rattle.cpg_run.specs.Rows.{IsCubeOf}
 
--- ---- what is kept of literals and more
+-- ---- the lows and highs of literals and one more
 
+-- given two lists of literals and a variable
 module _ (xs ys : List Literal) (v : ℕ) where
+  -- the greatest low on the variable in both lists is the greater of theirs
   kept_low-append : kept_low (xs ++ ys) v ≡ max (kept_low xs v) (kept_low ys v)
   kept_low-append = omega (
     arith,
@@ -36,6 +38,7 @@ module _ (xs ys : List Literal) (v : ℕ) where
     kept_low_below ys v (kept_low (xs ++ ys) v) (λ m j e. low_kept (xs ++ ys) v m (Contains-append_right xs ys m j) e),
   )
 
+  -- the least high on the variable in both lists is the lesser of theirs
   kept_high-append : (k : ℕ) → kept_high k (xs ++ ys) v ≡ min (kept_high k xs v) (kept_high k ys v)
   kept_high-append k = omega (
     arith,
@@ -50,10 +53,13 @@ module _ (xs ys : List Literal) (v : ℕ) where
         (λ m j e. high_kept (xs ++ ys) v k m (Contains-append_right xs ys m j) e),
   )
 
+-- the element of a list of one
 only : (l m : Literal) → Contains (l ∷ []) m → l ≡ m
 only l m j = elim (Contains-cases l [] m j) [ inl e ↦ e | inr n ↦ absurd (Contains-nil m n) ]
 
+-- given a literal and the bound k on faults
 module _ (k : ℕ) (l : Literal) where
+  -- the low of one literal is its own
   one_low : kept_low (l ∷ []) l.variable ≡ l.low
   one_low = omega (
     arith,
@@ -61,6 +67,7 @@ module _ (k : ℕ) (l : Literal) where
     kept_low_below (l ∷ []) l.variable l.low (λ m j e. omega (arith, ap (λ (x : Literal). x.low) (only l m j))),
   )
 
+  -- the high of one literal is its own, if it doesn't go past the top
   one_high : l.high ≤ top k l.variable → kept_high k (l ∷ []) l.variable ≡ l.high
   one_high w = omega (
     arith,
@@ -68,12 +75,14 @@ module _ (k : ℕ) (l : Literal) where
     kept_high_above (l ∷ []) l.variable k l.high w (λ m j e. omega (arith, ap (λ (x : Literal). x.high) (only l m j))),
   )
 
+  -- the literal says nothing of another variable's low
   none_low : (v : ℕ) → l.variable ≢ v → kept_low (l ∷ []) v ≡ 0
   none_low v n = omega (
     arith,
     kept_low_below (l ∷ []) v 0 (λ m j e. absurd (n (ap (λ (x : Literal). x.variable) (only l m j) ∙ e))),
   )
 
+  -- the literal says nothing of another variable's high
   none_high : (v : ℕ) → l.variable ≢ v → kept_high k (l ∷ []) v ≡ top k v
   none_high v n = omega (
     arith,
@@ -93,6 +102,7 @@ spoken_narrowed l cube x j = elim (variables_of_narrowed l cube x j) [
 -- ---- cubes of literals
 
 module _ (k : ℕ) where
+  -- the cube without literals is that of no literals
   pub whole_cube : IsCubeOf k [] []
   whole_cube = record {
     rising = AllPairs-nil (λ (l m : Literal). l.variable < m.variable);
@@ -101,6 +111,8 @@ module _ (k : ℕ) where
     high = λ v. refl;
   }
 
+  -- A cube narrowed by one literal more is that of the literals and this one. The low and high of the literal's
+  -- variable are met, and those of another variable are as before.
   narrowed_cube : (known cube : List Literal) (l : Literal) → l.high ≤ top k l.variable → IsCubeOf k known cube →
       IsCubeOf k (known ++ l ∷ []) (narrowed_by l cube)
   narrowed_cube known cube l w is = record {
@@ -142,6 +154,7 @@ module _ (k : ℕ) where
     ];
   }
 
+  -- a cube met with literals is that of the known ones and these, literal by literal
   met_cube : (known cube literals : List Literal) → ((l : Literal) → Contains literals l → l.high ≤ top k l.variable) →
       IsCubeOf k known cube →
       IsCubeOf k (known ++ literals) (met cube literals)
@@ -151,6 +164,7 @@ module _ (k : ℕ) where
       (met_cube (known ++ l ∷ []) (narrowed_by l cube) ls (λ m j. w m (Contains-rest l ls m j))
       (narrowed_cube known cube l (w l (Contains-first l ls)) is))
 
+  -- meeting a cube with literals that don't go past the top narrows it by them
   pub met_narrowed : (literals cube : List Literal) →
       ((l : Literal) → Contains literals l → l.high ≤ top k l.variable) →
       IsNarrowed k literals cube (met cube literals)
@@ -166,9 +180,11 @@ module _ (k : ℕ) where
     high = λ v. omega (arith, is.high v, (kept_grows k xs ys to v).1, (kept_grows k ys xs from v).1);
   }
 
+  -- a cube narrowed by no literals is the same
   pub narrowed_none : (cube : List Literal) → IsNarrowed k [] cube cube
   narrowed_none cube = record { by = λ known is. met_cube known cube [] (λ l j. absurd (Contains-nil l j)) is }
 
+  -- narrowing by some literals and then by others narrows by all of them
   pub narrowed_then : (xs ys a b c : List Literal) → IsNarrowed k xs a b → IsNarrowed k ys b c →
       IsNarrowed k (xs ++ ys) a c
   narrowed_then xs ys a b c first second = record {
@@ -176,6 +192,7 @@ module _ (k : ℕ) where
         subst (λ ls. IsCubeOf k ls c) (append_assoc known xs ys) (second.by (known ++ xs) (first.by known is));
   }
 
+  -- narrowing by literals narrows by others that are the same but for order and number
   pub narrowed_same : (xs ys a b : List Literal) → Within xs ys → Within ys xs → IsNarrowed k xs a b →
       IsNarrowed k ys a b
   narrowed_same xs ys a b to from n = record {
@@ -193,41 +210,49 @@ module _ (k : ℕ) where
 
 -- ---- two rising cubes met are walked through together
 
+-- two rising cubes met have rising variables
 pub rising_met : (a b : List Literal) → IsRising a → IsRising (met a b)
 rising_met a [] r = r
 rising_met a (m ∷ ms) r = rising_met (narrowed_by m a) ms (rising-narrowed m a r)
 
+-- a literal on a lower variable than all of the second cube stays in front
 met-first : (l : Literal) (ls b : List Literal) → ((m : Literal) → Contains b m → l.variable < m.variable) →
     met (l ∷ ls) b ≡ l ∷ met ls b
 met-first l ls [] h = refl
 met-first l ls (m ∷ ms) h = ap (λ c. met c ms) (narrowed-after m l ls (h m (Contains-first m ms)))
     ∙ met-first l (narrowed_by m ls) ms (λ x j. h x (Contains-rest m ms x j))
 
+-- the cube without literals met with a rising one is the latter
 pub met-nil : (b : List Literal) → IsRising b → met [] b ≡ b
 met-nil [] r = refl
 met-nil (m ∷ ms) r =
     met-first m [] ms (λ x j. rising_first m x ms r j) ∙ ap (λ c. m ∷ c) (met-nil ms (rising_rest m ms r))
 
 module _ (l : Literal) (ls : List Literal) (m : Literal) (ms : List Literal) (r : IsRising (m ∷ ms)) where
+  -- if the first cube's first literal is on the lower variable, it comes first
   pub met-before : l.variable < m.variable → met (l ∷ ls) (m ∷ ms) ≡ l ∷ met ls (m ∷ ms)
   met-before h = met-first l ls (m ∷ ms) (λ x j. elim (Contains-cases m ms x j) [
     | inl s ↦ omega (arith, h, ap (λ (y : Literal). y.variable) s)
     | inr d ↦ omega (arith, h, rising_first m x ms r d)
   ])
 
+  -- first literals on one variable are met
   pub met-here : l.variable ≡ m.variable → met (l ∷ ls) (m ∷ ms) ≡ meet_literal m l ∷ met ls ms
   met-here e = ap (λ c. met c ms) (narrowed-here m l ls (sym e))
       ∙ met-first (meet_literal m l) ls ms (λ x j. omega (arith, e, rising_first m x ms r j))
 
+  -- if the second cube's first literal is on the lower variable, it comes first
   pub met-after : m.variable < l.variable → met (l ∷ ls) (m ∷ ms) ≡ m ∷ met (l ∷ ls) ms
   met-after h = ap (λ c. met c ms) (narrowed-before m l ls h) ∙ met-first m (l ∷ ls) ms (λ x j. rising_first m x ms r j)
 
 -- ---- a cube met with one of some literals
 
+-- a rising cube whose literals don't go past the top is the cube of its literals
 pub rising_cube : (k : ℕ) (b : List Literal) → IsRising b → ((l : Literal) → Contains b l → l.high ≤ top k l.variable) →
     IsCubeOf k b b
 rising_cube k b r w = subst (IsCubeOf k b) (met-nil b r) ((met_narrowed k b [] w).by [] (whole_cube k))
 
+-- meeting a cube with that of some literals narrows it by these literals
 pub cube_narrowed : (k : ℕ) (literals b cube : List Literal) → IsCubeOf k literals b →
     IsNarrowed k literals cube (met cube b)
 cube_narrowed k literals b cube is =
@@ -259,6 +284,7 @@ cube_narrowed k literals b cube is =
 
 -- ---- a literal that can be pushed
 
+-- the literals in front are on lower variables, one by one
 front_lower : (xs : List Literal) (l : Literal) (rest : List Literal) → IsRising (xs ++ l ∷ rest) → (m : Literal) →
     Contains xs m →
     m.variable < l.variable
@@ -269,57 +295,73 @@ front_lower (x ∷ xs) l rest r m j = elim (Contains-cases x xs m j) [
   | inr i ↦ front_lower xs l rest (rising_rest x (xs ++ l ∷ rest) r) m i
 ]
 
+-- the literals before a place of a rising list are on lower variables
 pub all_lower : (xs : List Literal) (l : Literal) (rest : List Literal) → IsRising (xs ++ l ∷ rest) →
     All (λ m. m.variable < l.variable) xs
 all_lower xs l rest r = λ k d h. front_lower xs l rest r (get_or xs k d) (Contains-get_or xs k d h)
 
 -- ---- on the way through two cubes, up to the literal l of the one and m of the other
 
+-- The literals of two rising cubes that are met so far, and those that are left of each.
+-- `rises`: the whole rises. `rest`: what is left of the second cube rises. `all`: the whole is the cube so far
+-- followed by what is left of both met. `one`, `other`: the first literals that are left, and those behind them.
 module _ (start cube first second ones others : List Literal) (l : Literal) (ls : List Literal) (m : Literal)
     (ms : List Literal)
     (rises : IsRising (start ++ met first second)) (rest : IsRising others)
     (all : start ++ met first second ≡ cube ++ met ones others)
     (one : ones ≡ l ∷ ls) (other : others ≡ m ∷ ms) where
+  -- what is left of the second cube rises, seen by its first literal
   rest_rises : IsRising (m ∷ ms)
   rest_rises = subst IsRising other rest
 
+  -- the whole is the cube so far followed by what is left of both met, seen by their first literals
   here : start ++ met first second ≡ cube ++ met (l ∷ ls) (m ∷ ms)
   here = all ∙ ap₂ (λ a b. cube ++ met a b) one other
 
+  -- the next literal x moves from what is left to the cube so far
   push : (x : Literal) (new left : List Literal) → met (l ∷ ls) (m ∷ ms) ≡ x ∷ left → new ≡ cube ++ x ∷ [] →
       start ++ met first second ≡ new ++ left
   push x new left e is =
       here ∙ ap (λ c. cube ++ c) e ∙ sym (append_assoc cube (x ∷ []) left) ∙ ap (λ c. c ++ left) (sym is)
 
+  -- the literals so far are on variables below the next literal x
   lower : (x : Literal) (left : List Literal) → met (l ∷ ls) (m ∷ ms) ≡ x ∷ left →
       All (λ y. y.variable < x.variable) cube
   lower x left e = all_lower cube x left (subst IsRising (here ∙ ap (λ c. cube ++ c) e) rises)
 
+  -- the next literal to be added is on a variable above all that were added
   pub lower_before : l.variable < m.variable → All (λ y. y.variable < l.variable) cube
   lower_before h = lower l (met ls (m ∷ ms)) (met-before l ls m ms rest_rises h)
 
+  -- so it is if the second cube's literal is the next
   pub lower_after : m.variable < l.variable → All (λ y. y.variable < m.variable) cube
   lower_after h = lower m (met (l ∷ ls) ms) (met-after l ls m ms rest_rises h)
 
+  -- and if both are on one variable
   pub lower_here : l.variable ≡ m.variable → All (λ y. y.variable < l.variable) cube
   lower_here e = lower (meet_literal m l) (met ls ms) (met-here l ls m ms rest_rises e)
 
+  -- adding it, the rest of both cubes is still to be met
   pub push_before : (new : List Literal) → l.variable < m.variable → new ≡ cube ++ l ∷ [] →
       start ++ met first second ≡ new ++ met ls others
   push_before new h is =
       push l new (met ls (m ∷ ms)) (met-before l ls m ms rest_rises h) is ∙ ap (λ b. new ++ met ls b) (sym other)
 
+  -- so it is after adding the second cube's literal
   pub push_after : (new : List Literal) → m.variable < l.variable → new ≡ cube ++ m ∷ [] →
       start ++ met first second ≡ new ++ met ones ms
   push_after new h is =
       push m new (met (l ∷ ls) ms) (met-after l ls m ms rest_rises h) is ∙ ap (λ a. new ++ met a ms) (sym one)
 
+  -- and after adding what both have in common
   pub push_here : (new : List Literal) → l.variable ≡ m.variable → new ≡ cube ++ meet_literal m l ∷ [] →
       start ++ met first second ≡ new ++ met ls ms
   push_here new e is = push (meet_literal m l) new (met ls ms) (met-here l ls m ms rest_rises e) is
 
+-- what is left of a rising list behind its first literal rises
 pub rising_left : (ls : List Literal) (l : Literal) (left : List Literal) → IsRising ls → ls ≡ l ∷ left → IsRising left
 rising_left ls l left r e = rising_rest l left (subst IsRising e r)
 
+-- once one of the cubes is used up, the rest of the other is added as it is
 pub nothing_left : (ls : List Literal) → IsRising ls → (none : List Literal) → none ≡ [] → met none ls ≡ ls
 nothing_left ls r none e = ap (λ a. met a ls) e ∙ met-nil ls r

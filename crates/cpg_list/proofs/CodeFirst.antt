@@ -39,6 +39,7 @@ and_false true = refl
 and_false false = refl
 
 module _ (g : Graph) (order : List ℕ) where
+  -- before the first place, no row is made
   pub none_made : (urgency : List ℕ) (frozen : List (Option ℕ)) (rows : List Row) →
       rows ≡ map blank (numbers_below (item_count g)) →
       AreMade g urgency order frozen (IsBefore g order 0) rows
@@ -66,6 +67,7 @@ module _ (g : Graph) (order : List ℕ) where
         (whole_cube k));
   }
 
+  -- before the first place, nothing is carried on and nothing is in a queue
   pub none_carried : (rows : List (List Column)) (scenarios : List Scenario) (known sent : List (List (List Literal))) →
       known ≡ replicate (length g.nodes) (replicate (length scenarios) []) →
       sent ≡ replicate (length g.nodes) (replicate (length scenarios) [])
@@ -83,6 +85,7 @@ module _ (g : Graph) (order : List ℕ) where
         ∙ get_or-replicate (length g.nodes) node (replicate (length scenarios) []) [] l);
   }
 
+  -- after the last place, all rows are made
   pub all_rows : (topological : IsTopological g order) (urgency : List ℕ) (frozen : List (Option ℕ)) (rows : List Row) →
       AreMade g urgency order frozen (IsBefore g order (process_count g)) rows →
       AreRows g urgency order frozen (columns_of_rows rows)

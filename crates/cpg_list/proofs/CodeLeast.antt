@@ -23,6 +23,7 @@ module _ (v : ℕ) where
   stops : (l : Literal) (ls : List Literal) → v ≤ l.variable → from_variable v (l ∷ ls) ≡ l ∷ ls
   stops l ls h = cond-false _ _ _ (le-ltb l.variable v h)
 
+  -- the literals from a variable on rise if all do
   pub from-rising : (ls : List Literal) → IsRising ls → IsRising (from_variable v ls)
   from-rising [] r = r
   from-rising (l ∷ ls) r = elim (cases_lt l.variable v) [
@@ -30,6 +31,7 @@ module _ (v : ℕ) where
     | inr h ↦ subst IsRising (sym (stops l ls h)) r
   ]
 
+  -- they give the lows of all variables from that on
   pub from-low : (ls : List Literal) (w : ℕ) → v ≤ w → low_in (from_variable v ls) w ≡ low_in ls w
   from-low [] w h = refl
   from-low (l ∷ ls) w h = elim (cases_lt l.variable v) [
@@ -38,6 +40,7 @@ module _ (v : ℕ) where
     | inr k ↦ ap (λ c. low_in c w) (stops l ls k)
   ]
 
+  -- the first of them gives the low of the variable
   pub from-front : (ls : List Literal) → IsRising ls → front_low v (from_variable v ls) ≡ low_in ls v
   from-front [] r = refl
   from-front (l ∷ ls) r = elim (cases_lt l.variable v) [
@@ -78,6 +81,7 @@ value_as : (v low : ℕ) → 128 ≤ v → as_number v low ≡ min low 1
 value_as v low h = cond-false _ _ _ (le-ltb v 128 h)
 
 module _ (g : Graph) (few : process_count g ≤ 128) (cube : List Literal) (s : Scenario) where
+  -- a scenario whose counts and values are the lows is the least of the cube
   pub lows_are : IsScenario g s
       → ((v : ℕ) → 0 ≤ v → v < process_count g → number_of s v ≡ as_number v (low_in cube v))
       → ((v : ℕ) → 128 ≤ v → v < value_variable (condition_count g) → number_of s v ≡ as_number v (low_in cube v))
@@ -94,11 +98,13 @@ module _ (g : Graph) (few : process_count g ≤ 128) (cube : List Literal) (s : 
       ∙ value_as (value_variable c) (low_in cube (value_variable c)) (omega arith))) in
       λ i. record { values = sym truths i; faults = sym faults i }
 
+  -- in the least scenario of a cube, each count is the low
   pub counts_are : lows g cube ≡ s → (v : ℕ) → 0 ≤ v → v < process_count g → number_of s v ≡ as_number v (low_in cube v)
   counts_are e v z h = count_number s v (omega (arith, few, h)) ∙ ap (λ (t : Scenario). get_or t.faults v 0) (sym e)
       ∙ get_or-map-below (low_in cube) (process_count g) v 0 h
       ∙ sym (count_as v (low_in cube v) (omega (arith, few, h)))
 
+  -- and so is each value
   pub values_are : lows g cube ≡ s → (v : ℕ) → 128 ≤ v → v < value_variable (condition_count g) →
       number_of s v ≡ as_number v (low_in cube v)
   values_are e v z h =

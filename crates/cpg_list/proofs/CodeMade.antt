@@ -47,24 +47,29 @@ timed_of g urgency order trees frozen is topological times = record {
   frozen_times = times;
 }
 
--- how many rows there are
+-- there are as many rows as items
 pub count_of : (rows : List Row) (n : ℕ) → items_of rows ≡ numbers_below n → length rows ≡ n
 count_of rows n e = sym (length-map rows (λ (r : Row). r.item)) ∙ ap length e ∙ length-range_with_len 0 n
 
 -- ---- one row set
 
+-- rows in which the columns of one item are set
 module _ (rows next : List Row) (x : ℕ) (columns : List Column) (l : x < length rows)
     (is : next ≡ set rows x (record { item = x; columns = columns })) where
+  -- the columns of the next rows are those before, but for the item's
   columns_set : columns_of_rows next ≡ set (columns_of_rows rows) x columns
   columns_set = ap columns_of_rows is ∙ map-set (λ (r : Row). r.columns) rows x (record { item = x; columns = columns })
 
+  -- in the next rows, the item has its new columns
   pub row_here : row_at (columns_of_rows next) x ≡ columns
   row_here = ap (λ cs. row_at cs x) columns_set
       ∙ get_or-set_same (columns_of_rows rows) x columns [] (omega (arith, l, length-map rows (λ (r : Row). r.columns)))
 
+  -- the rows of other items are the same
   pub row_other : (y : ℕ) → y ≢ x → row_at (columns_of_rows next) y ≡ row_at (columns_of_rows rows) y
   row_other y other = ap (λ cs. row_at cs y) columns_set ∙ get_or-set_other (columns_of_rows rows) x y columns [] other
 
+  -- the rows are of the same items
   pub items_set : (n : ℕ) → items_of rows ≡ numbers_below n → items_of next ≡ numbers_below n
   items_set n e =
       let blank : Row = record { item = 0; columns = [] } in
@@ -76,6 +81,7 @@ module _ (rows next : List Row) (x : ℕ) (columns : List Column) (l : x < lengt
 
 -- ---- one more item made
 
+-- rows of which those of some items are made
 module _ (g : Graph) (urgency order : List ℕ) (frozen : List (Option ℕ)) (timed : IsTimed g urgency order frozen)
     (made : ℕ → Type 0) (rows : List Row)
     (are : AreMade g urgency order frozen made rows) where
@@ -85,6 +91,7 @@ module _ (g : Graph) (urgency order : List ℕ) (frozen : List (Option ℕ)) (ti
   before_are bound there =
       rows_before g urgency order frozen timed (columns_of_rows rows) bound (λ y e. are.each y e.0 (there y e.1))
 
+  -- if the rows of all items from earlier processes are made, they have the times of the run
   pub told_from : (p : ℕ) → ((y : ℕ) → place order (producer g y) < place order p → made y) →
       (s : Scenario) (t : Times) → IsScenario g s →
       IsRun g order frozen s t →
@@ -95,23 +102,31 @@ module _ (g : Graph) (urgency order : List ℕ) (frozen : List (Option ℕ)) (ti
     within = (are.each x l (there x h)).merge.within;
   }
 
+  -- an item all of whose earlier items are made, and its entries
   module _ (x : ℕ) (l : x < item_count g)
       (earlier : (y : ℕ) → place order (producer g y) < place order (producer g x) → made y)
       (entries : List Column) (found : AreEntriesOf g order frozen (columns_of_rows rows) x entries) where
+    -- the entries of the item can be merged
     pub mergeable : AreMergeable g entries
     mergeable = (entries_have_times g urgency order frozen (columns_of_rows rows) x entries timed l
         (before_are (place order (producer g x)) earlier) found).0
 
+    -- the row of the item is set to its entries merged
     module _ (new : made x → ⊥) (late : (y : ℕ) → made y → place order (producer g y) ≤ place order (producer g x))
         (next : List Row) (is : IsRowSet g urgency x entries rows next) where
+      -- the item has a row
       inside : x < length rows
       inside = omega (arith, l, count_of rows (item_count g) are.items)
 
+      -- the rows of items from earlier processes stay
       pub same_before : (bound : ℕ) → bound ≤ place order (producer g x) →
           SameRowsBefore g order bound (columns_of_rows rows) (columns_of_rows next)
       same_before bound h y e = sym (row_other rows next x is.columns inside is.set y
           (λ same. omega (arith, e.1, h, ap (λ z. place order (producer g z)) same)))
 
+      -- The item is made, too, with those before.
+      -- Items made before keep their rows, as all that their entries depend on is from earlier processes. The item
+      -- has its entries merged, and the others are still empty.
       pub one_made : AreMade g urgency order frozen (λ y. made y ⊎ (y ≡ x)) next
       one_made = record {
         items = items_set rows next x is.columns inside is.set (item_count g) are.items;
@@ -131,7 +146,7 @@ module _ (g : Graph) (urgency order : List ℕ) (frozen : List (Option ℕ)) (ti
             ∙ are.none y (λ old. other (inl old));
       }
 
--- rows that are made are so under another word for what is made
+-- rows that are made stay so if the same items are described in another way
 pub made_same : (g : Graph) (urgency order : List ℕ) (frozen : List (Option ℕ)) (made also : ℕ → Type 0)
     (rows : List Row) → AreMade g urgency order frozen made rows →
     ((x : ℕ) → also x → made x) →
@@ -164,6 +179,7 @@ no_merge g urgency = record {
     no_column : (i : ℕ) (c : Column) → slice_get [] i ≡ Some c → ⊥
     no_column i c a = cc
 
+-- an item that isn't sent has its row without any columns
 pub unsent_row : (g : Graph) (urgency order : List ℕ) (frozen : List (Option ℕ)) (rows : List (List Column)) (x : ℕ) →
     x < item_count g → process_count g ≤ x →
     is_sent g x ≡ false →

@@ -1,4 +1,4 @@
--- What is made and carried on as one process after another, and one item of its queue after another, is done.
+-- The rows that are made and the cubes that are carried on, process by process, and item by item of its queue.
 use Rattle.std.proofs.Common.{◌≡◌, ◌≢◌, ◌∙◌, ℕ, ◌+◌, ◌<◌, ◌≤◌, ◌⊎◌, true, false, ◌&&◌, ◌==◌, ltb, List, [], ◌∷◌, ◌++◌}
 use Rattle.std.proofs.Common.{length, get_or, set, take, filter, flat_map, Contains, Option, arith, refl, sym}
 use Rattle.std.proofs.Common.{ap, inl, inr, subst, append_assoc, eq-eqb, eqb-true, ne_eqb, lt-ltb, ltb-true}
@@ -42,12 +42,14 @@ use Rattle.cpg_run.proofs.Sends.{Contains-take}
 
 -- a sent item from a process before a place
 module _ (g : Graph) (order : List ℕ) (node i y : ℕ) where
+  -- the item is one of the graph, is sent by the node, and comes from a process before the place i
   record Stands : Type 0 where
     within : Contains (numbers_below (item_count g)) y
     sent : is_sent g y ≡ true
     at : home g y ≡ node
     early : place order (producer g y) < i
 
+  -- an item of the list stands so
   stands : Contains (sent_before g order node i) y → Stands
   stands j =
       let r = Contains-filter_parts (λ y. is_sent g y && (home g y == node) && ltb (place order (producer g y)) i)
@@ -56,6 +58,7 @@ module _ (g : Graph) (order : List ℕ) (node i y : ℕ) where
       let b = and_parts (is_sent g y) _ a.0 in
       record { within = r.0; sent = b.0; at = eqb-true _ _ b.1; early = ltb-true _ _ a.1 }
 
+  -- an item that stands so is in the list
   stood : Stands → Contains (sent_before g order node i) y
   stood h = Contains-filter (λ y. is_sent g y && (home g y == node) && ltb (place order (producer g y)) i)
       (numbers_below (item_count g)) y
@@ -63,8 +66,10 @@ module _ (g : Graph) (order : List ℕ) (node i y : ℕ) where
 
 -- ---- lists of items and processes with the same elements
 
+-- given cubes of what some items leave to their queue
 module _ (k : ℕ) (g : Graph) (order : List ℕ) (rows : List (List Column)) (scenarios : List Scenario)
     (cubes : List (List Literal)) where
+  -- the literals in a queue depend on the items in it, whatever their order
   pub queued_members : (xs ys : List ℕ) → ((y : ℕ) → Contains xs y → Contains ys y) →
       ((y : ℕ) → Contains ys y → Contains xs y) →
       AreCubesOf k scenarios (queued_by g order rows xs) cubes →
@@ -76,32 +81,42 @@ module _ (k : ℕ) (g : Graph) (order : List ℕ) (rows : List (List Column)) (s
         (within_flat_map ys xs from f) (are.each i d l);
   }
 
+-- given a process of the graph
 module _ (g : Graph) (order : List ℕ) (topological : IsTopological g order) (p : ℕ) (l : p < process_count g) where
+  -- the process stands in the order
   in_order : Contains order p
   in_order = Contains-order (process_count g) order topological.all p l
 
+  -- the producer of each item stands in the order
   produced : (y : ℕ) → Contains (numbers_below (item_count g)) y → Contains order (producer g y)
   produced y j = Contains-order (process_count g) order topological.all (producer g y)
       (producer_in_range g order topological y (numbers-Contains (item_count g) y j))
 
+  -- a process is the producer of its start
   pub start_by : place order (producer g p) ≡ place order p
   start_by = ap (λ i. place order (producer_of_item g i)) (item_at-start g p l)
 
   -- ---- the items before the m-th of those that a process sends
 
+  -- given a place in the list of what the process sends
   module _ (m : ℕ) (inside : m < length (queue_of g p)) where
+    -- the m-th item that the process sends
     abbrev nth : ℕ
     nth = get_or (queue_of g p) m 0
 
+    -- the m-th item is in the queue of the process
     pub nth_queued : Contains (queue_of g p) nth
     nth_queued = Contains-get_or (queue_of g p) m 0 inside
 
+    -- its producer is the process
     nth_by : producer g nth ≡ p
     nth_by = (in_queue g p nth nth_queued).by
 
+    -- its producer stands at the place of the process
     pub nth_place : place order (producer g nth) ≡ place order p
     nth_place = ap (place order) nth_by
 
+    -- the items before it in the node's queue are those of earlier processes and the first m of the process
     pub before_to : (y : ℕ) → Contains (queued_before g order nth) y →
         Contains (sent_before g order (node_of g p) (place order p) ++ take m (queue_of g p)) y
     before_to y j =
@@ -126,6 +141,7 @@ module _ (g : Graph) (order : List ℕ) (topological : IsTopological g order) (p
               (queue-Contains g p y (numbers-Contains (item_count g) y r.0) b.0 same) (ltb-true _ _ d.1))
         ]
 
+    -- the items of earlier processes and the first m of the process are before the m-th item
     pub before_from : (y : ℕ) →
         Contains (sent_before g order (node_of g p) (place order p) ++ take m (queue_of g p)) y →
         Contains (queued_before g order nth) y
@@ -160,6 +176,7 @@ module _ (g : Graph) (order : List ℕ) (topological : IsTopological g order) (p
               (nth ∷ []) y i
         ]))
 
+    -- with the m-th item, these are the items up to it
     pub next_from : (y : ℕ) →
         Contains (sent_before g order (node_of g p) (place order p) ++ take (m + 1) (queue_of g p)) y →
         Contains (queued_before g order nth ++ nth ∷ []) y
@@ -176,26 +193,32 @@ module _ (g : Graph) (order : List ℕ) (topological : IsTopological g order) (p
 
     -- ---- it isn't made yet, and comes from no earlier a process than what is
 
+    -- the m-th item is one of the graph
     pub nth_within : nth < item_count g
     nth_within = (in_queue g p nth nth_queued).within
 
+    -- an item from an earlier process has been made
     pub nth_earlier : (y : ℕ) → place order (producer g y) < place order (producer g nth) → IsSent g order p m y
     nth_earlier y h = inl (inl (omega (arith, h, ap (place order) nth_by)))
 
+    -- an item that was started is from no later process
     started_late : (y : ℕ) → IsStarted g order p y → place order (producer g y) ≤ place order p
     started_late y (inl h) = omega (arith, h)
     started_late y (inr e) = omega (arith, ap (λ z. place order (producer g z)) e, start_by)
 
+    -- no item that has been made is from a later process
     pub nth_late : (y : ℕ) → IsSent g order p m y → place order (producer g y) ≤ place order (producer g nth)
     nth_late y (inl h) = omega (arith, started_late y h, ap (place order) nth_by)
     nth_late y (inr c) = omega
         (arith, ap (place order) ((in_queue g p y (Contains-take m (queue_of g p) y c)).by), ap (place order) nth_by)
 
+    -- the m-th item hasn't been made
     pub nth_new : IsSent g order p m nth → ⊥
     nth_new (inl (inl h)) = omega (arith, h, ap (place order) nth_by)
     nth_new (inl (inr e)) = omega (arith, e, l, (in_queue g p nth nth_queued).above)
     nth_new (inr c) = omega (arith, below_first (rank_at g) (queue_of g p) (queue_rises g p) m inside nth c)
 
+    -- with the m-th item, one item more of the process has been made
     pub sent_next : (y : ℕ) → IsSent g order p m y ⊎ (y ≡ nth) → IsSent g order p (m + 1) y
     sent_next y (inl (inl h)) = inl h
     sent_next y (inl (inr c)) = inr (subst (λ ys. Contains ys y) (sym (take_more (queue_of g p) m 0 inside))
@@ -204,6 +227,7 @@ module _ (g : Graph) (order : List ℕ) (topological : IsTopological g order) (p
         (Contains-append_right (take m (queue_of g p)) (nth ∷ []) y
         (subst (Contains (nth ∷ [])) (sym e) (Contains-first nth []))))
 
+    -- what has been made then is the m-th item or was made before
     pub sent_back : (y : ℕ) → IsSent g order p (m + 1) y → IsSent g order p m y ⊎ (y ≡ nth)
     sent_back y (inl h) = inl (inl h)
     sent_back y (inr c) = elim (Contains-append_cases (take m (queue_of g p)) (nth ∷ []) y
@@ -214,10 +238,12 @@ module _ (g : Graph) (order : List ℕ) (topological : IsTopological g order) (p
 
   -- ---- where nothing of it is sent yet, and where all is
 
+  -- before the first item of the process, the earlier ones and its start have been made
   pub sent_first : (y : ℕ) → IsSent g order p 0 y → IsStarted g order p y
   sent_first y (inl h) = h
   sent_first y (inr c) = absurd (Contains-nil y c)
 
+  -- the items of earlier processes and all of this one are those up to the next place
   pub all_to : (y : ℕ) → Contains (sent_before g order (node_of g p) (place order p) ++ queue_of g p) y →
       Contains (sent_before g order (node_of g p) (place order p + 1)) y
   all_to y j = elim (Contains-append_cases (sent_before g order (node_of g p) (place order p)) (queue_of g p) y j) [
@@ -237,6 +263,7 @@ module _ (g : Graph) (order : List ℕ) (topological : IsTopological g order) (p
     | inr k ↦ inr (same_place order (producer g y) p (produced y j) in_order (omega (arith, h, k)))
   ]
 
+  -- the items up to the next place are those of earlier processes and all of this one
   pub all_from : (y : ℕ) → Contains (sent_before g order (node_of g p) (place order p + 1)) y →
       Contains (sent_before g order (node_of g p) (place order p) ++ queue_of g p) y
   all_from y j = let h = stands g order (node_of g p) (place order p + 1) y j in elim (by_place y h.within h.early) [
@@ -254,6 +281,7 @@ module _ (g : Graph) (order : List ℕ) (topological : IsTopological g order) (p
       stood g order node (place order p + 1) y
       (record { within = h.within; sent = h.sent; at = h.at; early = omega (arith, h.early) })
 
+  -- nothing is added to the queue of another node
   pub other_from : (node : ℕ) → node ≢ node_of g p → (y : ℕ) →
       Contains (sent_before g order node (place order p + 1)) y →
       Contains (sent_before g order node (place order p)) y
@@ -264,6 +292,7 @@ module _ (g : Graph) (order : List ℕ) (topological : IsTopological g order) (p
 
   -- ---- all of an earlier place is made once the queue is
 
+  -- once all items of the process are made, all before the next place are
   pub made_next : (urgency : List ℕ) (frozen : List (Option ℕ)) (rows : List Row) →
       AreMade g urgency order frozen (IsSent g order p (length (queue_of g p))) rows →
       AreMade g urgency order frozen (IsBefore g order (place order p + 1)) rows
@@ -280,6 +309,7 @@ module _ (g : Graph) (order : List ℕ) (topological : IsTopological g order) (p
     none = λ x other. are.none x (λ h. other (below x h));
   }
     where
+      -- an item that has been made is from a process before the next place
       below : (x : ℕ) → IsSent g order p (length (queue_of g p)) x → place order (producer g x) < place order p + 1
       below x (inl (inl h)) = omega (arith, h)
       below x (inl (inr e)) = omega (arith, ap (λ z. place order (producer g z)) e, start_by)
@@ -288,6 +318,8 @@ module _ (g : Graph) (order : List ℕ) (topological : IsTopological g order) (p
         ap (place order) ((in_queue g p x (Contains-take (length (queue_of g p)) (queue_of g p) x c)).by),
       )
 
+      -- An item of the process other than its start: if it is sent, it is in the queue, so it has been made. If it is
+      -- not sent, its row is empty, as it should be.
       of_sent : (x : ℕ) (m : x < item_count g) → producer g x ≡ p → process_count g ≤ x →
           (IsSent g order p (length (queue_of g p)) x → IsRowOf g urgency order frozen (columns_of_rows rows) x)
           → ((IsSent g order p (length (queue_of g p)) x → ⊥) → row_at (columns_of_rows rows) x ≡ []) →
@@ -298,6 +330,7 @@ module _ (g : Graph) (order : List ℕ) (topological : IsTopological g order) (p
         | inr off ↦ unsent_row g urgency order frozen (columns_of_rows rows) x m above off (none (λ h. not_sent off h))
       ]
         where
+          -- an item that isn't sent is not among those that have been made
           not_sent : is_sent g x ≡ false → IsSent g order p (length (queue_of g p)) x → ⊥
           not_sent off (inl (inl h)) = omega (arith, h, ap (place order) e)
           not_sent off (inl (inr same)) = omega (arith, same, l, above)
@@ -306,41 +339,49 @@ module _ (g : Graph) (order : List ℕ) (topological : IsTopological g order) (p
 
   -- ---- the processes of a node
 
+  -- the processes up to the next place are those before the process, and the process
   up_to : take (place order p + 1) order ≡ take (place order p) order ++ p ∷ []
   up_to = take_more order (place order p) 0 (place-lt order p in_order)
       ∙ ap (λ q. take (place order p) order ++ q ∷ []) (get_or-place order p 0 in_order)
 
+  -- and so it is for the processes of one node
   split : (node : ℕ) →
       node_before g order node (place order p + 1) ≡ node_before g order node (place order p)
       ++ filter (λ q. node_of g q == node) (p ∷ [])
   split node = ap (filter (λ q. node_of g q == node)) up_to
       ∙ filter-append (λ q. node_of g q == node) (take (place order p) order) (p ∷ [])
 
+  -- the processes of the node before the next place are those before the process, and the process
   pub node_own : node_before g order (node_of g p) (place order p + 1) ≡ before_on_node g order p ++ p ∷ []
   node_own = split (node_of g p)
       ∙ ap (λ qs. before_on_node g order p ++ qs) (cond-true _ _ _ (eq-eqb (node_of g p) (node_of g p) refl))
 
+  -- those of another node are the same
   pub node_other : (node : ℕ) → node ≢ node_of g p →
       node_before g order node (place order p + 1) ≡ node_before g order node (place order p)
   node_other node n = split node ∙ ap (λ qs. node_before g order node (place order p) ++ qs)
       (cond-false _ _ _ (ne_eqb (node_of g p) node (λ e. n (sym e)))) ∙
       append-nil (node_before g order node (place order p))
 
+  -- the processes of a node before the place stand no later than the process
   node_early : (node q : ℕ) → Contains (node_before g order node (place order p)) q → place order q ≤ place order p
   node_early node q j =
       let r = Contains-filter_parts (λ q. node_of g q == node) (take (place order p) order) q j in
       omega (arith, (from_before order q p r.0).1)
 
+  -- the processes of the node up to this one stand no later than it
   pub own_early : (q : ℕ) → Contains (before_on_node g order p ++ p ∷ []) q → place order q ≤ place order p
   own_early q j = elim (Contains-append_cases (before_on_node g order p) (p ∷ []) q j) [
     | inl i ↦ node_early (node_of g p) q i
     | inr i ↦ omega (arith, ap (place order) (only_one p q i))
   ]
 
+  -- the items in a queue so far come from processes that stand no later than this one
   pub sent_early : (node y : ℕ) → Contains (sent_before g order node (place order p)) y →
       place order (producer g y) ≤ place order p
   sent_early node y j = let h = stands g order node (place order p) y j in omega (arith, h.early)
 
+  -- and so do those with the first m items of the process
   pub queue_early : (m y : ℕ) →
       Contains (sent_before g order (node_of g p) (place order p) ++ take m (queue_of g p)) y →
       place order (producer g y) ≤ place order p
@@ -352,6 +393,7 @@ module _ (g : Graph) (order : List ℕ) (topological : IsTopological g order) (p
 
   -- ---- all nodes at the next place
 
+  -- the cubes carried on up to a process, its node's cubes after it and its node's queue with its items
   module _ (rows others : List (List Column)) (same : SameRowsBefore g order (place order p) rows others)
       (scenarios : List Scenario) (known sent : List (List (List Literal)))
       (are : AreCarried g order rows scenarios (place order p) known sent) (on : node_of g p < length g.nodes)
@@ -359,6 +401,7 @@ module _ (g : Graph) (order : List ℕ) (topological : IsTopological g order) (p
       (own_are : AreCubesOf g.faults scenarios (passed_by g others (before_on_node g order p ++ p ∷ [])) own)
       (queue_are : AreCubesOf g.faults scenarios
       (queued_by g order others (sent_before g order (node_of g p) (place order p + 1))) queue) where
+    -- with the node's cubes and queue replaced, all nodes carry what they do before the next place
     pub carried_next : AreCarried g order others scenarios (place order p + 1) (set known (node_of g p) own)
         (set sent (node_of g p) queue)
     carried_next = record {
@@ -399,14 +442,17 @@ module _ (g : Graph) (order : List ℕ) (topological : IsTopological g order) (p
       ];
     }
 
--- ---- what is carried at the ends of a process
+-- ---- the literals carried at the ends of a process
 
+-- five lists of literals, one behind the other, however they are grouped
 regroup : (e d h r c : List Literal) → e ++ (d ++ h ++ (r ++ c)) ≡ e ++ d ++ h ++ r ++ c
 regroup e d h r c = sym (append_assoc e (d ++ h) (r ++ c)) ∙ ap (λ z. z ++ (r ++ c)) (sym (append_assoc e d h))
     ∙ sym (append_assoc (e ++ d ++ h) r c)
 
+-- given a cube for each scenario
 module _ (g : Graph) (order : List ℕ) (rows : List (List Column)) (scenarios : List Scenario) (p : ℕ)
     (cubes : List (List Literal)) where
+  -- at the end of a process that isn't frozen, its node carries what it passes on
   pub ends_plain : (process_at g p).frozen ≡ false →
       AreCubesOf g.faults scenarios (passed_by g rows (before_on_node g order p ++ p ∷ [])) cubes →
       AreEndsOf g order rows scenarios p cubes
@@ -427,6 +473,7 @@ module _ (g : Graph) (order : List ℕ) (rows : List (List Column)) (scenarios :
         subst (λ ls. IsCubeOf g.faults ls (get_or cubes i [])) e (are.each i d l);
   }
 
+  -- at the end of a frozen process, only what decides it and its count are carried
   pub ends_frozen : (process_at g p).frozen ≡ true →
       AreCubesOf g.faults scenarios (λ s. decided g s p ++ number_known s p ∷ []) cubes →
       AreEndsOf g order rows scenarios p cubes

@@ -1,4 +1,4 @@
--- What is passed on and left in queues rests on the rows of earlier processes alone.
+-- What processes pass on and leave in queues depends only on the rows of earlier processes.
 use Rattle.std.proofs.Common.{ℕ, ◌≤◌, List, [], get_or, Contains, subst}
 use Rattle.cpg_base.specs.Graph.{Graph, producer}
 use Rattle.cpg_base.proofs.Lists.{same_flat_map}
@@ -13,6 +13,7 @@ use Rattle.cpg_run.specs.RowLaws.{SameRowsBefore}
 use Rattle.cpg_run.specs.Rows.{IsCubeOf}
 use Rattle.cpg_run.proofs.CarriedBefore.{passed_same, queued_same, end_same}
 
+-- rows that are the same for items from processes before a place
 module _ (g : Graph) (order : List ℕ) (topological : IsTopological g order) (rows others : List (List Column))
     (bound : ℕ) (same : SameRowsBefore g order bound rows others) where
   module _ (k : ℕ) (scenarios : List Scenario) (cubes : List (List Literal)) where
@@ -28,6 +29,7 @@ module _ (g : Graph) (order : List ℕ) (topological : IsTopological g order) (r
           (are.each i d l);
     }
 
+    -- cubes of what items of earlier processes leave stay cubes of it
     pub queued_cubes : (items : List ℕ) → ((y : ℕ) → Contains items y → place order (producer g y) ≤ bound) →
         AreCubesOf k scenarios (queued_by g order rows items) cubes →
         AreCubesOf k scenarios (queued_by g order others items) cubes
@@ -40,6 +42,7 @@ module _ (g : Graph) (order : List ℕ) (topological : IsTopological g order) (r
           (are.each i d l);
     }
 
+  -- cubes of what is carried at the ends of a process stay cubes of it
   pub ends_cubes : (scenarios : List Scenario) (p : ℕ) (cubes : List (List Literal)) → place order p ≤ bound →
       AreEndsOf g order rows scenarios p cubes →
       AreEndsOf g order others scenarios p cubes

@@ -1,4 +1,4 @@
--- What one scenario adds to a queue, and the entry of a send there.
+-- One scenario of a send: what it adds to the queue, and the entry of the send.
 use Rattle.std.proofs.Common.{◌≡◌, ◌∙◌, ℕ, ◌+◌, ◌-◌, ◌<◌, ◌≤◌, Bool, true, false, not, ◌&&◌, if◌then◌else◌, List, []}
 use Rattle.std.proofs.Common.{◌∷◌, ◌++◌, length, get_or, map, flat_map, Contains, Option, Some, None, is_some}
 use Rattle.std.proofs.Common.{option_to_list, arith, sym, ap, ap₂, inl, inr, subst}
@@ -31,14 +31,17 @@ use Rattle.cpg_list.proofs.CodeCubes.{narrowed_none, narrowed_same}
 -- ---- an item that a process sends
 
 module _ (g : Graph) (p x : ℕ) (queued : Contains (queue_of g p) x) where
+  -- an item in the queue of a process is one of the graph
   pub queue_within : x < item_count g
   queue_within = (in_queue g p x queued).within
 
+  -- the producer of an item in the queue of a process is the process
   pub queue_by : producer g x ≡ p
   queue_by = (in_queue g p x queued).by
 
 -- ---- the value that decides whether it is sent
 
+-- if a message is sent for one value only, the condition of its source decides whether it is sent
 pub value_of : (g : Graph) (x e p : ℕ) → item_at g x ≡ Message e → source g e ≡ p → is_some (edge_at g e).when ≡ true →
     (o : Option ℕ) → condition_of g p ≡ o →
     IsSentValue g x o
@@ -65,30 +68,36 @@ module _ (g : Graph) (s : Scenario) (p x : ℕ) (by : producer g x ≡ p) (ends 
       ++ (if item_active g s.values (item_at g x) && not (is_frozen g x) then ends else [])) by
       ∙ ap₂ (λ u v. decided g s p ++ (if u then sent_by_value g s x else []) ++ (if v then ends else [])) a f
 
+  -- an item whose producer is inactive leaves only what decides the producer
   pub left_idle : active g s.values p ≡ false → item_active g s.values (item_at g x) ≡ false →
       queued_after g s x ends ≡ decided g s p
   left_idle a i = left false false a (ap (λ b. b && not (is_frozen g x)) i) ∙ append-nil (decided g s p ++ [])
       ∙ append-nil (decided g s p)
 
+  -- an inactive item of an active producer also leaves the value that decides whether it is sent
   pub left_skipped : active g s.values p ≡ true → item_active g s.values (item_at g x) ≡ false →
       queued_after g s x ends ≡ decided g s p ++ sent_by_value g s x
   left_skipped a i =
       left true false a (ap (λ b. b && not (is_frozen g x)) i) ∙ append-nil (decided g s p ++ sent_by_value g s x)
 
+  -- so does a frozen item that is sent
   pub left_frozen : active g s.values p ≡ true → item_active g s.values (item_at g x) ≡ true → is_frozen g x ≡ true →
       queued_after g s x ends ≡ decided g s p ++ sent_by_value g s x
   left_frozen a i f =
       left true false a (ap₂ (λ b c. b && not c) i f) ∙ append-nil (decided g s p ++ sent_by_value g s x)
 
+  -- an item that is sent and isn't frozen also leaves what is carried at the end of its producer
   pub left_plain : active g s.values p ≡ true → item_active g s.values (item_at g x) ≡ true → is_frozen g x ≡ false →
       queued_after g s x ends ≡ decided g s p ++ sent_by_value g s x ++ ends
   left_plain a i f = left true true a (ap₂ (λ b c. b && not c) i f)
 
+  -- beside a frozen send only what decides the producer and the sending is carried
   pub sends_frozen : (queue : List Literal) → is_frozen g x ≡ true →
       send_after g s x queue ends ≡ decided g s p ++ sent_by_value g s x
   sends_frozen queue f = ap (λ q. (if is_frozen g x then decided g s q else queue ++ ends) ++ sent_by_value g s x) by ∙
       ap (λ ls. ls ++ sent_by_value g s x) (cond-true (is_frozen g x) (decided g s p) (queue ++ ends) f)
 
+  -- beside another send, what the queue leaves and the end of the producer are carried, too
   pub sends_plain : (queue : List Literal) → is_frozen g x ≡ false →
       send_after g s x queue ends ≡ queue ++ ends ++ sent_by_value g s x
   sends_plain queue f =
@@ -110,10 +119,11 @@ end_with_value k ds vs es a b in_ends is = narrowed_same k (es ++ vs) (ds ++ vs 
       ]
     ]) is
 
--- ---- what is carried beside a send, and left by it
+-- ---- the literals carried beside a send, and those that it leaves
 
 module _ (g : Graph) (order : List ℕ) (rows : List (List Column)) (s : Scenario) (p x : ℕ)
     (queued_here : Contains (queue_of g p) x) where
+  -- the literals beside a send in a row are those that the queue and the producer's end give
   pub carried_send : carried g order rows s x
       ≡ send_after g s x (queued_by g order rows (queued_before g order x) s) (carried_at_end g order rows s p)
   carried_send = let q = in_queue g p x queued_here in elim (item_cases g x q.within) [
@@ -124,6 +134,7 @@ module _ (g : Graph) (order : List ℕ) (rows : List (List Column)) (s : Scenari
         send_after g s x (queued_by g order rows (queued_before g order x) s) (carried_at_end g order rows s r)) q.by
   ]
 
+  -- the literals that an item leaves are those that the producer's end gives
   pub queued_is : queued g order rows s x ≡ queued_after g s x (carried_at_end g order rows s p)
   queued_is = ap (λ r. queued_after g s x (carried_at_end g order rows s r)) (in_queue g p x queued_here).by
 
@@ -142,6 +153,7 @@ decided_at_end g order rows s p l j = Contains-append_left (carried_at_start g o
           (Contains-append_right (flat_map (passed g rows s) (before_on_node g order p)) (decided g s p) l j)))
     ])
 
+-- the cube of a scenario among the ends of a process is that of its end there
 pub end_here : (g : Graph) (order : List ℕ) (rows : List (List Column)) (scenarios : List Scenario) (p : ℕ)
     (cubes : List (List Literal)) →
     AreEndsOf g order rows scenarios p cubes

@@ -1,4 +1,4 @@
--- What comes of one scenario: the entry that is kept, and what the node carries on; and of all of them, one after
+-- One scenario gives an entry, if it is kept, and what the node carries on; and all of them do, one after
 -- another.
 use Rattle.std.proofs.Common.{◌≡◌, ◌≢◌, ◌∙◌, ℕ, ◌+◌, ◌<◌, ◌≤◌, Bool, true, false, if◌then◌else◌, List, [], ◌∷◌, ◌++◌}
 use Rattle.std.proofs.Common.{length, get_or, set, take, flat_map, Contains, AllPairs, Option, Some, None}
@@ -35,6 +35,7 @@ use Rattle.cpg_run.proofs.EntriesFound.{AreEntriesAmong, not_before_place, passe
 
 -- ---- entries that are kept
 
+-- an entry that is kept for the cube of some literals is kept for these literals
 pub kept_of : (g : Graph) (s : Scenario) (time : ℕ) (literals cube : List Literal) → IsCubeOf g.faults literals cube →
     (r : Option Column) → IsLeastEntry g s time cube r →
     IsKeptOf g s time literals r
@@ -42,45 +43,54 @@ kept_of g s time literals cube is None h = λ other same least. h (same_least g 
 kept_of g s time literals cube is (Some e) h =
     (h.0, subst (IsCubeOf g.faults literals) (sym h.1) is, ap (lows g) h.1 ∙ h.2)
 
--- from nothing
+-- the cube without literals narrowed by literals is their cube
 pub from_whole : (k : ℕ) (literals whole cube : List Literal) → whole ≡ [] → IsNarrowed k literals whole cube →
     IsCubeOf k literals cube
 from_whole k literals whole cube e n = n.by [] (subst (IsCubeOf k []) (sym e) (whole_cube k))
 
 -- ---- one start
 
+-- the start of a process is frozen exactly if the process is
 pub frozen_start : (g : Graph) (p : ℕ) → p < process_count g → is_frozen g p ≡ (process_at g p).frozen
 frozen_start g p l = ap (is_frozen_item g) (item_at-start g p l)
 
 module _ (g : Graph) (rows : List (List Column)) (s : Scenario) (p : ℕ) where
+  -- beside the start of a process that isn't frozen, all is carried that its node has learnt
   pub start_plain : (earlier : List Literal) → (process_at g p).frozen ≡ false →
       start_after g rows s p earlier ≡ earlier ++ decided g s p ++ heard g rows s p ++ received g rows s p
   start_plain earlier e = cond-false _ _ _ e
 
+  -- such a process carries what it receives
   pub received_plain : (process_at g p).frozen ≡ false → received_unless_frozen g rows s p ≡ received g rows s p
   received_plain e = cond-false _ _ _ e
 
+  -- an inactive process passes on what decides it and what its node heard
   pub passed_idle : active g s.values p ≡ false → passed g rows s p ≡ decided g s p ++ heard g rows s p
   passed_idle off =
       ap (λ ls. decided g s p ++ heard g rows s p ++ ls) (cond-false (active g s.values p) (executed g rows s p) [] off)
       ∙ append-nil (decided g s p ++ heard g rows s p)
 
+  -- an active process also passes on its own count and, unless it is frozen, what it receives
   pub passed_active : active g s.values p ≡ true →
       passed g rows s p ≡ decided g s p ++ heard g rows s p
       ++ (received_unless_frozen g rows s p ++ number_known s p ∷ [])
   passed_active on =
       ap (λ ls. decided g s p ++ heard g rows s p ++ ls) (cond-true (active g s.values p) (executed g rows s p) [] on)
 
+  -- a process has a time exactly if it is active
   pub process_active : p < process_count g → (t : Times) → IsTimedIfActive g s t p →
       is_some (get_or t.times p None) ≡ active g s.values p
   process_active l t timed = timed ∙ ap (item_active g s.values) (item_at-start g p l)
 
 -- ---- the entries of one scenario more
 
+-- the entries of an item among the scenarios done so far, and a new scenario with its run
 module _ (g : Graph) (order : List ℕ) (topological : IsTopological g order) (frozen : List (Option ℕ))
     (rows : List (List Column)) (x : ℕ)
     (done : List Scenario) (entries : List Column) (so_far : AreEntriesAmong g order frozen rows x done entries)
     (s : Scenario) (law : IsScenario g s) (t : Times) (run : IsRun g order frozen s t) (new : Contains done s → ⊥) where
+  -- by whether the item has a time, and by whether an entry is kept: no entry comes for an inactive item, none for a
+  -- scenario that isn't the least of its cube, and one otherwise
   entry_at : (o : Option ℕ) → get_or t.times x None ≡ o → is_some o ≡ item_active g s.values (item_at g x) →
       (r : Option Column) →
       IsKeptAt g s o (carried g order rows s x) r
@@ -103,6 +113,7 @@ module _ (g : Graph) (order : List ℕ) (topological : IsTopological g order) (f
     cube = h.1;
   }) h.2 new
 
+  -- with the entry of the next scenario, if it is kept, the entries are those of one scenario more
   pub one_more : IsTimedIfActive g s t x → (r : Option Column) →
       IsKeptAt g s (get_or t.times x None) (carried g order rows s x) r →
       AreEntriesAmong g order frozen rows x (done ++ s ∷ []) (entries ++ option_to_list r)
@@ -110,17 +121,21 @@ module _ (g : Graph) (order : List ℕ) (topological : IsTopological g order) (f
 
 -- ---- the cubes of one scenario more
 
+-- given for each scenario its literals from before and its new ones
 module _ (k : ℕ) (scenarios : List Scenario) (before literals : Scenario → List Literal) where
+  -- at first, all cubes are those from before
   pub none_done : (cubes : List (List Literal)) → AreCubesOf k scenarios before cubes →
       AreCubesUpTo k scenarios before literals 0 cubes
   none_done cubes are =
       record { count = are.count; done = λ i s h l. absurd (omega (arith, h)); rest = λ i s h l. are.each i s l }
 
+  -- after the last scenario, all cubes are new
   pub all_done : (n : ℕ) (cubes : List (List Literal)) → length scenarios ≤ n →
       AreCubesUpTo k scenarios before literals n cubes →
       AreCubesOf k scenarios literals cubes
   all_done n cubes h are = record { count = are.count; each = λ i s l. are.done i s (omega (arith, h, l)) l }
 
+  -- with the cube of the next scenario replaced, one scenario more is done
   pub one_done : (n : ℕ) (cubes : List (List Literal)) (s : Scenario) (cube : List Literal) → n < length scenarios →
       AreCubesUpTo k scenarios before literals n cubes →
       s ≡ get_or scenarios n s
@@ -168,6 +183,7 @@ push_cube k scenarios literals n cubes new s cube l long each pushed at is i d h
 -- ---- runs of the scenarios
 
 module _ (g : Graph) (order : List ℕ) (frozen : List (Option ℕ)) where
+  -- in a run, an item has a time exactly if it is active
   pub timed_if_active : (s : Scenario) (t : Times) → IsRun g order frozen s t → (x : ℕ) → x < item_count g →
       IsTimedIfActive g s t x
   timed_if_active s t run x l =
@@ -178,6 +194,7 @@ module _ (g : Graph) (order : List ℕ) (frozen : List (Option ℕ)) where
       go true n = refl
       go false n = refl
 
+  -- the run at the place of a scenario is the run of that scenario
   pub run_at : (scenarios : List Scenario) (runs : List Times) → AreRuns g order frozen scenarios runs →
       (n : ℕ) (s : Scenario) (t : Times) → n < length scenarios →
       s ≡ get_or scenarios n s →
@@ -185,41 +202,49 @@ module _ (g : Graph) (order : List ℕ) (frozen : List (Option ℕ)) where
   run_at scenarios runs are n s t l at is = subst (λ u. IsRun g order frozen u t) (sym at)
       (subst (IsRun g order frozen (get_or scenarios n s)) (sym is) (are.each n s t l))
 
+-- the scenario at a place is one of the list
 pub scenario_at : (scenarios : List Scenario) (n : ℕ) (s : Scenario) → n < length scenarios → s ≡ get_or scenarios n s →
     Contains scenarios s
 scenario_at scenarios n s l at = (n, l, sym at)
 
+-- no scenario before a place is the one at the place
 pub new_at : (scenarios : List Scenario) → AllPairs (λ s t. s ≢ t) scenarios → (n : ℕ) (s : Scenario) →
     n < length scenarios → s ≡ get_or scenarios n s → Contains (take n scenarios) s → ⊥
 new_at scenarios apart n s l at j = not_before_place scenarios n s apart l (subst (Contains (take n scenarios)) at j)
 
+-- beside a start is carried what the processes before it on the node pass on
 pub carried_start : (g : Graph) (order : List ℕ) (rows : List (List Column)) (s : Scenario) (p : ℕ) →
     p < process_count g →
     carried g order rows s p ≡ start_after g rows s p (passed_by g rows (before_on_node g order p) s)
 carried_start g order rows s p l = ap (carried_by_item g order rows s p) (item_at-start g p l)
 
--- a list for one element more
+-- the lists of all elements with one put last are those before and its own
 pub flat_map_push : {X : Type 0} (f : X → List Literal) (xs : List X) (x : X) →
     flat_map f xs ++ f x ≡ flat_map f (xs ++ x ∷ [])
 flat_map_push f xs x = sym (flat_map-append f xs (x ∷ []) ∙ ap (λ z. flat_map f xs ++ z) (append-nil (f x)))
 
 -- ---- one scenario more of all of them
 
+-- the scenario and the run at a place
 module _ (g : Graph) (order : List ℕ) (topological : IsTopological g order) (frozen : List (Option ℕ))
     (rows : List (List Column)) (x : ℕ) (l : x < item_count g)
     (scenarios : List Scenario) (runs : List Times) (are : AreScenarios g scenarios)
     (run : AreRuns g order frozen scenarios runs)
     (n : ℕ) (s : Scenario) (t : Times) (inside : n < length scenarios) (at : s ≡ get_or scenarios n s)
     (is : t ≡ get_or runs n t) where
+  -- the scenario at the place is one of the graph
   pub law_here : IsScenario g s
   law_here = are.lawful s (scenario_at scenarios n s inside at)
 
+  -- the run at the place is the run of the scenario
   pub run_here : IsRun g order frozen s t
   run_here = run_at g order frozen scenarios runs run n s t inside at is
 
+  -- the item has a time in it exactly if it is active
   pub timed_here : IsTimedIfActive g s t x
   timed_here = timed_if_active g order frozen s t run_here x l
 
+  -- with its entry, if it is kept, the entries are those of one scenario more
   pub found_more : (entries next : List Column) → AreEntriesAmong g order frozen rows x (take n scenarios) entries →
       (r : Option Column) →
       IsKeptAt g s (get_or t.times x None) (carried g order rows s x) r

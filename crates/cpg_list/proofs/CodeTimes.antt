@@ -19,6 +19,7 @@ ArePassed columns by_time time s first at =
     (i : ℕ) (d : TimedColumn) (c : Column) → first ≤ i → i < at → ((get_or by_time i d).time ≡ time) ×
     (matches (get_or columns (get_or by_time i d).place c).cube s ≡ false)
 
+-- a search of a time order that started at the first place of a time and passed columns that don't match
 module _ (columns : List Column) (by_time : List TimedColumn) (is : IsTimeOrder columns by_time) (time : ℕ)
     (s : Scenario) (first : ℕ) (starts : StartsAt by_time time first) (at : ℕ)
     (passed : ArePassed columns by_time time s first at) where
@@ -37,9 +38,11 @@ module _ (columns : List Column) (by_time : List TimedColumn) (is : IsTimeOrder 
         ]
       ]
 
+  -- if the search comes to the end, no column of the time matches
   pub missed_end : length by_time ≤ at → FindsHit columns time s None
   missed_end h = missed (λ i d l m e. omega (arith, h, l, m))
 
+  -- if it comes to another time, no column of the time matches
   pub missed_time : (x : TimedColumn) → first ≤ at → at < length by_time → x ≡ get_or by_time at x → x.time ≢ time →
       FindsHit columns time s None
   missed_time x f l read other = missed (λ i d m n e.
@@ -60,7 +63,10 @@ pub record AreTimes (columns : List Column) (n : ℕ) (made : List TimedColumn) 
   pub each : (i : ℕ) (d : TimedColumn) (c : Column) → i < n →
       ((get_or made i d).place ≡ i) × ((get_or made i d).time ≡ (get_or columns i c).time)
 
+-- given the columns of a row
 module _ (columns : List Column) where
+  -- With the next column's time and place, the times are those of one column more.
+  -- `is`, `time`, `place` say that the next entry is added, with the column's time and place.
   pub one_timed : (n : ℕ) (made next : List TimedColumn) (x : Column) (t : TimedColumn) → n < length columns →
       AreTimes columns n made → x ≡ get_or columns n x →
       next ≡ made ++ t ∷ [] →
@@ -83,6 +89,8 @@ module _ (columns : List Column) where
         ]);
   }
 
+  -- Sorted by time, they are the columns in time order.
+  -- Sorting only changes the order, so each entry is still one of a column, and each column has its entry.
   pub time_order : (made sorted : List TimedColumn) → AreTimes columns (length columns) made →
       IsPermutation made sorted →
       IsNonDecreasingBy (λ (t : TimedColumn). t.time) sorted
@@ -112,7 +120,7 @@ module _ (columns : List Column) where
         );
   }
 
--- one more is passed
+-- with one more column of the time that doesn't match, the search has passed one place more
 pub passed_more : (columns : List Column) (by_time : List TimedColumn) (time : ℕ) (s : Scenario) (first at : ℕ) →
     ArePassed columns by_time time s first at → (x : TimedColumn) →
     at < length by_time →

@@ -10,6 +10,7 @@ use Rattle.cpg_run.specs.RowLaws.{IsTimed}
 use Rattle.cpg_run.specs.Rows.{AreRows}
 use Rattle.cpg_run.proofs.ListedRows.{listed_rows_carry}
 
+-- rows of all items, by the entries of all scenarios, are the rows that a builder has to find
 pub found_rows : (g : Graph) (urgency order : List ℕ) (frozen : List (Option ℕ)) (rows : List Row) →
     IsTimed g urgency order frozen → AreEarly frozen →
     items_of rows ≡ numbers_below (item_count g) →

@@ -1,4 +1,4 @@
--- What frames tell a node in a scenario.
+-- The literals that frames carry to a node in a scenario.
 use Rattle.std.specs.Prelude.{ℕ, ◌≡◌, ◌++◌, List, Option, Contains, get_or, None}
 use Rattle.cpg_base.specs.Graph.{Graph, inputs, broadcast_item, message_item}
 use Rattle.cpg_cube.specs.declared.column.Column.{Column}
@@ -32,19 +32,19 @@ TellsInputs g frames p = (e : ℕ) → Contains (inputs g p) e → Tells g frame
 abbrev pub heard_in : Frames → ℕ → ℕ → List Literal
 heard_in frames node c = heard_of frames.problem.now (rows_in frames) frames.scenario.now node c
 
--- what the broadcasts of the conditions that decide a process tell
+-- the literals that the broadcasts of the conditions that decide a process carry
 abbrev pub heard_at : Frames → ℕ → List Literal
 heard_at frames p = heard frames.problem.now (rows_in frames) frames.scenario.now p
 
--- what an input tells
+-- the literals that an input carries
 abbrev pub received_in : Frames → ℕ → List Literal
 received_in frames e = received_by frames.problem.now (rows_in frames) frames.scenario.now e
 
--- what the messages to a process tell
+-- the literals that the messages to a process carry
 abbrev pub received_at : Frames → ℕ → List Literal
 received_at frames p = received frames.problem.now (rows_in frames) frames.scenario.now p
 
--- what the messages to a process tell at its start: nothing if it is frozen
+-- the literals that the messages to a process carry to its start, none if it is frozen
 abbrev pub received_at_start : Frames → ℕ → List Literal
 received_at_start frames p = received_unless_frozen frames.problem.now (rows_in frames) frames.scenario.now p
 
@@ -52,7 +52,7 @@ received_at_start frames p = received_unless_frozen frames.problem.now (rows_in 
 abbrev pub IsNarrowedIn : Frames → List Literal → List Literal → List Literal → Type 0
 IsNarrowedIn frames literals old new = IsNarrowed frames.problem.now.faults literals old new
 
--- what was carried before and what decides a process stand in a cube
+-- a cube is that of what was carried before and what decides a process
 abbrev pub HasDecided : Frames → ℕ → List Literal → List Literal → Type 0
 HasDecided frames p earlier cube = IsCubeOf frames.problem.now.faults
     (earlier ++ decided frames.problem.now frames.scenario.now p ++ heard_at frames p) cube
@@ -63,7 +63,7 @@ IsStartOf frames time p earlier entry =
     IsKeptOf frames.problem.now frames.scenario.now time
     (start_after frames.problem.now (rows_in frames) frames.scenario.now p earlier) entry
 
--- at the time of the run, if there is one
+-- the entry at a start, at the time of the run, if there is one
 abbrev pub IsStartIn : Graph → Frames → ℕ → List Literal → Option Column → Type 0
 IsStartIn g frames p earlier entry =
     IsKeptAt g frames.scenario.now (get_or frames.times.now.times p None)

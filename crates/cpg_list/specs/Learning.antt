@@ -1,4 +1,4 @@
--- What a cube is narrowed by in a scenario: what frames tell, and what decides a process.
+-- What a cube is narrowed by in a scenario: the literals that frames carry, and what decides a process.
 use Rattle.std.specs.Prelude.{ℕ, ◌≡◌, ◌<◌, ◌==◌, ◌&&◌, ◌++◌, not, false, true, is_some, if◌then◌else◌, List, [], ◌∷◌}
 use Rattle.std.specs.Prelude.{Option, None, Some, length, get_or, Contains}
 use Rattle.std.specs.Option.{option_to_list}
@@ -23,7 +23,7 @@ pub record RowTells (g : Graph) (rows : List (List Column)) (s : Scenario) (t : 
   pub times : times_in (row_at rows x) s ≡ option_to_list (get_or t.times x None)
   pub within : AreWithin g.faults (row_at rows x)
 
--- each item from an earlier process than this has such a row
+-- the row of each item from an earlier process than this has the times of the run
 abbrev pub EarlierTell : Graph → List ℕ → List (List Column) → Scenario → Times → ℕ → Type 0
 EarlierTell g order rows s t p =
     (x : ℕ) → x < item_count g → place order (producer g x) < place order p → RowTells g rows s t x
@@ -57,7 +57,7 @@ queued_after g s y ends = decided g s (producer g y)
     ++ (if active g s.values (producer g y) then sent_by_value g s y else [])
     ++ (if item_active g s.values (item_at g y) && not (is_frozen g y) then ends else [])
 
--- what the messages to a process told, unless it is frozen
+-- the literals that the messages to a process carry, unless it is frozen
 abbrev pub received_unless_frozen : Graph → List (List Column) → Scenario → ℕ → List Literal
 received_unless_frozen g rows s p = if (process_at g p).frozen then [] else received g rows s p
 

@@ -1,4 +1,4 @@
--- All scenarios of a graph with their runs, and what is made of them along the order.
+-- All scenarios of a graph with their runs, and the rows and cubes that are made of them along the order.
 use Rattle.std.specs.Prelude.{ℕ, ◌+◌, ◌≡◌, ◌++◌, ◌∷◌, [], List}
 use Rattle.cpg_base.specs.Graph.{Graph, node_of}
 use Rattle.cpg_base.specs.Order.{before_on_node, place}
@@ -21,6 +21,7 @@ use Rattle.cpg_list.specs.Made.{sent_before}
 use Rattle.cpg_all_runs.specs.Runs.{AreRuns}
 use Rattle.cpg_list.specs.declared.scenario_runs.Listed.{Listed}
 
+-- the graph of listed scenarios
 abbrev pub graph_of : Listed → Graph
 graph_of listed = listed.admitted.now.graph
 

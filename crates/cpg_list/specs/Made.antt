@@ -1,4 +1,4 @@
--- What is made before the process at a place of the order: the rows of earlier items, and by node and scenario a cube
+-- The state before the process at a place of the order: the rows of earlier items, and by node and scenario a cube
 -- of what is carried on.
 use Rattle.std.specs.Prelude.{ℕ, ◌≡◌, ◌<◌, ◌≤◌, ◌⊎◌, ◌&&◌, ◌==◌, nat_lt, true, List, [], Option, length, filter, take}
 use Rattle.std.specs.Prelude.{get_or, slice_set, Contains}
@@ -29,8 +29,10 @@ pub record AreCubesOf (k : ℕ) (scenarios : List Scenario) (literals : Scenario
 pub record AreCubesUpTo (k : ℕ) (scenarios : List Scenario) (before literals : Scenario → List Literal) (n : ℕ)
     (cubes : List (List Literal)) : Type 0 where
   pub count : length cubes ≡ length scenarios
+  -- the first n scenarios have the cubes of the new literals
   pub done : (i : ℕ) (s : Scenario) → i < n → i < length scenarios →
       IsCubeOf k (literals (get_or scenarios i s)) (get_or cubes i [])
+  -- the others have the cubes of the literals before
   pub rest : (i : ℕ) (s : Scenario) → n ≤ i → i < length scenarios →
       IsCubeOf k (before (get_or scenarios i s)) (get_or cubes i [])
 
@@ -57,8 +59,10 @@ pub record AreCarried (g : Graph) (order : List ℕ) (rows : List (List Column))
     (known sent : List (List (List Literal))) : Type 0 where
   pub known_count : length known ≡ length g.nodes
   pub sent_count : length sent ≡ length g.nodes
+  -- what the processes before the place leave to those after them on the node
   pub carries : (node : ℕ) → node < length g.nodes →
       AreCubesOf g.faults scenarios (passed_by g rows (node_before g order node i)) (get_or known node [])
+  -- what the items before leave to those behind them in the node's queue
   pub queues : (node : ℕ) → node < length g.nodes →
       AreCubesOf g.faults scenarios (queued_by g order rows (sent_before g order node i)) (get_or sent node [])
 
@@ -77,8 +81,11 @@ IsSent g order p n x = IsStarted g order p x ⊎ Contains (take n (queue_of g p)
 -- a row for each item; the items that are made have theirs, and the others have no column yet
 pub record AreMade (g : Graph) (urgency order : List ℕ) (frozen : List (Option ℕ)) (made : ℕ → Type 0)
     (rows : List Row) : Type 0 where
+  -- the rows are of all items, in their order
   pub items : items_of rows ≡ numbers_below (item_count g)
+  -- an item that is made has its row
   pub each : (x : ℕ) → x < item_count g → made x → IsRowOf g urgency order frozen (columns_of_rows rows) x
+  -- an item that isn't made has no column
   pub none : (x : ℕ) → (made x → ⊥) → row_at (columns_of_rows rows) x ≡ []
 
 -- the row of one item is set to entries merged

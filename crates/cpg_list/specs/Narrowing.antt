@@ -16,7 +16,7 @@ abbrev pub met : List Literal → List Literal → List Literal
 met cube [] = cube
 met cube (l ∷ ls) = met (narrowed_by l cube) ls
 
--- a cube narrowed by literals: of whatever literals it was the cube, it is that of these and those
+-- a cube narrowed by literals: whatever literals the old cube is of, the new one is of those and these
 pub record IsNarrowed (k : ℕ) (literals old new : List Literal) : Type 0 where
   pub by : (known : List Literal) → IsCubeOf k known old → IsCubeOf k (known ++ literals) new
 

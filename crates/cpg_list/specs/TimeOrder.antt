@@ -7,11 +7,14 @@ pub use Rattle.cpg_list.specs.declared.timed.TimedColumn.{TimedColumn}
 
 -- the times rise, and each column has its time and place once
 pub record IsTimeOrder (columns : List Column) (by_time : List TimedColumn) : Type 0 where
+  -- the times rise along the places
   pub rising : (i j : ℕ) (d : TimedColumn) → i ≤ j → j < length by_time →
       (get_or by_time i d).time ≤ (get_or by_time j d).time
+  -- each entry has the place and the time of a column
   pub each : (i : ℕ) (d : TimedColumn) (c : Column) → i < length by_time →
       ((get_or by_time i d).place < length columns) ×
       ((get_or columns (get_or by_time i d).place c).time ≡ (get_or by_time i d).time)
+  -- each column has an entry
   pub all : (k : ℕ) (c : Column) → k < length columns →
       (i : ℕ) × (i < length by_time) × ((d : TimedColumn) → ((get_or by_time i d).place ≡ k) ×
       ((get_or by_time i d).time ≡ (get_or columns k c).time))
@@ -27,7 +30,7 @@ abbrev pub IsHit : List Column → ℕ → Scenario → ℕ → Type 0
 IsHit columns time s k = (c : Column) → k < length columns →
     ((get_or columns k c).time ≡ time) × (matches (get_or columns k c).cube s ≡ true)
 
--- the place of such a column, or None if there is none
+-- the place of a column of the time that matches, or None if there is none
 abbrev pub FindsHit : List Column → ℕ → Scenario → Option ℕ → Type 0
 FindsHit columns time s None = (k : ℕ) (c : Column) → k < length columns → (get_or columns k c).time ≡ time →
     matches (get_or columns k c).cube s ≡ false

@@ -43,6 +43,7 @@ fn push_met(cube: &mut Cube, first: &[Literal], second: &[Literal]) -> Result<()
     let mut ones = first;
     let mut others = second;
     loop {
+        // one of the cubes is used up: the rest of the other follows as it is
         let Some((one, ones_left)) = ones.split_first() else {
             push_all(cube, others)?;
             return Ok(());
@@ -51,6 +52,7 @@ fn push_met(cube: &mut Cube, first: &[Literal], second: &[Literal]) -> Result<()
             push_all(cube, ones)?;
             return Ok(());
         };
+        // the literal on the lower variable comes first, and two on one variable are met
         if one.variable < other.variable {
             cube.push(*one)?;
             ones = ones_left;

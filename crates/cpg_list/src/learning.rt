@@ -22,7 +22,7 @@ use cpg_rules::Admitted;
 use cpg_run::RunTimes;
 use std::alloc::Global;
 
-/// What frames tell in a scenario: the rows that are made so far, and the scenario's run.
+/// What frames carry in a scenario, by the rows that are made so far and the scenario's run.
 #[derive(Clone, Copy)]
 pub(crate) struct Frames<'a> {
     pub(crate) problem: &'a Problem,
@@ -122,6 +122,7 @@ fn narrow_by_told(
     requires { times_in row.now.columns scenario.now ≡ option_to_list time }
     ensures { OnOk result (cube.new ≡ met cube.old (carried_in_columns row.now.columns scenario.now)) }
 {
+    // the item isn't sent in the scenario
     let Some(time) = time else {
         return Ok(());
     };
@@ -134,7 +135,7 @@ fn narrow_by_told(
     Ok(())
 }
 
-/// Narrows a cube by what the frame of an item tells.
+/// Narrows a cube by the literals that the frame of an item carries.
 fn narrow_by_frame(
     alloc: Global,
     frames: &Frames<'_>,
@@ -165,6 +166,7 @@ fn narrow_by_condition(
     ensures { OnOk result (IsNarrowedIn frames.now (heard_in frames.now node condition) cube.old cube.new) }
 {
     let problem = frames.problem;
+    // the node computes the condition itself, so it hears no frame
     if problem.node_of(problem.process_of(condition)) == node {
         return Ok(());
     }
@@ -192,7 +194,7 @@ fn narrow_by_conditions(
     Ok(())
 }
 
-/// Narrows a cube by what the broadcasts of the conditions that decide a process tell.
+/// Narrows a cube by the literals that the broadcasts of the conditions that decide a process carry.
 pub(crate) fn narrow_by_heard(
     alloc: Global,
     frames: &Frames<'_>,
@@ -211,7 +213,7 @@ pub(crate) fn narrow_by_heard(
     Ok(())
 }
 
-/// Narrows a cube by what an input tells.
+/// Narrows a cube by the literals that an input carries.
 fn narrow_by_input(
     alloc: Global,
     frames: &Frames<'_>,
@@ -224,6 +226,7 @@ fn narrow_by_input(
     ensures { OnOk result (IsNarrowedIn frames.now (received_in frames.now edge) cube.old cube.new) }
 {
     let problem = frames.problem;
+    // the edge stays on one node, so no frame carries it
     if !problem.is_message(edge) {
         return Ok(());
     }
@@ -232,7 +235,7 @@ fn narrow_by_input(
     Ok(())
 }
 
-/// Narrows a cube by what inputs tell.
+/// Narrows a cube by the literals that inputs carry.
 fn narrow_by_inputs(
     alloc: Global,
     frames: &Frames<'_>,
@@ -250,7 +253,7 @@ fn narrow_by_inputs(
     Ok(())
 }
 
-/// Narrows a cube by what the messages to a process tell.
+/// Narrows a cube by the literals that the messages to a process carry.
 pub(crate) fn narrow_by_received(
     alloc: Global,
     frames: &Frames<'_>,

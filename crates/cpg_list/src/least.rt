@@ -63,6 +63,7 @@ fn is_least(problem: &Problem, cube: &Cube, scenario: &Scenario) -> bool
 {
     let literals = cube.literals();
     let processes = problem.processes().len() as u8;
+    // the counts of faults first, and then the values of the conditions
     if !has_lows(scenario, literals, 0, processes) {
         return false;
     }

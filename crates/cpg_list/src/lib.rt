@@ -1,4 +1,4 @@
-//! Tables by going over all scenarios of a graph: the rows of all items, where beside each time stand the literals from which
+//! Tables by going over all scenarios of a graph: the rows of all items, with the literals beside each time from which
 //! it was computed.
 #![tactic(auto)]
 

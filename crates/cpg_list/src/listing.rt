@@ -46,7 +46,7 @@ fn tables(
     Ok(tables)
 }
 
-/// The tables with what is greatest over all runs. The contract alone names `order`.
+/// The tables with the greatest finish and the greatest excess of all runs. The contract alone names `order`.
 fn measured(
     alloc: Global,
     admitted: &Admitted,

@@ -90,6 +90,7 @@ fn make_sends_after(
     ensures made { OnOk result (HasMadeBefore listed.now (place listed.now.order.now process + 1) rows.new.items) }
     ensures same { OnOk result (KeepsEarlier listed.now process rows.old.items rows.new.items) }
 {
+    // a frozen process carries at its ends just what decides it and its own count
     if listed.admitted.problem().is_frozen(process) {
         let ends = frozen_ends(alloc, listed.admitted, listed.scenarios, process)?;
         make_sends(alloc, listed, process, &ends, sent, rows)?;

@@ -38,9 +38,11 @@ fn deciding_value(problem: &Problem, process: u32, item: u32) -> Option<u32>
     requires item { Contains (queue_of problem.now process) item }
     ensures { IsSentValue problem.now item result }
 {
+    // a broadcast is sent at each end of its process
     let Item::Message(edge) = problem.item(item) else {
         return None;
     };
+    // the edge has no condition, so the message is sent at each end too
     if problem.edges()[edge as usize].when.is_none() {
         return None;
     }
@@ -115,6 +117,7 @@ fn pass_over(
     ensures { OnOk result ((ends : List Literal) → IsNarrowed admitted.now.graph.faults
         (queued_after admitted.now.graph scenario.now item ends) sent.old sent.new) }
 {
+    // the process itself is idle
     let Some(_) = times.time(process) else {
         let conditions = deciding(alloc, admitted, scenario, process)?;
         narrow_by_decided(
@@ -127,11 +130,12 @@ fn pass_over(
         )?;
         return Ok(());
     };
+    // the process is active, but the value of its condition isn't the one that the edge asks for
     narrow_by_sending(alloc, admitted, scenario, process, item, sent)?;
     Ok(())
 }
 
-/// The entry of a frozen message that is sent in the scenario, if that is the least of what is carried there.
+/// The entry of a frozen message that is sent in the scenario, if that is the least of the cube carried there.
 fn send_frozen(
     alloc: Global,
     admitted: &Admitted,
@@ -158,7 +162,7 @@ fn send_frozen(
     Ok(entry)
 }
 
-/// The entry of an item that is sent in the scenario, if that is the least of what is carried there.
+/// The entry of an item that is sent in the scenario, if that is the least of the cube carried there.
 fn send_plain(
     alloc: Global,
     problem: &Problem,
@@ -187,7 +191,7 @@ fn send_plain(
     Ok(entry)
 }
 
-/// The entry of an item that a process sends in a scenario, if it is active there and the scenario is the least of what is
+/// The entry of an item that a process sends in a scenario, if it is active there and the scenario is the least of the cube
 /// carried there. The cube of what stands in the queue is narrowed by what the item leaves.
 fn send_in(
     alloc: Global,
@@ -213,6 +217,7 @@ fn send_in(
 {
     let Sending { process, item } = sending;
     let problem = admitted.problem();
+    // the item isn't sent in the scenario
     let Some(time) = times.time(item) else {
         pass_over(alloc, admitted, scenario, times, process, item, sent)?;
         return Ok(None);
@@ -225,7 +230,7 @@ fn send_in(
     Ok(entry)
 }
 
-/// The entries of an item that a process sends, for the scenarios that are the least of what is carried there. The contract
+/// The entries of an item that a process sends, for the scenarios that are the least of the cubes carried there. The contract
 /// alone names `rows`.
 pub(crate) fn send_entries(
     alloc: Global,

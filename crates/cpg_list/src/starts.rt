@@ -22,7 +22,7 @@ use cpg_cube::{Column, Cube};
 use cpg_rules::Admitted;
 use std::alloc::Global;
 
-/// The entry of the start of a frozen process, if the scenario is the least of what decides the process.
+/// The entry of the start of a frozen process, if the scenario is the least of the cube of what decides the process.
 fn frozen_start(
     alloc: Global,
     problem: &Problem,
@@ -41,7 +41,7 @@ fn frozen_start(
     Ok(entry)
 }
 
-/// The entry of the start of an active process, if the scenario is the least of what is carried there. What the node has
+/// The entry of the start of an active process, if the scenario is the least of the cube carried there. What the node has
 /// carried before, and learnt of what decides the process, is narrowed by what the messages to it told, but for a frozen
 /// process.
 fn started(
@@ -62,6 +62,7 @@ fn started(
     ensures carried { OnOk result (IsNarrowedIn frames.now (received_at_start frames.now process) cube.old cube.new) }
 {
     let (problem, scenario) = (frames.problem, frames.scenario);
+    // the time of a frozen process doesn't depend on its messages
     if problem.is_frozen(process) {
         let entry = frozen_start(alloc, problem, scenario, time, process, conditions)?;
         return Ok(entry);
@@ -71,7 +72,7 @@ fn started(
     Ok(entry)
 }
 
-/// The entry of the start of a process in a scenario, if it is active there and the scenario is the least of what is carried
+/// The entry of the start of a process in a scenario, if it is active there and the scenario is the least of the cube carried
 /// there. The cube of what its node has carried on is narrowed by what it carries on from the process.
 fn start_in(
     alloc: Global,
@@ -99,6 +100,7 @@ fn start_in(
     let conditions = conditions.as_slice();
     narrow_by_decided(alloc, problem, scenario, process, conditions, cube)?;
     narrow_by_heard(alloc, frames, hints, process, conditions, cube)?;
+    // the process is idle in the scenario
     let Some(time) = frames.times.time(process) else {
         return Ok(None);
     };
@@ -107,7 +109,7 @@ fn start_in(
     Ok(entry)
 }
 
-/// The entries of the start of a process, for the scenarios that are the least of what is carried there. For each scenario
+/// The entries of the start of a process, for the scenarios that are the least of the cubes carried there. For each scenario
 /// what its node has carried on is narrowed by what it carries on from the process.
 pub(crate) fn start_entries(
     alloc: Global,

@@ -106,6 +106,7 @@ fn hit(columns: &[Column], by_time: &[TimedColumn], time: u64, scenario: &Scenar
     let first = first_at(by_time, time);
     for at in first..by_time.len() {
         let timed = by_time[at];
+        // past the columns of the time
         if timed.time != time {
             return None;
         }
@@ -145,6 +146,7 @@ impl TimedRow {
     pub(crate) fn find(&self, time: u64, scenario: &Scenario, likely: usize) -> Option<usize>
         ensures { FindsHit self.now.columns time scenario.now result }
     {
+        // a few places first, and then all columns of the time
         for place in likely..likely.saturating_add(NEAR) {
             if is_hit(self.columns.as_slice(), place, time, scenario) {
                 return Some(place);

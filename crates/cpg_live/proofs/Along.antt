@@ -40,6 +40,7 @@ pub record IsFed (name : List ℕ) (past rest : List Fetch) (start now : List �
   pub wrote : Took start now (act_lines h before)
   pub lines : act_lines h live.progress.acts ≡ act_lines h before ++ act_lines h (drop from live.progress.acts)
 
+-- more bytes of a stream only add acts
 acts_grow : (table : NodeTable) (fed piece : List ℕ) (s t : LiveState) → s ≡ after table fed →
     t ≡ after table (fed ++ piece) →
     Grows s.progress.acts t.progress.acts
@@ -52,6 +53,7 @@ abbrev pub grown_by : List ℕ → Fetch → Fetch
 grown_by piece f =
     record { name = f.name; given = f.given ++ piece; ended = is_none piece || f.ended; failed = f.failed }
 
+-- a follower along its stream that takes a piece has been fed it, and the piece's lines are still to be written
 pub fed_on : (name : List ℕ) (past : List Fetch) (shelf rest : ShelfState) (count : ℕ) (start now : List ℕ)
     (f g : Follower) →
     IsAlong name past shelf.history start now f →
@@ -75,6 +77,7 @@ fed_on name past shelf rest count start now f g a t =
           (sym a.all_told);
     }
 
+-- a piece of length 0 is empty
 no_bytes : (piece : List ℕ) → length piece ≡ 0 → is_none piece ≡ true
 no_bytes [] e = refl
 no_bytes (b ∷ bs) e = absurd (omega (arith, e))
@@ -88,6 +91,7 @@ unfolding fed_on
 fed_end name past shelf rest count start now f g a t none =
     ap (λ b. b || a.fetch.ended) (no_bytes t.piece (t.long ∙ none))
 
+-- given a piece that was fed, whose lines are still to be written
 module _ (name : List ℕ) (past rest : List Fetch) (start now out : List ℕ) (h : Head) (table : NodeTable)
     (before : List Act) (from read : ℕ) (live : LiveState)
     (k : IsFed name past rest start now h table before from read live) where
@@ -101,20 +105,24 @@ module _ (name : List ℕ) (past rest : List Fetch) (start now out : List ℕ) (
   wrote_all whole = subst (Took start out) (sym k.lines)
       (Took-trans start now out (act_lines h before) (act_lines h (drop from live.progress.acts)) k.wrote whole)
 
+  -- if a part of the piece's lines is written, the stream's lines are cut off
   pub fed_cut : TookPrefix now out (act_lines h (drop from live.progress.acts)) → IsCutOff h table k.fetch start out
   fed_cut part = cut_off h table k.fetch k.sound k.few start out
       (subst (TookPrefix start out) (sym (same_lines ∙ k.lines))
       (took_after start now out (act_lines h before) (act_lines h (drop from live.progress.acts)) k.wrote part))
 
+  -- if the piece has a lawless record, the stream is refused by that record
   pub fed_lawless : (bad : Bad) → live.bad ≡ Some bad →
       IsRefused h table k.fetch (Lawless bad) (act_lines h live.progress.acts)
   fed_lawless bad e = subst (IsRefused h table k.fetch (Lawless bad)) same_lines
       (lawless h table k.fetch k.sound k.few bad (ap (λ (s : LiveState). s.bad) (sym k.state) ∙ e))
 
+  -- if the piece goes past the limit of lawful bytes, the stream is refused as too long
   pub fed_long : live.bad ≡ None → STREAM_LIMIT < read → IsRefused h table k.fetch Long (act_lines h live.progress.acts)
   fed_long e l = subst (IsRefused h table k.fetch Long) same_lines (too_long h table k.fetch k.sound k.few
       (ap (λ (s : LiveState). s.bad) (sym k.state) ∙ e) (omega (arith, l, k.long)))
 
+  -- if the piece is lawful and within the limit, and its lines are written, the follower is along the stream
   pub fed_along : live.bad ≡ None → read ≤ STREAM_LIMIT → Took now out (act_lines h (drop from live.progress.acts)) →
       IsAlong name past rest start out
       (record { head = h; table = table; live = live; told = length live.progress.acts; read = read })
@@ -134,10 +142,12 @@ module _ (name : List ℕ) (past rest : List Fetch) (start now out : List ℕ) (
 
 -- ---- what is written
 
+-- what holds if a result is an error holds of one that is
 pub on_err : {T E : Type 0} {P : Type 0} (r : Result T E) → is_err r ≡ true → OnErr r P → P
 on_err (Ok x) e p = absurd (true≢false (sym e))
 on_err (Err x) e p = p
 
+-- what holds if a result is no error holds of one that is none
 pub on_ok : {T E : Type 0} {P : Type 0} (r : Result T E) → is_err r ≡ false → OnOk r P → P
 on_ok (Ok x) e p = p
 on_ok (Err x) e p = absurd (true≢false e)
@@ -149,6 +159,7 @@ rest_few told acts = omega (arith, length-take (length acts - told) (drop told a
 rest_is : (told : ℕ) (acts : List Act) → take (length acts - told) (drop told acts) ≡ drop told acts
 rest_is told acts = take_all (length acts - told) (drop told acts) (omega (arith, length-drop told acts))
 
+-- the lines of the acts that aren't told are what is appended to an empty list
 pub told_lines : (h k : Head) (acts done : List Act) (told : ℕ) (clear items : List ℕ) →
     items ≡ clear ++ act_lines k (take (length acts - told) (drop told acts)) → clear ≡ [] → k ≡ h → acts ≡ done →
     items ≡ act_lines h (drop told done)
@@ -162,6 +173,7 @@ pub lines_told : (shelf rest : ShelfState) (f n : Follower) (count : ℕ) → Ta
     act_lines n.head (drop n.told n.live.progress.acts) ≡ act_lines f.head (drop f.told n.live.progress.acts)
 lines_told shelf rest f n count t = ap (λ (f : Follower). act_lines f.head (drop f.told n.live.progress.acts)) t.state
 
+-- the follower after a piece, once it has told all its acts
 pub told_as : (shelf rest : ShelfState) (f n s : Follower) (count : ℕ) → TakesPiece shelf rest f n count →
     s ≡ record n { told = length n.live.progress.acts } →
     record { head = f.head; table = f.table; live = n.live; told = length n.live.progress.acts; read = n.read } ≡ s
@@ -187,7 +199,7 @@ along_at name past shelf rest count start now out f n s a t none within whole e 
     subst (IsAlongAt count name past rest.history start out) (told_as shelf rest f n s count t e)
     (record { along = along; end = fed_end name past shelf rest count start now f n a t })
 
--- before the first byte
+-- with these parts, the follower is the one if the shelf meets a fault before the first byte, the stream breaks there
 pub opened : (h k : Head) (table made : NodeTable) (live : LiveState) → k ≡ h → made ≡ table → live ≡ open_stream made →
     record { head = k; table = live.progress.dispatcher.table; live = live; told = 0; read = 0 } ≡ open_follower h table
 opened h k table made live same is e =
@@ -205,6 +217,7 @@ opened h k table made live same is e =
 abbrev pub broken_off : Fetch → Fetch
 broken_off f = record { name = f.name; given = f.given; ended = f.ended; failed = true }
 
+-- if the shelf meets a fault after some pieces, the stream breaks there, with the lines so far
 pub unread : (name : List ℕ) (past history rest : List Fetch) (start now : List ℕ) (f : Follower) (out : SinkState) →
     (a : IsAlong name past history start now f) →
     rest ≡ failed history →
@@ -243,6 +256,7 @@ unfetched name past rest h table old e = record {
 
 -- ---- the end
 
+-- a follower whose stream was opened is along it before the first byte
 pub along_open : (name : List ℕ) (past history : List Fetch) (now : List ℕ) (h : Head) (table : NodeTable) →
     history ≡ started name false past →
     IsAlong name past history now now (open_follower h table)
@@ -259,6 +273,7 @@ along_open name past history now h table e = record {
   wrote = Took-none now;
 }
 
+-- given a follower along a stream that has come to its end
 module _ (name : List ℕ) (past history : List Fetch) (start now : List ℕ) (f : Follower)
     (a : IsAlong name past history start now f) (ended : a.fetch.ended ≡ true) (old new : SinkState) where
   acts : List ℕ
@@ -290,6 +305,7 @@ module _ (name : List ℕ) (past history : List Fetch) (start now : List ℕ) (f
     );
   }
 
+  -- a stream that ends otherwise breaks, as its end answers
   pub ended_broken : (broken : Broken) → Closes f old.faults new.faults now new.taken (Err broken) →
       IsStreamed (λ s. Breaks f.head f.table s broken) name past history start old new
   unfolding acts
@@ -338,6 +354,7 @@ breaks_on f n name past history start first old new broken same kept b =
     (subst (λ h. IsStreamed (λ s. Breaks h f.table s broken) name past history start old new) same.head
     (subst (λ table. IsStreamed (λ s. Breaks n.head table s broken) name past history start old new) same.table b))
 
+-- a stream that an equal follower completes from a later state of the sink on is completed in the run
 pub completes_on : (f n : Follower) (name : List ℕ) (past history : List Fetch) (start : List ℕ)
     (first old new : SinkState) → IsOfSame f n →
     old.faults ≡ first.faults →
@@ -348,7 +365,7 @@ completes_on f n name past history start first old new same kept b =
     (subst (λ h. IsStreamed (Completes h f.table) name past history start old new) same.head
     (subst (λ table. IsStreamed (Completes n.head table) name past history start old new) same.table b))
 
--- what the end of all pieces answers
+-- after the last piece, the answer says whether the stream is complete, or how it breaks
 pub end_of_all : (f n : Follower) (name : List ℕ) (past history : List Fetch) (start now : List ℕ)
     (first old new : SinkState) (result : Result Unit Broken) → IsOfSame f n →
     old.faults ≡ first.faults → (at : IsAlongAt 0 name past history start now n) →
@@ -362,11 +379,12 @@ end_of_all f n name past history start now first old new (Err broken) same kept 
     breaks_on f n name past history start first old new broken same kept
     (ended_broken name past history start now n at.along (at.end refl) old new broken closes)
 
--- what follows for the answer of a run
+-- if each answer of a run has its meaning, success has that of success
 pub on_match_ok : {T E : Type 0} (P : T → Type 0) (Q : E → Type 0) (r : Result T E) → MatchResult r P Q → IfOk r P
 on_match_ok P Q (Ok x) p = p
 on_match_ok P Q (Err e) p = tt
 
+-- if each answer of a run has its meaning, an error has that of errors
 pub on_match_err : {T E : Type 0} (P : T → Type 0) (Q : E → Type 0) (r : Result T E) → MatchResult r P Q → IfErr r Q
 on_match_err P Q (Ok x) p = tt
 on_match_err P Q (Err e) p = p

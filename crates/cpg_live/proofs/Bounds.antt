@@ -19,11 +19,12 @@ use Rattle.cpg_live.specs.Stream.{take_record, open_stream, with_rest, after}
 use Rattle.cpg_live.proofs.Turns.{found_is}
 
 module _ (table : NodeTable) (most : ℕ) where
-  -- the acts so far, and the entries of the table that are left, are at most so many
+  -- the acts so far and the entries of the table that are left are together at most `most`
   record HasFew (p : NodeProgress) : Type 0 where
     same : p.dispatcher.table ≡ table
     few : length p.acts + length (entries_left p.dispatcher) ≤ most
 
+  -- turns, events and records keep this bound
   turn_few : (limit : ℕ) (p : NodeProgress) → HasFew p → HasFew (turn_below limit p)
   turn_few limit p h = go (instant_below limit (next p.dispatcher)) refl
     where
@@ -68,6 +69,7 @@ module _ (table : NodeTable) (most : ℕ) where
           told false = w
   step_few time Close p h = turned_few (time + 1) p h
 
+  -- a record keeps the bound, whatever is wrong with it
   settled_few : (s : LiveState) (time : ℕ) (event : Event) (why : Option Why) → HasFew s.progress →
       HasFew (settled s time event why).progress
   settled_few s time event None h = h
@@ -105,6 +107,7 @@ module _ (table : NodeTable) (most : ℕ) where
       go false true = h
       go false false = h
 
+-- after bytes of a stream the bound holds for the columns of what the node sends and starts
 after_few : (table : NodeTable) (bytes : List ℕ) →
     HasFew table (column_count table.sends + column_count table.starts) (after table bytes).progress
 after_few table bytes =
@@ -119,7 +122,7 @@ pub few_acts : (table : NodeTable) (bytes : List ℕ) →
     length (after table bytes).progress.acts ≤ column_count table.sends + column_count table.starts
 few_acts table bytes = let h = after_few table bytes in omega (arith, h.few)
 
--- the table stays
+-- bytes leave the table as it is
 pub table_after : (table : NodeTable) (bytes : List ℕ) (s : LiveState) → s ≡ after table bytes →
     s.progress.dispatcher.table ≡ table
 table_after table bytes s e = ap (λ (s : LiveState). s.progress.dispatcher.table) e ∙ (after_few table bytes).same

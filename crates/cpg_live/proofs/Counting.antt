@@ -40,12 +40,14 @@ byte_counted c byte count h = go (length c.rest + 1 == 14) refl
         less (inl l) = omega (arith, l, length-append c.rest (byte ∷ []))
         less (inr m) = absurd (true≢false (sym (eq-eqb (length c.rest + 1) 14 (omega (arith, m, h.part))) ∙ e))
 
+-- more bytes that are cut are counted too
 bytes_counted : (c : Cut) (bytes : List ℕ) (count : ℕ) → IsCounted c count →
     IsCounted (fold cut_byte c bytes) (count + length bytes)
 bytes_counted c [] count h = subst (IsCounted c) (omega arith) h
 bytes_counted c (byte ∷ bytes) count h = subst (IsCounted (fold cut_byte (cut_byte c byte) bytes)) (omega arith)
     (bytes_counted (cut_byte c byte) bytes (count + 1) (byte_counted c byte count h))
 
+-- bytes are cut into whole records and less than one more
 pub cut_counted : (bytes : List ℕ) → IsCounted (cut bytes) (length bytes)
 cut_counted bytes = subst (IsCounted (cut bytes)) (omega arith)
     (bytes_counted (record { whole = []; rest = [] }) bytes 0 (record { part = omega arith; all = omega arith }))
@@ -60,12 +62,14 @@ record IsTaken (s t : LiveState) : Type 0 where
 refused_not : (s : LiveState) (why : Why) → (refused s why).bad ≡ None → ⊥
 refused_not s why e = true≢false (ap is_some e)
 
+-- a record that leaves the stream lawful is counted
 settled_taken : (s t : LiveState) (time : ℕ) (event : Event) (why : Option Why) → t.bad ≡ s.bad → t.taken ≡ s.taken →
     (settled t time event why).bad ≡ None →
     IsTaken s (settled t time event why)
 settled_taken s t time event None b n e = record { lawful = sym b ∙ e; taken = ap (λ k. min (k + 1) (2 ^ 64 - 1)) n }
 settled_taken s t time event (Some why) b n e = absurd (refused_not t why e)
 
+-- a record that is judged lawful is counted
 judged_taken : (s : LiveState) (time : ℕ) (event : Option Event) → (judged s time event).bad ≡ None →
     IsTaken s (judged s time event)
 judged_taken s time None e = absurd (refused_not s Kind e)
@@ -90,10 +94,12 @@ record_taken s bytes e = go (is_some s.bad) s.closed refl e
     go false false some e =
         judged_taken s (record_of bytes).time (event_of s.progress.dispatcher.table (record_of bytes)) e
 
+-- if a stream is lawful after records, it was lawful before them
 records_lawful : (s : LiveState) (rs : List (List ℕ)) → (fold take_record s rs).bad ≡ None → s.bad ≡ None
 records_lawful s [] e = e
 records_lawful s (r ∷ rs) e = (record_taken s r (records_lawful (take_record s r) rs e)).lawful
 
+-- records that leave the stream lawful are all counted
 records_taken : (s : LiveState) (rs : List (List ℕ)) → s.taken ≤ 2 ^ 64 - 1 → (fold take_record s rs).bad ≡ None →
     (fold take_record s rs).taken ≡ min (s.taken + length rs) (2 ^ 64 - 1)
 records_taken s [] l e = omega (arith, l)
@@ -145,6 +151,7 @@ pub record IsWithinRecord (s : LiveState) (records : ℕ) : Type 0 where
   pub taken : s.taken ≡ records
   pub not_closed : s.closed ≡ false
 
+-- after lawful bytes that end within a record, each whole record is counted and none is a close
 pub within_record : (table : NodeTable) (bytes : List ℕ) (records part : ℕ) → (after table bytes).bad ≡ None →
     length bytes ≡ 14 * records + part → 0 < part → part < 14 →
     records < 2 ^ 64 →

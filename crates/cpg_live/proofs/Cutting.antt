@@ -23,6 +23,7 @@ use Rattle.cpg_live.specs.Laws.{Feeds}
 abbrev IsEmpty : LiveState → Type 0
 IsEmpty s = s.rest ≡ []
 
+-- a record leaves no bytes of the next one
 settled_empty : (s : LiveState) (time : ℕ) (event : Event) (why : Option Why) → IsEmpty s →
     IsEmpty (settled s time event why)
 settled_empty s time event None e = e
@@ -66,7 +67,7 @@ no_rest s e = go (is_some s.bad) s.closed
 abbrev more : LiveState → List ℕ → LiveState
 more s rest = cond (length rest == 14) (with_rest (take_record s rest) []) (with_rest s rest)
 
--- if a record was lawless
+-- one more byte after a lawless record
 bad_byte : (s : LiveState) (bad : Bad) (rest bytes : List ℕ) (byte : ℕ) → s.bad ≡ Some bad →
     take_byte (with_rest s rest) byte ≡ more s bytes
 bad_byte s bad rest bytes byte e =
@@ -86,7 +87,7 @@ bad_byte s bad rest bytes byte e =
 some_length : (rest : List ℕ) (byte : ℕ) → 0 < length (rest ++ byte ∷ [])
 some_length rest byte = omega (arith, length-append rest (byte ∷ []))
 
--- after a close
+-- one more byte after a close
 closed_byte : (s : LiveState) (rest : List ℕ) (byte : ℕ) → IsEmpty s → s.bad ≡ None → s.closed ≡ true →
     take_byte (with_rest s rest) byte ≡ more s (rest ++ byte ∷ [])
 closed_byte s rest byte e n c =
@@ -146,6 +147,7 @@ open_byte s rest byte e n c =
     both true = whole
     both false = sym (held (rest ++ byte ∷ []))
 
+-- a byte after whole records and the first bytes of the next one is taken as all of these bytes
 next_byte : (s : LiveState) (rest : List ℕ) (byte : ℕ) → IsEmpty s →
     take_byte (with_rest s rest) byte ≡ more s (rest ++ byte ∷ [])
 next_byte s rest byte e = go s.bad refl
@@ -175,6 +177,7 @@ cut_next table c byte =
     both true false e = absurd (true≢false e)
     both false true e = absurd (true≢false (sym e))
 
+-- bytes after bytes are taken as all of them, cut into records
 cut_more : (table : NodeTable) (c : Cut) (bytes : List ℕ) →
     take_bytes (after_cut table c) bytes ≡ after_cut table (fold cut_byte c bytes)
 cut_more table c [] = refl
@@ -208,6 +211,7 @@ opened s byte n c =
     ap (λ b. cond b s (cond s.closed (refused s Length) (take_open s (s.rest ++ byte ∷ [])))) (ap is_some n)
     ∙ ap (λ b. cond b (refused s Length) (take_open s (s.rest ++ byte ∷ []))) c
 
+-- a byte that completes a record has the record judged
 pub whole_byte : (s : LiveState) (byte : ℕ) (bytes : List ℕ) (told : Record) → s.bad ≡ None → s.closed ≡ false →
     bytes ≡ s.rest ++ byte ∷ [] → length bytes ≡ 14 →
     told ≡ record_of bytes →
@@ -219,6 +223,7 @@ whole_byte s byte bytes told n c same l is =
     (eq-eqb (length bytes) 14 l))
     ∙ ap (take_open s) same ∙ sym (opened s byte n c)
 
+-- a byte that does not complete a record is kept with the record's first bytes
 pub part_byte : (s : LiveState) (byte : ℕ) (bytes : List ℕ) → s.bad ≡ None → s.closed ≡ false →
     bytes ≡ s.rest ++ byte ∷ [] → length bytes ≢ 14 →
     record s { rest = bytes } ≡ take_byte s byte
@@ -227,7 +232,7 @@ part_byte s byte bytes n c same l =
     (ne_eqb (length bytes) 14 l))
     ∙ ap (take_open s) same ∙ sym (opened s byte n c)
 
--- what a feed keeps after a lawless record
+-- a feed after a lawless record changes nothing
 pub kept : (s now : LiveState) (bytes : List ℕ) → now ≡ take_bytes s bytes → IfSome s.bad (λ _. now ≡ s)
 kept s now bytes is = go s.bad refl
   where

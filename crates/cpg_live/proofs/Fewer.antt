@@ -42,10 +42,12 @@ candidate_next : (d : Dispatcher) (x : ℕ) → Contains (candidates d) x → is
     (y : ℕ) × (next d ≡ Some y) × (y ≤ x)
 candidate_next d x m a = go (next d) refl
   where
+    -- by the next instant of the node: without one no candidate is after the last turn
     go : (o : Option ℕ) → next d ≡ o → (y : ℕ) × (next d ≡ Some y) × (y ≤ x)
     go None e = absurd (true≢false (sym (next_none d e x m) ∙ not_by d.last x a))
     go (Some y) e = (y, e, (next_is d y e).least x m (not_by d.last x a))
 
+-- if no awaited instant is below the limit, no turn is taken
 still_fewer : (n limit : ℕ) (p : NodeProgress) → instant_below limit (next_awaited p.dispatcher) ≡ None →
     turns_awaited n limit p ≡ p
 unfolding turns_awaited
@@ -55,25 +57,30 @@ still_fewer (suc n) limit p e = ap (λ o. turns_awaited n limit (turn_if p o)) e
 -- What runs tells few faults.
 
 module _ (k : ℕ) where
+  -- what runs still tells few faults after a turn
   few_after : (ended : List Ended) (acts : List Act) (time : ℕ) (o : Own) (run : Option Running) → TellsFew k run →
       TellsFew k (running_after ended acts time o run)
   few_after ended acts time o run h =
       go (list_any (λ (a : Act). a.item == o.process) acts) (list_any (λ (e : Ended). e.process == o.process) ended)
     where
+      -- by whether the process starts (its run has no report yet), ends (it runs no more), or neither
       go : (b c : Bool) → TellsFew k (cond b (Some (record { start = time; report = None })) (cond c None run))
       go true c = tt
       go false true = tt
       go false false = h
 
+  -- a report of few faults leaves what runs telling few
   few_report : (e : Ended) → e.faults ≤ k → (o : Own) (run : Option Running) → TellsFew k run →
       TellsFew k (with_report e o run)
   few_report e few o None h = h
   few_report e few o (Some run) h = go (o.process == e.process)
     where
+      -- by whether the report is of this process
       go : (b : Bool) → TellsFew k (cond b (Some (record { start = run.start; report = Some e })) (Some run))
       go true = few
       go false = h
 
+  -- what keeps each execution telling few faults keeps all of them so
   few_zip : (f : Own → Option Running → Option Running) →
       ((o : Own) (run : Option Running) → TellsFew k run → TellsFew k (f o run)) →
       (os : List Own) (runs : List (Option Running)) →
@@ -85,8 +92,9 @@ module _ (k : ℕ) where
       All-cons (TellsFew k) (f o run) (zip_with f os runs) (keep o run (All-head (TellsFew k) run runs h))
       (few_zip f keep os runs (All-tail (TellsFew k) run runs h))
 
--- What an end that is told moves.
+-- What a reported end moves.
 
+-- a process that is not among a node's own runs nothing
 none_in : (p : ℕ) (os : List Own) (runs : List (Option Running)) → ((o : Own) → Contains os o → o.process ≢ p) →
     running_in os runs p ≡ None
 none_in p [] runs h = refl
@@ -95,40 +103,51 @@ none_in p (o ∷ os) (run ∷ runs) h =
     cond-false _ run (running_in os runs p) (ne_eqb o.process p (h o (Contains-first o os)))
     ∙ none_in p os runs (λ q m. h q (Contains-rest o os q m))
 
+-- a process as the node's table has it
 abbrev own_in : List Own → ℕ → Own
 own_in os p = get_or (filter (λ (o : Own). o.process == p) os) 0 (record { process = 0; condition = None; times = [] })
 
+-- the awaited ends of what runs
 abbrev ends_in : ℕ → List Own → List (Option Running) → List ℕ
 ends_in k os runs = flat_map (λ ends. ends) (zip_with (awaited_end k) os runs)
 
+-- the report comes no later than the planned end of its execution
 abbrev InTime : ℕ → Ended → List Own → List (Option Running) → Type 0
 InTime time e os runs = (run : Running) → running_in os runs e.process ≡ Some run →
     time ≤ run.start + get_or (own_in os e.process).times e.faults 0
 
+-- after a report in time, each awaited end was awaited before or is not before the report
 moved : (k time : ℕ) (e : Ended) (os : List Own) (runs : List (Option Running)) → DoRise os → InTime time e os runs →
     (x : ℕ) → Contains (ends_in k os (zip_with (with_report e) os runs)) x → Contains (ends_in k os runs) x ⊎ (time ≤ x)
 moved k time e [] runs r h x m = absurd (Contains-nil x m)
 moved k time e (o ∷ os) [] r h x m = absurd (Contains-nil x m)
 moved k time e (o ∷ os) (run ∷ runs) r h x m = go (o.process == e.process) refl run h m (moved k time e os runs r.1)
   where
+    -- the awaited ends of the other processes before the report
     rest : List ℕ
     rest = ends_in k os runs
 
+    -- the awaited ends of the other processes after the report
     new : List ℕ
     new = ends_in k os (zip_with (with_report e) os runs)
 
+    -- what holds for the others holds with the ends of the first process in front
     later : (mine : List ℕ) → Contains rest x ⊎ (time ≤ x) → Contains (mine ++ rest) x ⊎ (time ≤ x)
     later mine (inl c) = inl (Contains-append_right mine rest x c)
     later mine (inr l) = inr l
 
+    -- what the first process runs after the report
     here : (b : Bool) (run : Option Running) → Option Running
     here b None = None
     here b (Some run) = cond b (Some (record { start = run.start; report = Some e })) (Some run)
 
+    -- the report changes the run of the first process just so
     is_here : (run : Option Running) → with_report e o run ≡ here (o.process == e.process) run
     is_here None = refl
     is_here (Some run) = refl
 
+    -- By induction on the processes, by whether the report is of the first one. If not, the first keeps its awaited
+    -- ends. If so, the others keep theirs, and the first awaits its reported end, which is not before the time.
     go : (b : Bool) → o.process == e.process ≡ b → (run : Option Running) → InTime time e (o ∷ os) (run ∷ runs) →
         Contains (awaited_end k o (with_report e o run) ++ new) x →
         (InTime time e os runs → (x : ℕ) → Contains new x → Contains rest x ⊎ (time ≤ x)) →
@@ -146,6 +165,7 @@ moved k time e (o ∷ os) (run ∷ runs) r h x m = go (o.process == e.process) r
           | inr c ↦ later (awaited_end k o run) (ih tail x c)
         ]
       where
+        -- a report of another process changes nothing
         plain : (run : Option Running) → here false run ≡ run
         plain None = refl
         plain (Some run) = refl
@@ -157,6 +177,7 @@ moved k time e (o ∷ os) (run ∷ runs) r h x m = go (o.process == e.process) r
           | inr c ↦ later (awaited_end k o run) (ih tail x c)
         ]
       where
+        -- what the first process runs awaits the reported end alone
         first : (run : Option Running) → InTime time e (o ∷ os) (run ∷ runs) →
             Contains (awaited_end k o (with_report e o run)) x →
             Contains (awaited_end k o run ++ rest) x ⊎ (time ≤ x)
@@ -177,10 +198,14 @@ moved k time e (o ∷ os) (run ∷ runs) r h x m = go (o.process == e.process) r
             ]
 
 -- Two nodes that differ in their last instants alone.
+-- One node, with last turn l, takes all turns; the other, with last turn m, leaves out those at instants that it
+-- doesn't await.
 module _ (t : NodeTable) (made : IsTable t) where
+  -- a node with this table
   abbrev node : List Range → List (Option Running) → Option ℕ → Dispatcher
   node h r l = record { table = t; heard = h; running = r; last = l }
 
+  -- a node with its acts
   abbrev prog : List Range → List (Option Running) → Option ℕ → List Act → NodeProgress
   prog h r l a = record { dispatcher = node h r l; acts = a }
 
@@ -190,6 +215,7 @@ module _ (t : NodeTable) (made : IsTable t) where
     few : All (TellsFew t.faults) r
     reached : (x : ℕ) → Contains (awaited (node [] r None)) x → is_after l x ≡ is_after m x
 
+  -- both nodes are the same but for their last turns, which are before the limit, and they are alike
   record Pair (limit : ℕ) (P Q : NodeProgress) : Type 0 where
     heard : List Range
     runs : List (Option Running)
@@ -202,6 +228,7 @@ module _ (t : NodeTable) (made : IsTable t) where
     before : is_after l limit ≡ true
     later : is_after m limit ≡ true
 
+  -- an awaited instant after the one node's last turn is not before the other node's next instant
   awaited_next : (h : List Range) (r : List (Option Running)) (l m : Option ℕ) → Alike r l m → (x : ℕ) →
       Contains (awaited (node h r m)) x →
       is_after m x ≡ true →
@@ -230,10 +257,12 @@ module _ (t : NodeTable) (made : IsTable t) where
       next_awaited (node h r m) ≡ Some time
   next_same h r l m time a e c = go (next_awaited (node h r m)) refl
     where
+      -- the instant is awaited by the other node, after its last turn
       there : Contains (filter (is_after m) (awaited (node h r m))) time
       there = Contains-filter (is_after m) (awaited (node h r m)) time
           (sym (a.reached time c) ∙ (next_is (node h r l) time e).after) c
 
+      -- by the next awaited instant of the other node: it is neither before nor after the instant
       go : (o : Option ℕ) → next_awaited (node h r m) ≡ o → o ≡ Some time
       go None z = absurd (Contains-nil time (subst (λ l. Contains l time) (least_of_none _ z) there))
       go (Some y) z =
@@ -258,7 +287,7 @@ module _ (t : NodeTable) (made : IsTable t) where
     reached = λ x c. refl;
   }
 
-  -- a turn that is left out
+  -- a turn that the node of all turns takes and the other leaves out keeps both alike
   alike_quiet : (h : List Range) (r : List (Option Running)) (l m : Option ℕ) (time : ℕ) → Alike r l m →
       next (node h r l) ≡ Some time →
       (Contains (awaited (node h r m)) time → ⊥) →
@@ -278,6 +307,7 @@ module _ (t : NodeTable) (made : IsTable t) where
         ]);
   }
 
+  -- a turn at an instant that is not awaited changes nothing but the last instant
   left_out : (h : List Range) (r : List (Option Running)) (l m : Option ℕ) (a : List Act) (time : ℕ) → Alike r l m →
       (Contains (awaited (node h r m)) time → ⊥) →
       take_turn time (prog h r l a) ≡ prog h r (Some time) a
@@ -293,6 +323,7 @@ module _ (t : NodeTable) (made : IsTable t) where
       is_after m limit ≡ true →
       Pair limit (turns_below n limit (prog h r l a)) (turns_awaited k limit (prog h r m a))
 
+  -- if the node of all turns has no instant below the limit, neither node takes a turn and they stay alike
   ended_alike : (n k limit : ℕ) (h : List Range) (r : List (Option Running)) (l m : Option ℕ) (a : List Act) →
       Alike r l m → is_after l limit ≡ true →
       is_after m limit ≡ true →
@@ -311,7 +342,7 @@ module _ (t : NodeTable) (made : IsTable t) where
     later = g;
   }
 
-  -- a turn of both
+  -- a turn that both nodes take leaves both alike
   both_turn : (n limit : ℕ) → TurnsAlike n limit →
       (k : ℕ) (h : List Range) (r : List (Option Running)) (l m : Option ℕ) (a : List Act) → Alike r l m →
       limit ≤ suc n + after_last l →
@@ -336,6 +367,7 @@ module _ (t : NodeTable) (made : IsTable t) where
       (a ++ acts_of_turn d b.time [] []) (alike_turn h r l b.time same.count same.few)
       (omega (arith, p, f)) (omega (arith, q, g)) (lt-ltb b.time limit b.less) (lt-ltb b.time limit b.less))
 
+  -- a turn of the node of all turns, which the other takes too or leaves out, leaves both alike
   next_turn : (n limit : ℕ) → TurnsAlike n limit →
       (k : ℕ) (h : List Range) (r : List (Option Running)) (l m : Option ℕ) (a : List Act) → Alike r l m →
       limit ≤ suc n + after_last l →
@@ -358,6 +390,7 @@ module _ (t : NodeTable) (made : IsTable t) where
             (lt-ltb b.time limit b.less) g)
       ]
 
+  -- the turns below a limit leave both nodes alike
   turns_alike : (n limit : ℕ) → TurnsAlike n limit
   unfolding turns_below
   turns_alike zero limit k h r l m a same p q f g = elim (below_or_not limit (next (node h r l))) [
@@ -403,7 +436,7 @@ module _ (t : NodeTable) (made : IsTable t) where
     fault : z.fault ≡ s.fault
     pair : Pair limit s.progress z.progress
 
-  -- a frame
+  -- a frame is lawful for both nodes or for neither, and leaves them alike
   arrived_alike : (time : ℕ) (f : Frame) (P Q : NodeProgress) → Pair time P Q →
       StepPair time (arrived time f P) (arrived time f Q)
   arrived_alike time f P Q k =
@@ -411,6 +444,7 @@ module _ (t : NodeTable) (made : IsTable t) where
       (subst (λ Q. StepPair time (arrived time f (prog k.heard k.runs k.l k.acts)) (arrived time f Q)) (sym k.two)
       (go (is_strange (node k.heard k.runs k.l) time f)))
     where
+      -- by whether the frame is strange, which the table and the time decide
       go : (b : Bool) →
           StepPair time (cond b (faulty (prog k.heard k.runs k.l k.acts) StrangeFrame)
           (lawful (prog (hear_frame t k.heard f) k.runs k.l k.acts)))
@@ -449,7 +483,7 @@ module _ (t : NodeTable) (made : IsTable t) where
             };
           }
 
-  -- an end that may be told isn't due before it is told
+  -- an end that may be reported is not reported after its planned end
   in_time : (h : List Range) (r : List (Option Running)) (l : Option ℕ) (time : ℕ) (e : Ended) (o : Option Running) →
       may_end_now (node h r l) time e o ≡ true →
       (run : Running) →
@@ -461,6 +495,7 @@ module _ (t : NodeTable) (made : IsTable t) where
       subst (λ (run : Running). time ≤ run.start + get_or (own_in t.own e.process).times e.faults 0)
       (same_Some q run is) (leb-true time (q.start + time_of (node h r l) e.process e.faults) parts.1)
 
+  -- an end that may be reported leaves both nodes alike
   told_alike : (h : List Range) (r : List (Option Running)) (l m : Option ℕ) (time : ℕ) (e : Ended) → Alike r l m →
       is_after l time ≡ true →
       is_after m time ≡ true →
@@ -484,6 +519,7 @@ module _ (t : NodeTable) (made : IsTable t) where
             ];
       }
 
+  -- an end is lawful for both nodes or for neither, and leaves them alike
   ended_step : (time : ℕ) (e : Ended) (P Q : NodeProgress) → Pair time P Q →
       StepPair time (ended time e P) (ended time e Q)
   ended_step time e P Q k =
@@ -491,6 +527,7 @@ module _ (t : NodeTable) (made : IsTable t) where
       (subst (λ Q. StepPair time (ended time e (prog k.heard k.runs k.l k.acts)) (ended time e Q)) (sym k.two)
       (go (may_end (node k.heard k.runs k.l) time e) refl))
     where
+      -- by whether the end may be reported, which is asked of the first node
       go : (b : Bool) → may_end (node k.heard k.runs k.l) time e ≡ b →
           StepPair time (cond b (lawful (prog k.heard (zip_with (with_report e) t.own k.runs) k.l k.acts))
           (faulty (prog k.heard k.runs k.l k.acts) FalseEnd))
@@ -534,6 +571,7 @@ module _ (t : NodeTable) (made : IsTable t) where
   bound time (Ending process faults value) = time
   bound time Close = time + 1
 
+  -- an event is lawful for both nodes or for neither, and leaves them alike
   step_alike : (time : ℕ) (event : Event) (P Q : NodeProgress) → Pair time P Q →
       StepPair (bound time event) (step time event P) (step_fewer time event Q)
   step_alike time (Arrival f) P Q k =
@@ -544,13 +582,15 @@ module _ (t : NodeTable) (made : IsTable t) where
   step_alike time Close P Q k =
       record { fault = refl; pair = turned_alike (time + 1) P Q (pair_later time (time + 1) P Q (omega arith) k) }
 
-  -- two streams
+  -- Two streams.
+  -- The nodes of both are alike, up to a limit that the time of the last record bounds, and all else is the same.
   record Twins (s z : LiveState) : Type 0 where
     limit : ℕ
     pair : Pair limit s.progress z.progress
     up_to : s.bad ≡ None → s.closed ≡ false → limit ≤ s.time
     same : z ≡ record s { progress = z.progress }
 
+  -- streams that are refused for the same reason stay alike
   refused_twins : (s z : LiveState) (why : Why) → Twins s z → Twins (refused s why) (refused z why)
   refused_twins s z why k = record {
     limit = k.limit;
@@ -559,12 +599,14 @@ module _ (t : NodeTable) (made : IsTable t) where
     same = ap (λ z. refused z why) k.same;
   }
 
+  -- a record leaves both streams alike, whatever is wrong with it
   settled_twins : (s : LiveState) (P Q : NodeProgress) (time : ℕ) (event : Event) (o : Option Why) →
       Pair (bound time event) P Q →
       Twins (settled (record s { progress = P }) time event o) (settled (record s { progress = Q }) time event o)
   settled_twins s P Q time event None k =
       record { limit = bound time event; pair = k; up_to = λ _ more. far event more; same = refl }
     where
+      -- a record other than a close brings the limit no further than its time
       far : (event : Event) → is_close event ≡ false → bound time event ≤ time
       far (Arrival f) e = omega arith
       far (Ending process faults value) e = omega arith
@@ -572,6 +614,7 @@ module _ (t : NodeTable) (made : IsTable t) where
   settled_twins s P Q time event (Some why) k =
       record { limit = bound time event; pair = k; up_to = λ none _. absurd (none-some _ (sym none)); same = refl }
 
+  -- a record leaves both streams alike
   judged_twins : (s : LiveState) (Q : NodeProgress) (limit time : ℕ) (o : Option Event) → Pair limit s.progress Q →
       limit ≤ s.time →
       Twins s (record s { progress = Q }) →
@@ -579,6 +622,7 @@ module _ (t : NodeTable) (made : IsTable t) where
   judged_twins s Q limit time None k le t = refused_twins s (record s { progress = Q }) Kind t
   judged_twins s Q limit time (Some event) k le t = go (nat_lt time s.time) refl
     where
+      -- by whether the record's time is before the last one
       go : (b : Bool) → nat_lt time s.time ≡ b →
           Twins (cond b (refused s Order) (stepped s time event (step time event s.progress)))
           (cond b (refused (record s { progress = Q }) Order)
@@ -592,18 +636,22 @@ module _ (t : NodeTable) (made : IsTable t) where
           (settled_twins s (step time event s.progress).progress (step_fewer time event Q).progress time event
           (step time event s.progress).fault k'.pair)
 
+  -- both nodes have the same table
   table_of : (limit : ℕ) (P Q : NodeProgress) → Pair limit P Q → Q.dispatcher.table ≡ P.dispatcher.table
   table_of limit P Q k =
       ap (λ (p : NodeProgress). p.dispatcher.table) k.two ∙ sym (ap (λ (p : NodeProgress). p.dispatcher.table) k.one)
 
+  -- an option that is nothing is None
   is_none_of : {A : Type 0} (o : Option A) → is_some o ≡ false → o ≡ None
   is_none_of None e = refl
   is_none_of (Some x) e = absurd (true≢false e)
 
+  -- a record that is taken leaves both streams alike
   record_twins : (s : LiveState) (Q : NodeProgress) (bytes : List ℕ) → Twins s (record s { progress = Q }) →
       Twins (take_record s bytes) (take_record_fewer (record s { progress = Q }) bytes)
   record_twins s Q bytes k = go (is_some s.bad) s.closed refl refl
     where
+      -- by whether the stream is refused already, and by whether it is closed
       go : (b c : Bool) → is_some s.bad ≡ b → s.closed ≡ c →
           Twins (cond b s (cond c (refused s Length)
           (judged s (record_of bytes).time (event_of s.progress.dispatcher.table (record_of bytes)))))
@@ -619,6 +667,7 @@ module _ (t : NodeTable) (made : IsTable t) where
           (judged_twins s Q k.limit (record_of bytes).time
           (event_of s.progress.dispatcher.table (record_of bytes)) k.pair (k.up_to (is_none_of s.bad e) f) k)
 
+  -- records that are taken, one after another, leave both streams alike
   twins_whole : (whole : List (List ℕ)) (s z : LiveState) → Twins s z →
       Twins (fold take_record s whole) (fold take_record_fewer z whole)
   twins_whole [] s z k = k
@@ -626,10 +675,12 @@ module _ (t : NodeTable) (made : IsTable t) where
       (subst (λ z. Twins (take_record s bytes) (take_record_fewer z bytes)) (sym k.same)
       (record_twins s z.progress bytes (subst (Twins s) k.same k)))
 
+  -- a node that runs nothing tells few faults
   none_few : (n : ℕ) → All (TellsFew t.faults) (replicate {A = Option Running} n None)
   none_few zero = All-nil (TellsFew t.faults)
   none_few (suc n) = All-cons (TellsFew t.faults) None (replicate n None) tt (none_few n)
 
+  -- both streams are alike before the first byte
   twins_open : Twins (open_stream t) (open_stream t)
   twins_open = record {
     limit = 0;
@@ -650,6 +701,7 @@ module _ (t : NodeTable) (made : IsTable t) where
     same = refl;
   }
 
+  -- two streams that are alike differ in the instant of the last turn alone
   twin_is : (s z : LiveState) → Twins s z → z ≡ with_last s z.progress.dispatcher.last
   twin_is s z k = k.same ∙ ap (λ (p : NodeProgress). record s { progress = p })
       (subst (λ P. z.progress ≡ record {
@@ -661,11 +713,12 @@ module _ (t : NodeTable) (made : IsTable t) where
         acts = k.pair.acts;
       }) (sym k.pair.two) refl))
 
--- bytes behind the last record
+-- the first bytes of a next record leave the last instant as it is
 rest_last : (s : LiveState) (rest : List ℕ) (x : Option ℕ) →
     with_rest (with_last s x) rest ≡ with_last (with_rest s rest) x
 rest_last s rest x = go (is_some s.bad) (s.closed && nat_lt 0 (length rest))
   where
+    -- by whether the stream is refused, and by whether bytes come after its close
     go : (b c : Bool) →
         cond b (with_last s x) (cond c (refused (with_last s x) Length) (record (with_last s x) { rest = rest }))
         ≡ with_last (cond b s (cond c (refused s Length) (record s { rest = rest }))) x
@@ -673,14 +726,17 @@ rest_last s rest x = go (is_some s.bad) (s.closed && nat_lt 0 (length rest))
     go false true = refl
     go false false = refl
 
+-- the first bytes of a next record leave the node as it is
 rest_same : (s : LiveState) (rest : List ℕ) → (with_rest s rest).progress ≡ s.progress
 rest_same s rest = go (is_some s.bad) (s.closed && nat_lt 0 (length rest))
   where
+    -- by the same cases
     go : (b c : Bool) → (cond b s (cond c (refused s Length) (record s { rest = rest }))).progress ≡ s.progress
     go true c = refl
     go false true = refl
     go false false = refl
 
+-- leaving turns out changes nothing but the instant of the last turn
 pub turns_may_be_left_out : TurnsMayBeLeftOut
 turns_may_be_left_out table bytes made =
     let s : LiveState = fold take_record (open_stream table) (cut bytes).whole in

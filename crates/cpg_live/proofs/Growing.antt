@@ -21,6 +21,7 @@ same xs = ([], sym (append-nil xs))
 grow_on : (xs ys zs : List Act) → Grows xs ys → Grows ys zs → Grows xs zs
 grow_on xs ys zs p q = (p.0 ++ q.0, q.1 ∙ ap (λ (l : List Act). l ++ q.0) p.1 ∙ append_assoc xs p.0 q.0)
 
+-- turns, events and records only add acts
 turn_grows : (p : NodeProgress) (o : Option ℕ) → Grows p.acts (turn_if p o).acts
 turn_grows p None = same p.acts
 turn_grows p (Some time) = (acts_of_turn p.dispatcher time [] [], refl)
@@ -56,6 +57,7 @@ step_grows time (Ending process faults value) p = go (record { process = process
         told false = turned_grows time p
 step_grows time Close p = turned_grows (time + 1) p
 
+-- what is wrong with a record changes no acts
 settled_acts : (s : LiveState) (time : ℕ) (event : Event) (why : Option Why) →
     (settled s time event why).progress.acts ≡ s.progress.acts
 settled_acts s time event None = refl

@@ -31,6 +31,7 @@ module _ (time : ℕ) where
   left None h = refl
   left (Some t) h = ap (λ b. cond b (Some t) None) (le-ltb t time h)
 
+  -- after the turns before the time a node is ready for events of the time
   ready : (p : NodeProgress) → IsReady (turned time p).dispatcher
   ready p = left (next (turned time p).dispatcher) (turned_end time p)
 
@@ -49,11 +50,13 @@ module _ (time : ℕ) where
   abbrev with_node : NodeProgress → Dispatcher → NodeProgress
   with_node p d = record { dispatcher = d; acts = p.acts }
 
+  -- a node that is ready takes a frame that is not strange
   hears : (p : NodeProgress) (f : Frame) → IsReady p.dispatcher → is_strange p.dispatcher time f ≡ false →
       follow_one (lawful p) (time, Arrival f) ≡ lawful (with_node p (hear p.dispatcher f))
   hears p f r fine = ap (arrived time f) (turned_last time p r)
       ∙ ap (λ b. cond b (faulty p StrangeFrame) (lawful (with_node p (hear p.dispatcher f)))) fine
 
+  -- a frame that a ready node takes is not strange
   hears_fine : (p : NodeProgress) (f : Frame) → IsReady p.dispatcher →
       (follow_one (lawful p) (time, Arrival f)).fault ≡ None →
       is_strange p.dispatcher time f ≡ false
@@ -67,11 +70,13 @@ module _ (time : ℕ) where
   abbrev end_of : Ended → Event
   end_of e = Ending e.process e.faults e.value
 
+  -- a node that is ready takes an end that may be reported
   notes : (p : NodeProgress) (e : Ended) → IsReady p.dispatcher → may_end p.dispatcher time e ≡ true →
       follow_one (lawful p) (time, end_of e) ≡ lawful (with_node p (finished p.dispatcher e))
   notes p e r fine = ap (ended time e) (turned_last time p r)
       ∙ ap (λ b. cond b (lawful (with_node p (finished p.dispatcher e))) (faulty p FalseEnd)) fine
 
+  -- an end that a ready node takes is one that may be reported
   notes_fine : (p : NodeProgress) (e : Ended) → IsReady p.dispatcher →
       (follow_one (lawful p) (time, end_of e)).fault ≡ None →
       may_end p.dispatcher time e ≡ true
@@ -85,12 +90,12 @@ module _ (time : ℕ) where
   still_ready : (d : Dispatcher) (e : Ended) → IsReady d → IsReady (finished d e)
   still_ready d e r = ap (instant_below time) (next_same d e) ∙ r
 
-  -- an end may be told whatever other processes have told
+  -- an end may be reported whatever other processes have reported
   may_still : (d : Dispatcher) (x y : Ended) → x.process ≢ y.process → may_end (finished d x) time y ≡ may_end d time y
   may_still d x y ne =
       ap (λ o. may_tell d y && may_end_now d time y o) (other_running x y.process ne d.table.own d.running)
 
-  -- an end may be told only once
+  -- an end may be reported only once
   not_again : (d : Dispatcher) (x y : Ended) → x.process ≡ y.process → may_end (finished d x) time y ≡ true → ⊥
   not_again d x y same h =
       let parts = and_parts (may_tell (finished d x) y)
@@ -99,6 +104,7 @@ module _ (time : ℕ) where
       reported_once d x run.run (ap (running_of (finished d x)) same ∙ run.runs) run.none
 
   module _ (p : NodeProgress) (r : IsReady p.dispatcher) where
+    -- two frames lead to the same in either order
     two_frames : (x y : Frame) → is_strange p.dispatcher time x ≡ false →
         is_strange (hear p.dispatcher x) time y ≡ false →
         follow_one (follow_one (lawful p) (time, Arrival x)) (time, Arrival y)
@@ -110,6 +116,7 @@ module _ (time : ℕ) where
         ∙ sym (ap (λ s. follow_one s (time, Arrival x)) (hears p y r q.0)
         ∙ hears (with_node p (hear p.dispatcher y)) x r q.1)
 
+    -- a frame and an end lead to the same in either order
     frame_and_end : (x : Frame) (y : Ended) → is_strange p.dispatcher time x ≡ false →
         may_end p.dispatcher time y ≡ true →
         follow_one (follow_one (lawful p) (time, Arrival x)) (time, end_of y)
@@ -119,6 +126,7 @@ module _ (time : ℕ) where
         ∙ sym (ap (λ s. follow_one s (time, Arrival x)) (notes p y r f)
         ∙ hears (with_node p (finished p.dispatcher y)) x (still_ready p.dispatcher y r) e)
 
+    -- two ends lead to the same in either order
     two_ends : (x y : Ended) → may_end p.dispatcher time x ≡ true → may_end (finished p.dispatcher x) time y ≡ true →
         follow_one (follow_one (lawful p) (time, end_of x)) (time, end_of y)
         ≡ follow_one (follow_one (lawful p) (time, end_of y)) (time, end_of x)
@@ -135,6 +143,8 @@ module _ (time : ℕ) where
           ∙ notes (with_node p (finished p.dispatcher y)) x (still_ready p.dispatcher y r) second)
     ]
 
+    -- Two events lead to the same in either order, on a node that is ready.
+    -- By the kinds of both events: two frames, a frame and an end, or two ends. A close is excluded by `o` and `q`.
     ready_swap : (a b : Event) → is_close a ≡ false → is_close b ≡ false →
         (follow_one (lawful p) (time, a)).fault ≡ None →
         (follow_one (follow_one (lawful p) (time, a)) (time, b)).fault ≡ None →
@@ -163,6 +173,8 @@ module _ (time : ℕ) where
     ready_swap (Arrival x) Close o q e f = absurd (subst (λ b. cond b Unit ⊥) q tt)
     ready_swap (Ending process faults value) Close o q e f = absurd (subst (λ b. cond b Unit ⊥) q tt)
 
+  -- Two events of one time lead to the same in either order.
+  -- Both orders begin with the turns before the time, which make the node ready; then `ready_swap` closes it.
   event_swap : (p : NodeProgress) (a b : Event) → is_close a ≡ false → is_close b ≡ false →
       (follow_one (follow_one (lawful p) (time, a)) (time, b)).fault ≡ None →
       follow_one (follow_one (lawful p) (time, a)) (time, b) ≡ follow_one (follow_one (lawful p) (time, b)) (time, a)
@@ -178,9 +190,12 @@ module _ (time : ℕ) where
 
 -- An event goes to the front of events of its time.
 
+-- all events are at this time, and none is a close
 abbrev AreAt : ℕ → List (ℕ × Event) → Type 0
 AreAt time es = AllByRecursion (λ (e : ℕ × Event). (e.0 ≡ time) × (is_close e.1 ≡ false)) es
 
+-- An event may go to the front of events of its own time.
+-- By induction on the events before it: it goes to the front of the rest, and then changes places with the first.
 to_front : (f : ℕ × Event) → is_close f.1 ≡ false → (before after : List (ℕ × Event)) (p : NodeProgress) →
     AreAt f.0 before →
     (follow (lawful p) (before ++ f ∷ after)).fault ≡ None →
@@ -208,23 +223,28 @@ to_front f open' (b ∷ before) after p at fine =
 
 -- Times.
 
+-- no event is before this time
 abbrev NotBefore : ℕ → List (ℕ × Event) → Type 0
 NotBefore from es = AllByRecursion (λ (e : ℕ × Event). from ≤ e.0) es
 
+-- events that aren't before a time aren't before an earlier one
 later : (from less : ℕ) (es : List (ℕ × Event)) → less ≤ from → NotBefore from es → NotBefore less es
 later from less [] le h = tt
 later from less (e ∷ es) le h = (omega (arith, le, h.0), later from less es le h.1)
 
+-- events that rise from a time on aren't before it
 not_before : (from to : ℕ) (es : List (ℕ × Event)) → RiseWithin from to es → NotBefore from es
 not_before from to [] h = tt
 not_before from to (e ∷ es) h = (h.0, later e.0 from es h.0 (not_before e.0 to es h.2))
 
+-- what holds of all other events and of one holds of all
 put_back : (P : ℕ × Event → Type 0) (f : ℕ × Event) → P f → (before after : List (ℕ × Event)) →
     AllByRecursion P (before ++ after) →
     AllByRecursion P (before ++ f ∷ after)
 put_back P f h [] after k = (h, k)
 put_back P f h (b ∷ before) after k = (k.0, put_back P f h before after k.1)
 
+-- what holds of all events holds of each one and of all others
 take_out : (P : ℕ × Event → Type 0) (f : ℕ × Event) (before after : List (ℕ × Event)) →
     AllByRecursion P (before ++ f ∷ after) →
     P f × AllByRecursion P (before ++ after)
@@ -238,6 +258,7 @@ all_of P [] es r h = tt
 all_of P (f ∷ fs) es r h = let q = take_out P f r.0 r.1 (subst (AllByRecursion P) r.2 h) in
     (q.0, all_of P fs (r.0 ++ r.1) r.3 q.1)
 
+-- what holds of all events in one order holds of them in the other
 of_all : (P : ℕ × Event → Type 0) (fs es : List (ℕ × Event)) → AreThoseOf fs es → AllByRecursion P fs →
     AllByRecursion P es
 of_all P [] es r h = subst (AllByRecursion P) (sym r) tt
@@ -261,11 +282,15 @@ without f [] [] from to h = omega (arith, h.0, h.2)
 without f [] (a ∷ after) from to h = (omega (arith, h.0, h.2.0), h.2.1, h.2.2)
 without f (b ∷ before) after from to h = (h.0, h.1, without f before after b.0 to h.2)
 
+-- events that rise and are not before a time rise from that time on
 from_on : (from to time : ℕ) (es : List (ℕ × Event)) → time ≤ to → RiseWithin from to es → NotBefore time es →
     RiseWithin time to es
 from_on from to time [] le h k = le
 from_on from to time (e ∷ es) le h k = (k.0, h.1, h.2)
 
+-- Lawful events that rise in time lead to the same in every such order.
+-- By induction on the second order: its first event stands in the first order behind events of its own time, so it
+-- goes to the front there, and the rest is in order again.
 reorder : (fs es : List (ℕ × Event)) (p : NodeProgress) (from to : ℕ) → RiseWithin from to es → RiseWithin from to fs →
     AreThoseOf fs es →
     (follow (lawful p) es).fault ≡ None →
@@ -292,5 +317,6 @@ reorder (f ∷ fs) es p from to r q those fine =
     ap (λ s. follow s fs) first ∙ tail ∙ sym (ap (λ s. follow s (before ++ after)) first) ∙ sym moved
     ∙ sym (ap (follow (lawful p)) those.2)
 
+-- events that are lawful in one order that rises in time are so in every such order, and lead to the same
 pub events_commute : EventsOfOneTimeCommute
 events_commute p from to es fs r q those fine = reorder fs es p from to r q those fine

@@ -27,6 +27,7 @@ use Rattle.cpg_live.proofs.Turns.{turned_table}
 
 -- The numbers of a record are read from its bytes.
 
+-- a number that fits is read back from its bytes
 number_8 : (n : ℕ) → n < 2 ^ 64 → big_number 8 (big_bytes 8 n) ≡ n
 number_8 n fits = let same : big_number 8 (to_be_bytes w64 n) ≡ from_be_bytes w64 (to_be_bytes w64 n) = omega arith in
     same ∙ from_be_bytes-to_be_bytes_8 n fits
@@ -84,6 +85,7 @@ cut_records before (e ∷ es) =
 
 -- Events leave the table.
 
+-- a frame leaves the table as it is, and so does an end
 arrived_table : (time : ℕ) (f : Frame) (p : NodeProgress) →
     (arrived time f p).progress.dispatcher.table ≡ p.dispatcher.table
 arrived_table time f p = go (is_strange p.dispatcher time f)
@@ -104,6 +106,7 @@ ended_table time e p = go (may_end p.dispatcher time e)
     go true = refl
     go false = refl
 
+-- an event leaves the table as it is
 pub step_table : (time : ℕ) (event : Event) (p : NodeProgress) →
     (step time event p).progress.dispatcher.table ≡ p.dispatcher.table
 step_table time (Arrival f) p = arrived_table time f (turned time p) ∙ turned_table time p
@@ -114,10 +117,12 @@ step_table time Close p = turned_table (time + 1) p
 
 -- A lawful front.
 
+-- after an unlawful event, more events change nothing
 stays_faulty : (es : List (ℕ × Event)) (s : Step) (why : Why) → s.fault ≡ Some why → (follow s es).fault ≡ Some why
 stays_faulty [] s why e = e
 stays_faulty (f ∷ es) s why e = ap (λ z. (follow z es).fault) (ap (follow_if s f) e) ∙ stays_faulty es s why e
 
+-- if events are lawful, so was the step before them
 pub lawful_front : (es : List (ℕ × Event)) (s : Step) → (follow s es).fault ≡ None → s ≡ lawful s.progress
 lawful_front es s e = go s.fault refl
   where
@@ -125,6 +130,7 @@ lawful_front es s e = go s.fault refl
     go None n = ap (λ o. record { progress = s.progress; fault = o }) n
     go (Some why) n = absurd (none-some why (sym e ∙ stays_faulty es s why n))
 
+-- events that rise within two times have the first no later than the second
 pub within_le : (from to : ℕ) (es : List (ℕ × Event)) → RiseWithin from to es → from ≤ to
 within_le from to [] h = h
 within_le from to (e ∷ es) h = omega (arith, h.0, within_le e.0 to es h.2)
@@ -135,6 +141,7 @@ abbrev state : NodeProgress → ℕ → ℕ → Bool → LiveState
 state p taken time closed = record { progress = p; taken = taken; time = time; rest = []; closed = closed; bad = None }
 
 module _ (table : NodeTable) where
+  -- an open stream takes the bytes of a lawful event as the event
   takes_one : (p : NodeProgress) (taken time : ℕ) (e : ℕ × Event) → p.dispatcher.table ≡ table → time ≤ e.0 →
       e.0 < 2 ^ 64 → HasRoom table e.1 →
       (step e.0 e.1 p).fault ≡ None →
@@ -149,6 +156,7 @@ module _ (table : NodeTable) where
       ∙ ap (λ b. cond b (refused s Order) (stepped s e.0 e.1 (step e.0 e.1 p))) (le-ltb e.0 time later)
       ∙ ap (settled (record s { progress = (step e.0 e.1 p).progress }) e.0 e.1) fine
 
+  -- an open stream takes the bytes of lawful events and a close as these events
   takes_all : (close : ℕ) → close < 2 ^ 64 → (es : List (ℕ × Event)) (p : NodeProgress) (taken time : ℕ) →
       p.dispatcher.table ≡ table →
       RiseWithin time close es →
@@ -172,6 +180,7 @@ module _ (table : NodeTable) where
             ∙ rest.1 ∙ sym (ap (λ s. state (follow s (closed_at es close)).progress rest.0 close true) whole),
       )
 
+-- the bytes that spell lawful events and a close are a lawful stream, which does what the events do
 pub bytes_spell : BytesSpellEvents
 bytes_spell table es close small rise room fine =
     let q = takes_all table close small es (start table) 0 0 refl rise room fine in

@@ -20,6 +20,7 @@ use Rattle.cpg_live.proofs.Turns.{turned_after}
 
 -- A turn.
 
+-- what holds of the value of an option, if it has one, holds of the value that it has
 pub at_some : (o : Option ℕ) (t : ℕ) (P : ℕ → Type 0) → o ≡ Some t → IfSome o P → P t
 at_some o t P e h = subst (λ o. IfSome o P) e h
 
@@ -59,6 +60,7 @@ room_taken before after time n room more here d a m l = omega (
 
 -- An end.
 
+-- an execution that runs, has not reported, has started before a time, and is planned to run to it
 pub record Unreported (o : Option Running) (time duration : ℕ) : Type 0 where
   pub run : Running
   pub runs : o ≡ Some run
@@ -70,6 +72,7 @@ none_is : {A : Type 0} (o : Option A) → is_none o ≡ true → o ≡ None
 none_is None e = refl
 none_is (Some x) e = absurd (true≢false (sym e))
 
+-- if an end may be told now, its execution is such a one
 pub unreported : (d : Dispatcher) (time : ℕ) (e : Ended) (o : Option Running) → may_end_now d time e o ≡ true →
     Unreported o time (time_of d e.process e.faults)
 unreported d time e None h = absurd (true≢false (sym h))
@@ -90,7 +93,7 @@ plain_is None true h e = absurd (true≢false (sym h))
 plain_is None false h e = refl
 plain_is (Some c) value h e = absurd (none-some c (sym e))
 
--- an end that may be told is one that the node may note
+-- an end that may be reported is one that the node may note
 pub may_finish : (d : Dispatcher) (time : ℕ) (e : Ended) → IsTurned d time → is_after d.last time ≡ true →
     may_end d time e ≡ true →
     MayFinish d time e
@@ -113,6 +116,7 @@ may_finish d time e before later h =
 
 -- The last turn stays before the time of the record.
 
+-- a frame leaves the last turn before its time, and so does an end
 arrived_after : (time : ℕ) (f : Frame) (p : NodeProgress) → is_after p.dispatcher.last time ≡ true →
     is_after (arrived time f p).progress.dispatcher.last time ≡ true
 arrived_after time f p h = go (is_strange p.dispatcher time f)
@@ -133,6 +137,7 @@ ended_after time e p h = go (may_end p.dispatcher time e)
     go true = h
     go false = h
 
+-- an event that is no close leaves the last turn before its time
 pub step_after : (time : ℕ) (event : Event) (p : NodeProgress) → is_after p.dispatcher.last time ≡ true →
     is_close event ≡ false →
     is_after (step time event p).progress.dispatcher.last time ≡ true

@@ -27,7 +27,7 @@ use Rattle.cpg_live.specs.Streams.{stream_lines, IsClosed, IsRefused, IsCutOff, 
 
 -- ---- what a sink took
 
--- a proper front of some bytes is one of more
+-- what is a proper front of some bytes is a proper front of more
 pub took_more : (a b : List ℕ) (p q : List ℕ) → TookPrefix a b p → TookPrefix a b (p ++ q)
 took_more a b p q took =
     let n = took.0 in (
@@ -47,6 +47,7 @@ took_after a b c p q whole took =
 
 -- ---- more bytes of a stream
 
+-- the state after more bytes is that of the bytes before, which then takes the others
 pub after_more : (table : NodeTable) (fed more : List ℕ) → after table (fed ++ more) ≡ take_bytes (after table fed) more
 after_more table fed more = sym (feeds (after table fed) (take_bytes (after table fed) more) more refl table fed refl)
 
@@ -72,6 +73,7 @@ end_short s count e l =
     ap (λ o. cond (is_none o && nat_lt STREAM_LIMIT count) (Err Long) (end_by (outcome_if s s.bad))) e
     ∙ ap (λ b. cond b (Err Long) (end_by (outcome_if s s.bad))) (le-ltb STREAM_LIMIT count l)
 
+-- a lawless record is not an overlong stream
 pub not_long : (bad : Bad) → Lawless bad ≡ Long → ⊥
 not_long bad e = true≢false (ap is_lawless e)
   where
@@ -79,7 +81,7 @@ not_long bad e = true≢false (ap is_lawless e)
     is_lawless (Lawless bad) = true
     is_lawless Long = false
 
--- all lines, if the state is known
+-- all lines of a stream are those of its acts and that of its close, if it has one
 lines_of : (h : Head) (table : NodeTable) (bytes : List ℕ) (s : LiveState) (ends : Result ℕ StreamFault) →
     after table (read_part bytes) ≡ s →
     stream_end table bytes ≡ ends →
@@ -89,6 +91,7 @@ lines_of h table bytes s ends same e = ap₂ (λ (t : LiveState) r. act_lines h 
 some_none : (bad : Bad) → Some bad ≡ None → ⊥
 some_none bad e = true≢false (sym (ap is_none e))
 
+-- given what was read of a stream, without a fault and within the limit and one byte
 module _ (h : Head) (table : NodeTable) (fetch : Fetch) (sound : fetch.failed ≡ false)
     (few : length fetch.given ≤ STREAM_LIMIT + 1) where
   -- all bytes that came are of the part that is read
@@ -98,6 +101,7 @@ module _ (h : Head) (table : NodeTable) (fetch : Fetch) (sound : fetch.failed �
   ends_as : stream_end table fetch.given ≡ end_of (after table fetch.given) (length fetch.given)
   ends_as = ap (λ bytes. end_of (after table bytes) (length bytes)) read_all
 
+  -- a stream with such an end is refused by it
   refused_by : (fault : StreamFault) → (fault ≡ Long → IsTooLong table fetch.given) →
       (fault ≢ Long → (after table fetch.given).bad ≡ None → fetch.ended ≡ true) →
       stream_end table fetch.given ≡ Err fault →
@@ -112,14 +116,14 @@ module _ (h : Head) (table : NodeTable) (fetch : Fetch) (sound : fetch.failed �
         ∙ append-nil (act_lines h (after table fetch.given).progress.acts));
   }
 
-  -- by a lawless record that was fed
+  -- a stream with a lawless record is refused by that record
   pub lawless : (bad : Bad) → (after table fetch.given).bad ≡ Some bad →
       IsRefused h table fetch (Lawless bad) (act_lines h (after table fetch.given).progress.acts)
   lawless bad e =
       refused_by (Lawless bad) (λ e. absurd (not_long bad e)) (λ other none. absurd (some_none bad (sym e ∙ none)))
       (ends_as ∙ end_bad (after table fetch.given) (length fetch.given) bad e)
 
-  -- as too long
+  -- a stream with more lawful bytes than the limit is refused as too long
   pub too_long : (after table fetch.given).bad ≡ None → STREAM_LIMIT < length fetch.given →
       IsRefused h table fetch Long (act_lines h (after table fetch.given).progress.acts)
   too_long e l =
@@ -140,11 +144,13 @@ module _ (h : Head) (table : NodeTable) (fetch : Fetch) (sound : fetch.failed �
     ends_short : stream_end table fetch.given ≡ end_by (outcome (after table fetch.given))
     ends_short = ends_as ∙ end_short (after table fetch.given) (length fetch.given) lawful short
 
+    -- a stream that ended without a close is refused by the record that is missing
     pub unclosed : (bad : Bad) → outcome (after table fetch.given) ≡ Err bad →
         IsRefused h table fetch (Lawless bad) (act_lines h (after table fetch.given).progress.acts)
     unclosed bad e =
         refused_by (Lawless bad) (λ e. absurd (not_long bad e)) (λ other none. ended) (ends_short ∙ ap end_by e)
 
+    -- a stream that ended after its close is closed, with all its lines
     pub closed : (time : ℕ) → outcome (after table fetch.given) ≡ Ok time →
         IsClosed h table fetch (act_lines h (after table fetch.given).progress.acts ++ closed_line time)
     closed time e =
@@ -159,7 +165,7 @@ module _ (h : Head) (table : NodeTable) (fetch : Fetch) (sound : fetch.failed �
               sym (lines_of h table fetch.given (after table fetch.given) (Ok time) (ap (after table) read_all) ends);
         }
 
-  -- where a sink took a front of the lines so far
+  -- if a sink took a proper front of the lines so far, the stream is cut off
   pub cut_off : (a b : List ℕ) → TookPrefix a b (act_lines h (after table fetch.given).progress.acts) →
       IsCutOff h table fetch a b
   cut_off a b took =
@@ -174,7 +180,7 @@ module _ (h : Head) (table : NodeTable) (fetch : Fetch) (sound : fetch.failed �
         so_far = inr took;
       }
 
--- a front of all lines, in the last of which the sink met a fault
+-- if a sink took a proper front of all lines of a closed stream, the stream is cut off
 pub cut_closed : (h : Head) (table : NodeTable) (fetch : Fetch) (a b : List ℕ) (lines : List ℕ) →
     IsClosed h table fetch lines → TookPrefix a b lines →
     IsCutOff h table fetch a b
@@ -186,7 +192,7 @@ cut_closed h table fetch a b lines closed took = let s = closed.short in
       so_far = inl closed.ended;
     }
 
--- the lines of acts that are added
+-- the lines of all acts are those of the acts before and then those of the acts that are added
 pub lines_more : (h : Head) (acts more all : List Act) → all ≡ acts ++ more →
     act_lines h all ≡ act_lines h acts ++ act_lines h (drop (length acts) all)
 lines_more h acts more all e =

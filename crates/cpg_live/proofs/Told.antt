@@ -32,6 +32,7 @@ further (suc n) x y p le = elim (below_or_not x (next p.dispatcher)) [
 abbrev at : Dispatcher → List Act → NodeProgress
 at d acts = record { dispatcher = d; acts = acts }
 
+-- no instant is below a limit that is not after the next one
 none_before : (d : Dispatcher) (time limit : ℕ) → next d ≡ Some time → limit ≤ time →
     instant_below limit (next d) ≡ None
 none_before d time limit e le = ap (instant_below limit) e ∙ ap (λ c. cond c (Some time) None) (le-ltb time limit le)
@@ -70,6 +71,7 @@ module _ (time : ℕ) (acts : List Act) where
       plain None value h = ap (λ v. false || not v) (h refl)
       plain (Some c) value h = refl
 
+  -- a report that the node may take is followed on its record
   tell_end : (from : ℕ) (p : NodeProgress) (d : Dispatcher) (e : ℕ × Ended) → Holds from p d → next d ≡ Some time →
       from ≤ e.0 →
       MayFinish d e.0 e.1 →
@@ -80,6 +82,7 @@ module _ (time : ℕ) (acts : List Act) where
       ap (ended e.0 e.1) (h e.0 le most)
       ∙ ap (λ b. cond b (lawful (at (finished d e.1) acts)) (faulty (at d acts) FalseEnd)) (may_end_is d e.0 e.1 m)
 
+  -- reports that the node may take one after another are followed on their records
   tell_ends : (es : List (ℕ × Ended)) (from : ℕ) (p : NodeProgress) (d : Dispatcher) → Holds from p d →
       next d ≡ Some time → from ≤ time →
       MayReport d from es →
@@ -92,6 +95,7 @@ module _ (time : ℕ) (acts : List Act) where
       (sym (tell_end from p d e h n m.0 m.1))
       (tell_ends es e.0 (at (finished d e.1) acts) (finished d e.1) (itself e.0 (finished d e.1) after) after most m.2)
 
+  -- a frame that isn't strange is followed on its record
   tell_frame : (from : ℕ) (p : NodeProgress) (d : Dispatcher) (f : Frame) → Holds from p d → from ≤ time →
       is_strange d time f ≡ false →
       follow_one (lawful p) (frame_event time f) ≡ lawful (at (hear d f) acts)
@@ -99,6 +103,7 @@ module _ (time : ℕ) (acts : List Act) where
   tell_frame from p d f h le fine = ap (arrived time f) (h time le (omega arith))
       ∙ ap (λ b. cond b (faulty (at d acts) StrangeFrame) (lawful (at (hear d f) acts))) fine
 
+  -- frames that aren't strange are followed on their records
   tell_frames : (fs : List Frame) (from : ℕ) (p : NodeProgress) (d : Dispatcher) → Holds from p d → next d ≡ Some time →
       from ≤ time →
       AllFine d time fs →
@@ -113,6 +118,7 @@ module _ (time : ℕ) (acts : List Act) where
   whole : (s : Step) → s.fault ≡ None → lawful s.progress ≡ s
   whole s e = ap (λ o. record { progress = s.progress; fault = o }) (sym e)
 
+  -- the reports and frames of a turn are followed on their records
   tell_all : (p : NodeProgress) (d : Dispatcher) (reports : List (ℕ × Ended)) (frames : List Frame) → HasCome p d acts →
       next d ≡ Some time →
       MayReport d (after_last d.last) reports →
@@ -146,6 +152,7 @@ module _ (time : ℕ) (acts : List Act) where
             (omega (arith, b.less, floor_after (Some time) b.time (next_is (turn d time [] []) b.time b.is).after))
       ]
 
+-- each turn of a node in a play is followed on the records of its reports and frames
 pub turns_are_followed : TurnsAreFollowed
 turns_are_followed p d acts time reports frames h n may fine fit =
     let s : Step = follow (lawful p) (turn_events time reports frames) in
@@ -157,6 +164,7 @@ turns_are_followed p d acts time reports frames h n may fine fit =
           ∙ ap₂ at law.0 (ap (λ (more : List Act). acts ++ more) law.1);
     }
 
+-- a close after the last turn of a node leaves the node as it is
 pub closes_are_followed : ClosesAreFollowed
 closes_are_followed p d acts time h n late =
     ap lawful (sym (further (after_last d.last) (after_last d.last) (time + 1) p late) ∙ ap (turned (time + 1)) h

@@ -13,10 +13,12 @@ use Rattle.cpg_live.specs.Feeding.{IsTurned, AreFewTurns}
 
 -- the instants after the last turn
 
+-- a time after the last turn is not before the first instant after it
 pub floor_after : (last : Option ℕ) (t : ℕ) → is_after last t ≡ true → after_last last ≤ t
 floor_after None t e = omega arith
 floor_after (Some l) t e = omega (arith, ltb-true l t e)
 
+-- a time from the first instant after the last turn on is after it
 pub after_floor : (last : Option ℕ) (t : ℕ) → after_last last ≤ t → is_after last t ≡ true
 after_floor None t h = refl
 after_floor (Some l) t h = lt-ltb l t (omega arith)
@@ -31,10 +33,12 @@ pub record Below (limit : ℕ) (o : Option ℕ) : Type 0 where
   pub less : time < limit
   pub found : instant_below limit o ≡ Some time
 
+-- no instant is below a limit
 pub record NotBelow (limit : ℕ) (o : Option ℕ) : Type 0 where
   pub past : IfSome o (λ time. limit ≤ time)
   pub none : instant_below limit o ≡ None
 
+-- an instant is below a limit, or is not
 pub below_or_not : (limit : ℕ) (o : Option ℕ) → Below limit o ⊎ NotBelow limit o
 below_or_not limit None = inr (record { past = tt; none = refl })
 below_or_not limit (Some t) = elim (cases_lt t limit) [
@@ -72,7 +76,7 @@ no_more (suc n) limit p h = elim (below_or_not limit (next p.dispatcher)) [
       ∙ sym (ap (λ o. turns_below (suc n) limit (turn_if p o)) m.none ∙ still (suc n) limit p m.none)
 ]
 
--- a turn that a loop takes
+-- the step of a loop: a turn below the limit is one of all turns below it
 pub turned_next : (limit : ℕ) (p : NodeProgress) (t : ℕ) → instant_below limit (next p.dispatcher) ≡ Some t →
     turned limit (take_turn t p) ≡ turned limit p
 unfolding turns_below
@@ -99,6 +103,7 @@ turns_end (suc n) limit p h = elim (below_or_not limit (next p.dispatcher)) [
   | inr m ↦ subst (λ (q : NodeProgress). IsTurned q.dispatcher limit) (sym (still (suc n) limit p m.none)) m.past
 ]
 
+-- after all turns below a limit, the next instant is not below it
 pub turned_end : (limit : ℕ) (p : NodeProgress) → IsTurned (turned limit p).dispatcher limit
 turned_end limit p = turns_end limit limit p (omega arith)
 
@@ -114,6 +119,7 @@ turns_after (suc n) limit p h = elim (below_or_not limit (next p.dispatcher)) [
   | inr m ↦ subst (λ (q : NodeProgress). is_after q.dispatcher.last limit ≡ true) (sym (still (suc n) limit p m.none)) h
 ]
 
+-- turns below a limit leave the last turn before the limit, if it was
 pub turned_after : (limit : ℕ) (p : NodeProgress) → is_after p.dispatcher.last limit ≡ true →
     is_after (turned limit p).dispatcher.last limit ≡ true
 turned_after limit p h = turns_after limit limit p h
@@ -128,6 +134,7 @@ turns_table (suc n) limit p = turns_table n limit (turn_below limit p) ∙ kept 
     kept None = refl
     kept (Some t) = refl
 
+-- turns below a limit leave the table as it is
 pub turned_table : (limit : ℕ) (p : NodeProgress) → (turned limit p).dispatcher.table ≡ p.dispatcher.table
 turned_table limit p = turns_table limit limit p
 
@@ -139,7 +146,7 @@ unfolding turns_below
 turns_more zero limit p t e = sym (ap (turn_if p) e)
 turns_more (suc n) limit p t e = turns_more n limit (turn_below limit p) t e
 
--- no turn yet
+-- before the first turn no turn has been taken
 pub few_none : (limit : ℕ) (p : NodeProgress) → AreFewTurns limit p p
 unfolding turns_below
 few_none limit p = record { turns = 0; few = omega arith; is = refl }

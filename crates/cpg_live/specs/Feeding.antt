@@ -1,4 +1,4 @@
--- A stream that comes byte by byte, and what a live node keeps in memory for it.
+-- A stream that comes byte by byte, and the turns that a live node takes on it.
 use Rattle.std.specs.Prelude.{ℕ, ◌≡◌, ◌≤◌, ◌+◌, ◌==◌, if◌then◌else◌, List, [], ◌∷◌, ◌++◌, IfSome, is_some, fold, length}
 use Rattle.cpg_node.specs.Dispatcher.{Dispatcher, next}
 use Rattle.cpg_node.specs.Instants.{instants_left}

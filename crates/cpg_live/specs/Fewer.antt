@@ -46,6 +46,7 @@ take_record_fewer s bytes = if is_some s.bad then s else if s.closed then refuse
 abbrev pub after_cut_fewer : NodeTable → Cut → LiveState
 after_cut_fewer table c = with_rest (fold take_record_fewer (open_stream table) c.whole) c.rest
 
+-- the state after bytes, with these turns alone
 abbrev pub after_fewer : NodeTable → List ℕ → LiveState
 after_fewer table bytes = after_cut_fewer table (cut bytes)
 

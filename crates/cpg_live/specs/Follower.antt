@@ -4,6 +4,7 @@ use Rattle.cpg_head.specs.Head.{Head}
 use Rattle.cpg_table.specs.Table.{NodeTable}
 use Rattle.cpg_live.specs.Stream.{LiveState, open_stream}
 
+-- a node of the pack, with its state on the stream
 pub record Follower : Type 0 where
   pub head : Head
   pub table : NodeTable

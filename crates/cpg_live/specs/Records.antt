@@ -17,6 +17,7 @@ abbrev pub cut_byte : Cut → ℕ → Cut
 cut_byte c byte = if length c.rest + 1 == 14 then record { whole = c.whole ++ ((c.rest ++ byte ∷ []) ∷ []); rest = [] }
     else record { whole = c.whole; rest = c.rest ++ byte ∷ [] }
 
+-- the bytes of a stream, cut into records
 abbrev pub cut : List ℕ → Cut
 cut bytes = fold cut_byte (record { whole = []; rest = [] }) bytes
 

@@ -9,26 +9,31 @@ use Rattle.cpg_live.specs.declared.event.Event.TheVariants.{Frame as Arrival, En
 use Rattle.cpg_live.specs.Stream.{lawful, start, is_close, after, outcome}
 use Rattle.cpg_live.specs.Told.{follow}
 
+-- a value as a byte
 abbrev pub bit : Bool → ℕ
 bit value = if value then 1 else 0
 
 -- The numbers of an event's record.
 
+-- the kind of an event's record
 abbrev pub kind_of : Event → ℕ
 kind_of (Arrival f) = 0
 kind_of (Ending process faults value) = 1
 kind_of Close = 2
 
+-- the item of a frame, or the process of an end
 abbrev pub item_of : Event → ℕ
 item_of (Arrival f) = f.item
 item_of (Ending process faults value) = process
 item_of Close = 0
 
+-- the column of a frame, or the fault count of an end
 abbrev pub number_of : Event → ℕ
 number_of (Arrival f) = f.column
 number_of (Ending process faults value) = faults
 number_of Close = 0
 
+-- the value of a broadcast or of an end's condition
 abbrev pub value_of : Event → ℕ
 value_of (Arrival f) = bit f.value
 value_of (Ending process faults value) = bit value
@@ -43,6 +48,7 @@ record_with time event =
 abbrev pub record_bytes : Record → List ℕ
 record_bytes r = r.kind ∷ (big_bytes 8 r.time ++ (big_bytes 2 r.item ++ (big_bytes 2 r.number ++ r.value ∷ [])))
 
+-- the bytes of an event at its time
 abbrev pub event_bytes : ℕ × Event → List ℕ
 event_bytes e = record_bytes (record_with e.0 e.1)
 

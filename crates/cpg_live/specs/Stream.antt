@@ -22,8 +22,9 @@ pub record NodeProgress : Type 0 where
 abbrev pub start : NodeTable → NodeProgress
 start table = record { dispatcher = initial_dispatcher table; acts = [] }
 
--- A turn that is given no ends and no frames, since the node has taken them before.
+-- A turn that takes no ends and no frames, since the node has taken them before.
 
+-- the node after such a turn, with the acts of it
 abbrev pub take_turn : ℕ → NodeProgress → NodeProgress
 take_turn time p =
     record { dispatcher = turn p.dispatcher time [] []; acts = p.acts ++ acts_of_turn p.dispatcher time [] [] }
@@ -58,10 +59,11 @@ pub record Step : Type 0 where
   pub progress : NodeProgress
   pub fault : Option Why
 
--- the step of an unlawful event, and that of a lawful one
+-- the step of an unlawful event
 abbrev pub faulty : NodeProgress → Why → Step
 faulty p why = record { progress = p; fault = Some why }
 
+-- the step of a lawful event
 abbrev pub lawful : NodeProgress → Step
 lawful p = record { progress = p; fault = None }
 
@@ -112,6 +114,7 @@ pub record LiveState : Type 0 where
   -- the first unlawful record, and why it is
   pub bad : Option Bad
 
+-- a node before the first byte of its stream
 abbrev pub open_stream : NodeTable → LiveState
 open_stream table = record { progress = start table; taken = 0; time = 0; rest = []; closed = false; bad = None }
 

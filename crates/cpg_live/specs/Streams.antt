@@ -22,6 +22,7 @@ use Rattle.cpg_live.specs.declared.following.TheConstants.{STREAM_LIMIT}
 abbrev pub act_line : Head → Act → List ℕ
 act_line h a = decimal a.time ++ codes " " ++ done_text (head_labels h) (item_of (head_labels h) a.item) ++ codes "\n"
 
+-- the lines of several acts
 abbrev pub act_lines : Head → List Act → List ℕ
 act_lines h acts = flat_map (act_line h) acts
 
@@ -42,6 +43,7 @@ abbrev pub fault_text : StreamFault → List ℕ
 fault_text (Lawless bad) = codes "21 stream " ++ decimal bad.index ++ codes " " ++ why_text bad.why
 fault_text Long = codes "16 long stream"
 
+-- the line of a stream that is rejected
 abbrev pub fault_line : StreamFault → List ℕ
 fault_line fault = codes "cpgc: refused " ++ fault_text fault ++ codes "\n"
 

@@ -22,6 +22,7 @@ abbrev pub follow_if : Step → ℕ × Event → Option Why → Step
 follow_if s e None = step e.0 e.1 s.progress
 follow_if s e (Some why) = s
 
+-- the step of one more event
 abbrev pub follow_one : Step → ℕ × Event → Step
 follow_one s e = follow_if s e s.fault
 

@@ -12,7 +12,7 @@ use cpg_head::Head;
 use cpg_label::{append, append_number, item_among};
 use cpg_node::Act;
 
-/// No line is longer, in bytes.
+/// The most bytes of a line.
 pub const MOST_LINE: usize = 64;
 
 /// What a process is called, and nothing if there is no such process.
@@ -108,6 +108,7 @@ pub fn append_closed(out: &mut Vec<u8>, time: u64)
     append(out, b"\n");
 }
 
+/// What is wrong with a record, as text.
 fn why_text(why: Why) -> &'static [u8]
     ensures text { result.now ≡ why_text why }
     ensures few { length result.now ≤ 6 }

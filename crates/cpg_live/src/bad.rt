@@ -1,6 +1,6 @@
 //! Why a stream is refused.
 
-/// What is wrong with a record, in the order in which it is looked for.
+/// What is wrong with a record. The cases are tested in this order.
 #[derive(Clone, Copy, Debug, PartialEq, Eq)]
 pub enum Why {
     /// It follows the close, or it isn't there though no close was taken.

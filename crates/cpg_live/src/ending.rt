@@ -1,4 +1,4 @@
-//! Whether the end of an execution may be told.
+//! Whether a process may report its end.
 ghost use Rattle.std.specs.Prelude.{◌≡◌, ◌≤◌, IfSome, IfNone, not, ◌&&◌, ◌||◌, is_some, nat_le};
 ghost use Rattle.cpg_node.specs.Dispatcher.{own_of};
 ghost use Rattle.cpg_node.specs.State.{running_of, time_of};
@@ -6,7 +6,7 @@ ghost use Rattle.cpg_live.specs.Stream.{may_tell, may_end, may_end_now};
 
 use cpg_node::{Ended, Node, own_of};
 
-/// A fault count of a record, if it isn't above what there may be.
+/// A fault count of a record, if it isn't above the given most.
 pub fn count_within(number: u16, most: u8) -> Option<u8>
     ensures count { IfSome result (λ faults. faults ≡ number) }
     ensures few { is_some result ≡ nat_le number most }
@@ -28,7 +28,7 @@ fn has_condition(node: &Node, process: u32) -> bool
     }
 }
 
-/// How long an execution of a process of the node takes with so many faults.
+/// How long an execution of a process of the node takes with this many faults.
 fn time_of(node: &Node, process: u32, faults: u8) -> u64
     ensures { result ≡ time_of node.now.dispatcher process faults }
 {
@@ -41,7 +41,7 @@ fn time_of(node: &Node, process: u32, faults: u8) -> u64
     }
 }
 
-/// Whether an end has no more faults than there may be, and a value only of a condition.
+/// Whether an end has no more faults than are allowed, and a true value only if its process has a condition.
 fn may_tell(node: &Node, ended: &Ended) -> bool
     ensures { result ≡ may_tell node.now.dispatcher ended.now }
 {
@@ -55,19 +55,22 @@ fn may_tell(node: &Node, ended: &Ended) -> bool
 fn may_end_now(node: &Node, time: u64, ended: &Ended) -> bool
     ensures { result ≡ may_end_now node.now.dispatcher time ended.now (running_of node.now.dispatcher ended.now.process) }
 {
+    // the process doesn't run on the node
     let Some(start) = node.running(ended.process) else {
         return false;
     };
+    // its end was reported already
     if node.reported(ended.process) {
         return false;
     }
+    // it takes some time at least
     if start >= time {
         return false;
     }
     time - start <= time_of(node, ended.process, ended.faults)
 }
 
-/// Whether the end of an execution may be told at a time.
+/// Whether a process may report its end at a time.
 pub fn may_end(node: &Node, time: u64, ended: &Ended) -> bool
     ensures { result ≡ may_end node.now.dispatcher time ended.now }
 {

@@ -1,4 +1,4 @@
-//! What a record tells.
+//! Events: what a record tells.
 ghost use Rattle.std.specs.Prelude.{◌≡◌};
 ghost use Rattle.cpg_live.specs.Records.{is_plain, is_unkind, told, event_of};
 ghost use Rattle.cpg_live.specs.Stream.{is_close};
@@ -18,29 +18,33 @@ pub enum Event {
     Close,
 }
 
-/// Whether a close tells nothing.
+/// Whether all other numbers of a record are 0, as those of a close must be.
 fn is_plain(read: &Record) -> bool
     ensures { result ≡ is_plain read.now }
 {
     read.item == 0 && read.number == 0 && read.value == 0
 }
 
-/// Whether a record has no lawful kind on the node of a table.
+/// Whether the kind of a record is unlawful on the node of a table.
 fn is_unkind(table: &NodeTable, read: &Record) -> bool
     ensures { result ≡ is_unkind table.now read.now }
 {
+    // 0 is a frame, 1 an end, and 2 a close
     if read.kind > 2 {
         return true;
     }
+    // a value is false or true
     if read.value > 1 {
         return true;
     }
     if read.kind == 2 {
         return !is_plain(read);
     }
+    // an end may have either value here
     if read.kind != 0 {
         return false;
     }
+    // the frame of a message, which isn't a broadcast, has no true value
     u32::from(read.item) < table.first_broadcast() && read.value == 1
 }
 
@@ -61,7 +65,7 @@ fn told(read: &Record) -> Event
     Event::Close
 }
 
-/// What a record tells. `None` exactly if its kind isn't lawful.
+/// The event of a record. `None` exactly if its kind isn't lawful.
 pub fn event_of(table: &NodeTable, read: &Record) -> Option<Event>
     ensures { result ≡ event_of table.now read.now }
 {

@@ -21,10 +21,10 @@ use cpg_table::{NodeTable, Tables};
 use std::alloc::Global;
 use std::marker::Model;
 
-/// The bytes of as many records as are taken of a stream: 16,777,216 of 14 bytes.
+/// The most bytes that are taken of a stream: those of 16,777,216 records of 14 bytes.
 pub const STREAM_LIMIT: usize = 234_881_024;
 
-/// The limit of a stream in plain numbers: so many bytes, which are 16,777,216 records.
+/// The limit of a stream in plain numbers: 234,881,024 bytes, which are 16,777,216 records.
 pub fn stream_limit_is_this()
     ensures bytes { STREAM_LIMIT ≡ 234881024 }
     ensures records { STREAM_LIMIT ≡ 14 * 16777216 }
@@ -35,7 +35,7 @@ pub fn stream_limit_is_this()
 pub enum StreamFault {
     /// Its first lawless record, which is the awaited one if it ends without a close.
     Lawless(Bad),
-    /// It has more than 16,777,216 records, of which so many are lawful and none is a close.
+    /// It has more than 16,777,216 records, of which the first 16,777,216 are lawful and none is a close.
     Long,
 }
 
@@ -57,8 +57,8 @@ struct Fed {
     bad: Option<Bad>,
 }
 
-/// A node of a pack that follows a stream, with room for the lines of all that it can do. It is seen as the pack's head, the
-/// node's table and state, how many of its acts are told, and how many bytes were fed.
+/// A node of a pack that follows a stream, with room for the lines of all that it can do. It is seen as the pack's head,
+/// the node's table and state, how many of its acts have been written, and how many bytes were fed.
 #[derive(Drop)]
 pub struct Follower {
     head: Head,
@@ -79,7 +79,7 @@ impl Model for Follower {
     ghost invariant = { IsFollowing };
 }
 
-/// The bytes of the lines of all acts that a node can do, and of one more.
+/// The greatest number of bytes of the lines of all acts that a node can do, and of one more line.
 fn room_of(table: &NodeTable) -> Option<usize>
     ensures { IfSome result (λ room. room ≡ MOST_LINE * (entry_count table.now + 1)) }
 {
@@ -89,7 +89,7 @@ fn room_of(table: &NodeTable) -> Option<usize>
 }
 
 impl Follower {
-    /// A node of these tables before the first byte of its stream. Takes all room that it will need.
+    /// A node of these tables before the first byte of its stream. Reserves all the room that it will need.
     pub fn new(alloc: Global, tables: Tables, node: u32) -> Result<Follower, OutOfMemory>
         requires { node < length tables.head.nodes }
         ensures { IfOk result (λ f. f ≡ open_follower tables.head (table_at tables.nodes node)) }
@@ -123,6 +123,7 @@ impl Follower {
         ensures same { OnErr result (self.new ≡ self.old) }
         ensures cause { HasCause (S.state shelf.old).faults (S.state shelf.new).faults result }
     {
+        // one byte past the limit is read at most, which shows that the stream is too long
         let most = buffer.len().min(STREAM_LIMIT + 1 - self.read);
         let piece = &mut buffer[..most];
         let count = shelf.read(piece)?;
@@ -134,7 +135,7 @@ impl Follower {
         Ok(Fed { count, bad })
     }
 
-    /// Writes the lines of the acts that aren't told, in one write.
+    /// Writes the lines of the acts that haven't been written yet, in one write.
     fn tell<O: Sink>(&mut self, out: &mut O) -> Result<(), Failed>
         ensures whole { OnOk result (Took (O.state out.old).taken (O.state out.new).taken
             (act_lines self.old.head (drop self.old.told self.old.live.progress.acts))) }
@@ -151,8 +152,8 @@ impl Follower {
         write_all(out, self.lines.as_slice())
     }
 
-    /// Follows the next piece: reads it, feeds it, and writes the lines of the acts that it brings, before anything else is read.
-    /// Says how many bytes it has, 0 at the end of the stream.
+    /// Follows the next piece: reads it, feeds it, and writes the lines of the acts that it brings, before anything else
+    /// is read. Returns how many bytes the piece has, which is 0 at the end of the stream.
     pub fn follow_piece<S: Shelf, O: Sink>(
         &mut self,
         shelf: &mut S,
@@ -180,9 +181,11 @@ impl Follower {
         if self.tell(out).is_err() {
             return Err(Broken::Sink);
         }
+        // the lines of the acts before the lawless record are written already
         if let Some(bad) = fed.bad {
             return Err(Broken::Refused(StreamFault::Lawless(bad)));
         }
+        // all records up to the limit are lawful, and more bytes follow
         if self.read > STREAM_LIMIT {
             return Err(Broken::Refused(StreamFault::Long));
         }

@@ -25,7 +25,7 @@ pub fn turns_may_be_left_out()
     ensures { TurnsMayBeLeftOut }
 {}
 
-/// A turn that takes reports and frames is followed on the records of these.
+/// A node on a stream follows a turn that takes reports and frames, if it is fed their records.
 pub fn turns_are_followed()
     ensures { TurnsAreFollowed }
 {}

@@ -65,8 +65,8 @@ impl Live {
         self.progress.acts()
     }
 
-    /// The time of the close, in time units of the graph file, if the stream is lawful and ends here. Otherwise its first
-    /// unlawful record; if no record is unlawful and no close was taken, that is the next record.
+    /// The time of the close, in time units of the graph file, if the stream is lawful and ends here. Otherwise the first
+    /// unlawful record. If no record is unlawful and no close was taken, that is the next record.
     pub fn closed(&self) -> Result<u64, Bad>
         ensures { result ≡ outcome self.now }
     {
@@ -110,9 +110,11 @@ impl Live {
     fn take_byte(&mut self, byte: u8)
         ensures { self.new ≡ take_byte self.old byte }
     {
+        // after an unlawful record nothing more is taken
         if self.bad.is_some() {
             return;
         }
+        // a byte after the close
         if self.closed {
             self.refuse(Why::Length);
             return;
@@ -158,6 +160,7 @@ impl Live {
             self.refuse(Why::Kind);
             return;
         };
+        // the time of a record is no earlier than that of the one before
         if told.time < self.time {
             self.refuse(Why::Order);
             return;

@@ -34,7 +34,7 @@ impl Model for NodeProgress {
 }
 
 /// How many acts the node of a table can do: one for each column of what it sends and starts. `None` exactly if a machine
-/// word can't hold so many.
+/// word can't hold this number.
 pub fn count_entries(table: &NodeTable) -> Option<usize>
     ensures count { IfSome result (λ count. count ≡ column_count table.now.sends + column_count table.now.starts) }
     ensures many { IfNone result (2 ^ 64 ≤ column_count table.now.sends + column_count table.now.starts) }
@@ -45,7 +45,7 @@ pub fn count_entries(table: &NodeTable) -> Option<usize>
 }
 
 impl NodeProgress {
-    /// The node of a table before its first turn. Takes all room that it will need.
+    /// The node of a table before its first turn. Reserves all the room that it will need.
     pub fn new(alloc: Global, table: NodeTable) -> Result<NodeProgress, OutOfMemory>
         ensures { IfOk result (λ progress. progress ≡ start table) }
     {
@@ -80,7 +80,7 @@ impl NodeProgress {
         if time > last { None } else { Some(time) }
     }
 
-    /// Takes the turn of the next instant. The contract alone names `time`.
+    /// Takes the turn of the next instant. Only the contract uses `time`.
     fn take_turn(&mut self, time: u64)
         requires { next self.old.dispatcher ≡ Some time }
         ensures turn { self.new ≡ take_turn time self.old }
@@ -90,8 +90,8 @@ impl NodeProgress {
         append_acts(&mut self.acts, self.node.acts());
     }
 
-    /// Takes all turns at instants that aren't later than this. They are bounded by the entries of the node's table, however
-    /// late that is.
+    /// Takes all turns at instants that aren't later than this. The entries of the node's table bound the number of
+    /// turns, however late that is.
     fn turn_to(&mut self, last: u64)
         ensures turns { self.new ≡ turned (last + 1) self.old }
         ensures few { AreFewTurns (last + 1) self.old self.new }
@@ -110,7 +110,7 @@ impl NodeProgress {
         }
     }
 
-    /// A frame arrives.
+    /// Takes a frame that arrives at a time.
     fn arrive(&mut self, time: u64, frame: Frame) -> Option<Why>
         ensures progress { self.new ≡ (arrived time frame self.old).progress }
         ensures fault { result ≡ (arrived time frame self.old).fault }
@@ -121,7 +121,7 @@ impl NodeProgress {
         }
     }
 
-    /// The end of an execution of a process is told, with so many faults.
+    /// Takes the end of an execution of a process with this many faults.
     fn end(&mut self, time: u64, process: u32, number: u16, value: bool) -> Option<Why>
         requires before { IsTurned self.old.dispatcher time }
         requires after { is_after self.old.dispatcher.last time ≡ true }

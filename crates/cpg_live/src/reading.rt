@@ -12,7 +12,7 @@ pub const RECORD_SIZE: usize = 14;
 pub struct Record {
     /// 0 for a frame, 1 for an end, 2 for a close.
     pub kind: u8,
-    /// When it is, in time units of the graph file.
+    /// Its time, in time units of the graph file.
     pub time: u64,
     /// The item of a frame, or the process of an end.
     pub item: u16,

@@ -27,13 +27,14 @@ parts_at byte (x ∷ xs) (suc i) l e h =
       first = or_from (x == byte) (list_any (λ b. b == byte) (take i xs)) (h 0 (omega arith)) r.first;
     }
 
--- parted at the first place
+-- bytes are parted at the first place of a byte
 pub parted_at : (byte : ℕ) (xs : List ℕ) (i : ℕ) → position (λ b. b == byte) xs ≡ Some i →
     IsParted byte xs (take i xs) (drop (i + 1) xs)
 parted_at byte xs i e = let r = position-Some (λ b. b == byte) xs i 0 e in
     subst (λ n. IsParted byte xs (take i xs) (drop n xs)) (let same : suc i ≡ i + 1 = omega arith in
     same) (parts_at byte xs i r.0 r.1 r.2)
 
+-- if a byte has no place in a list, it isn't in it
 pub not_there : (byte : ℕ) (xs : List ℕ) → position (λ b. b == byte) xs ≡ None → list_any (λ b. b == byte) xs ≡ false
 not_there byte xs e =
     list_any_false (λ b. b == byte) xs (λ x c. elim (cases_lt (position_or_len (λ b. b == byte) xs) (length xs)) [
@@ -50,6 +51,7 @@ lines_cut (b ∷ bs) rest h = let p = or_parts (b == 10) (list_any (λ b. b == 1
     cond-false (b == 10) ([] ∷ lines (bs ++ 10 ∷ rest)) (with_byte b (lines (bs ++ 10 ∷ rest))) p.0
     ∙ ap (with_byte b) (lines_cut bs rest p.1)
 
+-- the lines of bytes with a line feed are the bytes before it and the lines of the rest
 pub lines_parted : (bytes line rest : List ℕ) → IsParted 10 bytes line rest → lines bytes ≡ line ∷ lines rest
 lines_parted bytes line rest p = ap lines p.whole ∙ lines_cut line rest p.first
 
@@ -61,7 +63,7 @@ lines_whole (b ∷ c ∷ bs) l h = let p = or_parts (b == 10) (list_any (λ b. b
     cond-false (b == 10) ([] ∷ lines (c ∷ bs)) (with_byte b (lines (c ∷ bs))) p.0
     ∙ ap (with_byte b) (lines_whole (c ∷ bs) (omega arith) p.1)
 
--- there is one way to part a line
+-- a line is parted at a byte in one way only
 pub same_parts : (byte : ℕ) (d e t u : List ℕ) → list_any (λ b. b == byte) d ≡ false →
     list_any (λ b. b == byte) e ≡ false → d ++ byte ∷ t ≡ e ++ byte ∷ u →
     (d ≡ e) × (t ≡ u)
@@ -83,6 +85,6 @@ spaceless (c ∷ cs) d = or_from (c == 32) (list_any (λ b. b == 32) cs)
 pub decimal_spaceless : (n : ℕ) → n < 2 ^ 60 → list_any (λ b. b == 32) (decimal n) ≡ false
 decimal_spaceless n h = spaceless (decimal n) (decimal_is_IsNumeral n (omega arith)).0.1
 
--- the bytes from a place on
+-- the rest of some bytes from a place on is what is left without the bytes before
 pub rest_of : (at : ℕ) (bytes : List ℕ) → take (length bytes - at) (drop at bytes) ≡ drop at bytes
 rest_of at bytes = grind (arith, common_steps)

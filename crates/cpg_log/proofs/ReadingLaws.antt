@@ -56,7 +56,7 @@ all_push P [] y h p (suc k) d l = absurd (omega arith)
 all_push P (x ∷ xs) y h p zero d l = h 0 d (omega arith)
 all_push P (x ∷ xs) y h p (suc k) d l = all_push P xs y (λ j e m. h (suc j) e (omega arith)) p k d (omega arith)
 
--- a log with an act more
+-- a log that may go on with an act is a log with the act
 pub log_more : (g : Graph) (log : Log) (act : Logged) → IsLog g log → MayGoOn g log act →
     IsLog g (record { until = log.until; acts = log.acts ++ act ∷ [] })
 log_more g log act is may = record {
@@ -78,9 +78,10 @@ shifted : {X : Type 0} (xs : List X) (y : X) (ys : List X) → xs ++ y ∷ ys �
 shifted [] y ys = refl
 shifted (x ∷ xs) y ys = ap (λ zs. x ∷ zs) (shifted xs y ys)
 
+-- the lines of a log so far, and the rest of the file
 module _ (g : Graph) (ls : List (List ℕ)) (log : Log) (rest : List ℕ) (is : IsLog g log)
     (spelled : ls ≡ log_lines g log ++ lines rest) where
-  -- after a line that is an act's
+  -- after the line of an act was read, the lines so far are those of the log with the act
   pub line_read : (new : Log) (after : List ℕ) → IsLineRead g log rest new after →
       IsLog g new × (ls ≡ log_lines g new ++ lines after)
   line_read new after read = let more = read.goes_on in (
@@ -96,7 +97,7 @@ module _ (g : Graph) (ls : List (List ℕ)) (log : Log) (rest : List ℕ) (is : 
 head_of_cons : (a b : List ℕ) (xs ys : List (List ℕ)) → a ∷ xs ≡ b ∷ ys → a ≡ b
 head_of_cons a b xs ys e = ap (λ zs. get_or zs 0 []) e
 
--- no log has the first line
+-- if no log has the first line of a file, that is the first bad line
 pub lack_bad : (g : Graph) (ls : List (List ℕ)) → LackTime ls → IsBadLine g ls 0
 lack_bad g ls lack = record { none = λ log is e. at ls lack log is.until e; before = λ some. absurd (some refl) }
   where
@@ -136,9 +137,11 @@ before_last (m ∷ ls) l pairs = cond-false (m.item == l.item) (Some m.time) (lo
     at_end [] x = refl
     at_end (y ∷ xs) x = at_end xs x
 
+-- the lines of a log so far, and the rest of the file, of a graph whose nodes have names
 module _ (g : Graph) (limits : IsWithinLimits g) (named : HaveNames g (item_count g)) (ls : List (List ℕ)) (log : Log)
     (rest : List ℕ) (is : IsLog g log)
     (spelled : ls ≡ log_lines g log ++ lines rest) where
+  -- a line with which the log can't go on is the first bad line of the file
   pub line_strange : (place : ℕ) → IsLineStrange g log rest place → IsBadLine g ls place
   line_strange place odd = record {
     none = λ other by e. strange other by (sym with_line ∙
@@ -187,6 +190,7 @@ apart_take ls n pairs i j d a b e =
     (sym (ap (λ (l : Logged). l.item) (get_or-take n ls i d (omega (arith, long, a, b)))) ∙ e ∙
     ap (λ (l : Logged). l.item) (get_or-take n ls j d (omega (arith, long, b))))
 
+-- a file that is a log has no bad line
 pub no_bad_line : (g : Graph) (bytes : List ℕ) (log : Log) → IsLogOf g bytes log → (n : ℕ) →
     IsBadLine g (lines bytes) n → ⊥
 no_bad_line g bytes log is n bad = bad.none (record { until = log.until; acts = take n log.acts })

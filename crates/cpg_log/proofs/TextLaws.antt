@@ -39,15 +39,17 @@ act_within g x e = elim (or_cases (nat_lt x (process_count g)) (nat_lt x (item_c
 -- the texts of all items
 module _ (g : Graph) (texts : List (String Global))
     (are : map string_bytes texts ≡ map (act_text g) (numbers_below (item_count g))) where
+  -- there is a text for each item
   pub texts_long : length texts ≡ item_count g
   texts_long =
       sym (length-map texts string_bytes) ∙ ap length are ∙ length-map-range_with_len (act_text g) 0 (item_count g)
 
+  -- the text at an item's number is that of the item
   pub text_at : (x : ℕ) (d : String Global) → x < item_count g → string_bytes (get_or texts x d) ≡ act_text g x
   text_at x d l = sym (get_or-map string_bytes texts x d [] (omega (arith, texts_long, l)))
       ∙ ap (λ ts. get_or ts x []) are ∙ get_or-map-below (act_text g) (item_count g) x [] l
 
--- one item more
+-- if the nodes of the first items have names, and that of the next does, too, those of one item more do
 pub names_more : (g : Graph) (n : ℕ) → HaveNames g n → IsName (get_or g.nodes (home g n) []) → HaveNames g (n + 1)
 names_more g n h name x l = elim (cases_lt x n) [
   | inl m ↦ h x m
@@ -61,6 +63,7 @@ name_spaceless bytes name = list_any_false (λ b. b == 32) bytes (λ b c. ne_eqb
     let plain : is_name_byte b ≡ true = All-contains (λ b. is_name_byte b ≡ true) bytes b name.plain c in
     true≢false (sym (subst (λ d. is_name_byte d ≡ true) e plain))))
 
+-- a blank is the byte 32
 pub spaced : (a t : List ℕ) → a ++ codes " " ++ t ≡ a ++ 32 ∷ t
 spaced a t = append_assoc a (32 ∷ []) t
 
@@ -83,9 +86,12 @@ module _ (g : Graph) (limits : IsWithinLimits g) where
       (same_process (process_of g c) (process_of g d) (process_of_below g c l) (process_of_below g d h)
       (sym (condition_called g c l) ∙ e ∙ condition_called g d h))
 
+  -- the text of what a node did with an item
   abbrev text : Item → List ℕ
   text = done_text (labels_of g)
 
+  -- Items with the same text are the same. The texts of starts, messages and broadcasts differ in a letter. Two
+  -- starts name the same process, two messages have the same number, and two broadcasts name the same process.
   same_item : (x y : ℕ) → ItemCases g x → ItemCases g y → text (item_at g x) ≡ text (item_at g y) → x ≡ y
   same_item x y (inl a) (inl b) e = same_label x y a.0 b.0 (ap (drop 6) (sym (ap text a.1) ∙ e ∙ ap text b.1))
   same_item x y (inl a) (inr (inl b)) e =
@@ -108,6 +114,7 @@ module _ (g : Graph) (limits : IsWithinLimits g) where
       let h = same_teller a.0 b.0 a.1 b.1 (ap (drop 5) (sym (ap text a.3) ∙ e ∙ ap text b.3)) in
       omega (arith, h, a.2, b.2)
 
+  -- two items of acts that have the same text are the same
   pub same_text : HaveNames g (item_count g) → (x y : ℕ) → is_act g x ≡ true → is_act g y ≡ true →
       act_text g x ≡ act_text g y → x ≡ y
   same_text named x y a b e =

@@ -25,6 +25,7 @@ act_text g x = get_or g.nodes (home g x) [] ++ codes " " ++ done_text (labels_of
 abbrev pub act_line : Graph → Logged → List ℕ
 act_line g l = decimal l.time ++ codes " " ++ act_text g l.item
 
+-- the first line of a log, which says until when it goes
 abbrev pub until_line : ℕ → List ℕ
 until_line until = codes "until " ++ decimal until
 

@@ -5,7 +5,7 @@ use cpg_base::OutOfMemory;
 /// Why a file is no log.
 #[derive(Clone, Copy, Debug, PartialEq, Eq)]
 pub enum LogFault {
-    /// The first line that makes it none, counted from 0.
+    /// The first line that makes the file no log, counted from 0.
     Bad(u64),
     /// Out of memory.
     OutOfMemory,

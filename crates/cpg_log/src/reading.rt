@@ -19,7 +19,7 @@ use std::alloc::Global;
 /// What the first line begins with.
 const UNTIL: &[u8] = b"until";
 
-/// The time until which a line says that a log goes, and `None` exactly if it says none.
+/// The time until which a line says that a log goes, and `None` exactly if it says no time.
 fn until_of(alloc: Global, line: &[u8]) -> Result<Option<u64>, OutOfMemory>
     ensures some { IfOk result (λ r. IfSome r (λ until. (line.now ≡ until_line until) × (until < 2 ^ 60))) }
     ensures none { IfOk result (λ r. IfNone r ((until : ℕ) → until < 2 ^ 60 → line.now ≢ until_line until)) }
@@ -122,7 +122,7 @@ fn opened(alloc: Global, bytes: &[u8]) -> Result<(Log, &[u8]), LogFault>
 
 /// The log that a file spells. `Bad` comes exactly if some line isn't of its form, names no item, names another node
 /// than the one that starts or sends it, names an item of an earlier line or has a time past that of the first line, and
-/// tells the first such line, counted from 0; a file without a line lacks line 0.
+/// names the first such line, counted from 0; a file without a line lacks line 0.
 pub fn read_log(alloc: Global, problem: &Problem, bytes: &[u8]) -> Result<Log, LogFault>
     ensures log { IfOk result (IsLogOf problem.now bytes.now) }
     ensures bad { (place : ℕ) → result ≡ Err (LogFault.Bad place) → IsBadLine problem.now (lines bytes.now) place }

@@ -10,6 +10,7 @@ use Rattle.cpg_merging.specs.Totals.{HasNoPartner}
 abbrev pub AllAtZero : List Literal → Type 0
 AllAtZero ls = list_all (λ (l : Literal). l.low == 0) ls ≡ true
 
+-- each of the literals begins at 0
 pub zero_in : (ls : List Literal) → AllAtZero ls → (l : Literal) → Contains ls l → l.low ≡ 0
 zero_in [] h l c = absurd (Contains-nil l c)
 zero_in (m ∷ ls) h l c =
@@ -19,11 +20,12 @@ zero_in (m ∷ ls) h l c =
       | inr d ↦ zero_in ls parts.1 l d
     ]
 
+-- a literal that begins at 0 has no partner: no column ends where it begins
 pub none_before : (sums : List ℕ) (total : ℕ) (ls : List Literal) → AllAtZero ls → (l : Literal) → Contains ls l →
     HasNoPartner sums total l
 none_before sums total ls h l c low rest lt e there = absurd (omega (arith, zero_in ls h l c, lt))
 
--- literals of which a block was marked
+-- if a block of the literals left is marked, each literal is among those left behind it or marked
 pub marked_on : (P : Literal → Type 0) (Q : Literal → Type 0) (all left block rest : List Literal) →
     left ≡ block ++ rest → ((l : Literal) → P l → Q l) →
     ((l : Literal) → Contains block l → Q l) →
@@ -37,6 +39,7 @@ marked_on P Q all left block rest is kept here before l c = elim (before l c) [
   | inr done ↦ inr (kept l done)
 ]
 
+-- if each literal is left or marked, and each that is left is marked too, all are
 pub all_marked : (P : Literal → Type 0) (all left : List Literal) →
     ((l : Literal) → Contains all l → Contains left l ⊎ P l) → ((l : Literal) → Contains left l → P l) → (l : Literal) →
     Contains all l → P l

@@ -53,6 +53,7 @@ module _ (k : ℕ) where
       let parts = or_parts (is_whole k l) (list_any (is_whole k) ls) e in
       ap₂ (λ b xs. cond (not b) (l ∷ xs) xs) parts.0 (cube_kept ls parts.1)
 
+  -- columns of which no literal has the whole range stay as they are when whole literals are left out
   pub columns_kept : (columns : List Column) → list_any (λ c. list_any (is_whole k) c.cube) columns ≡ false →
       all_shorn k columns ≡ columns
   columns_kept [] e = refl
@@ -66,7 +67,7 @@ module _ (k : ℕ) where
       (All-weaker (λ c. All (λ l. is_whole k l ≡ false) c.cube) (λ c. list_any (is_whole k) c.cube ≡ false)
       (λ c all. list_any_none (is_whole k) c.cube all) columns h))
 
-  -- a literal of the whole range may be left out
+  -- leaving out a first literal of the whole range leaves the lows as they are
   left_out-low : (l : Literal) (ls : List Literal) (v : ℕ) → IsRising (l ∷ ls) → is_whole k l ≡ true →
       low_in ls v ≡ low_in (l ∷ ls) v
   left_out-low l ls v r w = ⊎_elim
@@ -83,6 +84,7 @@ module _ (k : ℕ) where
       (λ (n : l.variable ≢ v). sym (high_in-later k l ls v n))
       (cases_eq l.variable v)
 
+  -- leaving out the literals of the whole range leaves each range as it was
   pub shorn-low : (cube : List Literal) → IsRising cube → (v : ℕ) → low_in (shorn k cube) v ≡ low_in cube v
   shorn-low [] r v = refl
   shorn-low (l ∷ ls) r v = go (is_whole k l) refl (shorn-low ls (rising_rest l ls r) v)
@@ -92,6 +94,7 @@ module _ (k : ℕ) where
       go true w ih = ih ∙ left_out-low l ls v r w
       go false w ih = same_low l (shorn k ls) ls v ih
 
+  -- leaving out the literals of the whole range leaves each high as it was
   pub shorn-high : (cube : List Literal) → IsRising cube → (v : ℕ) → high_in k (shorn k cube) v ≡ high_in k cube v
   shorn-high [] r v = refl
   shorn-high (l ∷ ls) r v = go (is_whole k l) refl (shorn-high ls (rising_rest l ls r) v)
@@ -104,6 +107,7 @@ module _ (k : ℕ) where
 -- ---- the literals on other variables
 
 module _ (v : ℕ) where
+  -- the ranges of other variables stay as they were, and that of the variable is the whole one
   pub without-low : (cube : List Literal) (u : ℕ) → u ≢ v → low_in (without v cube) u ≡ low_in cube u
   without-low [] u n = refl
   without-low (l ∷ ls) u n = go (l.variable == v) refl (without-low ls u n)
@@ -113,6 +117,7 @@ module _ (v : ℕ) where
       go true e ih = ih ∙ sym (low_in-later l ls u (λ i. n (sym i ∙ eqb-true l.variable v e)))
       go false e ih = same_low l (without v ls) ls u ih
 
+  -- the highs of other variables stay as they were
   pub without-high : (k : ℕ) (cube : List Literal) (u : ℕ) → u ≢ v → high_in k (without v cube) u ≡ high_in k cube u
   without-high k [] u n = refl
   without-high k (l ∷ ls) u n = go (l.variable == v) refl (without-high k ls u n)
@@ -126,6 +131,7 @@ module _ (v : ℕ) where
   not_there cube l c = eqb-false l.variable v
       (not-true (l.variable == v) (Contains-filter_parts (λ m. not (m.variable == v)) cube l c).1)
 
+  -- of the variable itself the whole range is left
   pub without-low_here : (cube : List Literal) → low_in (without v cube) v ≡ 0
   without-low_here cube = low_in-none (without v cube) v (not_there cube)
 
@@ -148,6 +154,7 @@ module _ (v : ℕ) where
         go true = refl
         go false = refl
 
+    -- raising the high of one variable leaves all lows and the ranges of other variables as they were
     pub raised-low : (cube : List Literal) (u : ℕ) → low_in (raised v high cube) u ≡ low_in cube u
     raised-low [] u = refl
     raised-low (l ∷ ls) u = go (l.variable == v) (raised-low ls u)
@@ -157,6 +164,7 @@ module _ (v : ℕ) where
         go true ih = same_low l (raised v high ls) ls u ih
         go false ih = same_low l (raised v high ls) ls u ih
 
+    -- the highs of other variables stay too
     pub raised-high : (k : ℕ) (cube : List Literal) (u : ℕ) → u ≢ v →
         high_in k (raised v high cube) u ≡ high_in k cube u
     raised-high k [] u n = refl
@@ -169,7 +177,7 @@ module _ (v : ℕ) where
             high_in-later k (with_high l) (raised v high ls) u other ∙ ih ∙ sym (high_in-later k l ls u other)
         go false e ih = same_high k l (raised v high ls) ls u ih
 
-    -- if it ended before the top, so that the cube speaks of it
+    -- if the cube's range of the variable ends under the top, its raised high is the new one
     pub raised-high_here : (k : ℕ) (cube : List Literal) → high_in k cube v < top k v →
         high_in k (raised v high cube) v ≡ high
     raised-high_here k [] h = absurd (omega arith)
@@ -183,6 +191,7 @@ module _ (v : ℕ) where
             high_in-later k l (raised v high ls) v other
             ∙ ih (subst (λ n. n < top k v) (high_in-later k l ls v other) h)
 
+    -- a raised cube keeps the order of its variables, what holds of them, and stays within the whole ranges
     pub raised-rising : (cube : List Literal) → IsRising cube → IsRising (raised v high cube)
     raised-rising cube r = AllPairs-map (λ (l m : Literal). l.variable < m.variable)
         (λ (l m : Literal). l.variable < m.variable) raise cube
@@ -193,6 +202,7 @@ module _ (v : ℕ) where
     raised-all P cube a = All-map (λ l. P l.variable) raise cube
         (All-weaker (λ l. P l.variable) (λ l. P (raise l).variable) (λ l h. subst P (sym (raise-variable l)) h) cube a)
 
+    -- if the new high is within the whole range, each literal still is
     pub raised-within : (k : ℕ) (cube : List Literal) → high ≤ top k v → All (λ l. l.high ≤ top k l.variable) cube →
         All (λ l. l.high ≤ top k l.variable) (raised v high cube)
     raised-within k cube h a = All-map (λ l. l.high ≤ top k l.variable) raise cube
@@ -206,6 +216,9 @@ module _ (v : ℕ) where
 
 -- ---- cubes in the one form that their ranges have
 
+-- given: two rising cubes with the same ranges
+-- `rise_a`, `rise_b`: the variables of each cube rise; `narrow_a`: a has no literal of the whole range
+-- `lows`, `highs`: both have the same lower and upper end on each variable
 module _ (k : ℕ) (a b : List Literal) (rise_a : IsRising a) (rise_b : IsRising b) (narrow_a : IsNarrow k a)
     (lows : (v : ℕ) → low_in a v ≡ low_in b v) (highs : (v : ℕ) → high_in k a v ≡ high_in k b v) where
   -- a variable of which the other cube doesn't speak would have the whole range
@@ -222,20 +235,21 @@ module _ (k : ℕ) (a b : List Literal) (rise_a : IsRising a) (rise_b : IsRising
       (sym (low_in-later m ms l.variable o) ∙ x) (sym (high_in-later k m ms l.variable o) ∙ y) n))
       (cases_eq m.variable l.variable)
 
+  -- each literal of the first stands in the second
   pub contained : (l : Literal) → Contains a l → Contains b l
   contained l c =
       let r = range_of_literal k a l rise_a c in
       let n = All-contains (λ m. (is_whole k m ≡ false) × (m.high ≤ top k m.variable)) a l narrow_a c in
       found b l rise_b (sym (lows l.variable) ∙ r.0) (sym (highs l.variable) ∙ r.1) (narrow k l n.0 n.1)
 
--- two such cubes with the same ranges are one
+-- two rising cubes without whole literals and with the same ranges are the same
 pub same_cube : (k : ℕ) (a b : List Literal) → IsRising a → IsRising b → IsNarrow k a → IsNarrow k b →
     ((v : ℕ) → low_in a v ≡ low_in b v) → ((v : ℕ) → high_in k a v ≡ high_in k b v) → a ≡ b
 same_cube k a b ra rb na nb ls hs = same_sorted (λ l m. l.variable < m.variable) (λ l m h i. omega arith) a b ra rb
     (contained k a b ra rb na ls hs)
     (contained k b a rb ra nb (λ v. sym (ls v)) (λ v. sym (hs v)))
 
--- what each element has
+-- a fact of each element of a list is one of all
 pub All-from_each : {X : Type 0} {P : X → Type 0} (xs : List X) → ((x : X) → Contains xs x → P x) → All P xs
 All-from_each xs h = λ k d l. h (get_or xs k d) (Contains-get_or xs k d l)
 
@@ -248,6 +262,7 @@ before_next cube i d r h = λ k e l.
     subst (λ (x : Literal). x.variable < (get_or cube i d).variable)
     (get_or_default cube k d e (omega arith) ∙ sym (get_or-take i cube k e (omega arith))) (r k i d (omega arith) h)
 
+-- what is left of the literals before one of a rising cube has lower variables than that one
 pub shorn_before : (k : ℕ) (cube : List Literal) (i : ℕ) (d : Literal) (front : List Literal) → IsRising cube →
     i < length cube →
     front ≡ shorn k (take i cube) →
@@ -257,6 +272,7 @@ shorn_before k cube i d front r h e =
     (All-filter (λ l. not (is_whole k l)) (λ (l : Literal). l.variable < (get_or cube i d).variable) (take i cube)
     (before_next cube i d r h))
 
+-- the literals before one of a rising cube, with a range raised, have lower variables than that one
 pub raised_before : (v high : ℕ) (cube : List Literal) (i : ℕ) (d : Literal) (front : List Literal) → IsRising cube →
     i < length cube →
     front ≡ raised v high (take i cube) →

@@ -22,11 +22,12 @@ use Rattle.cpg_merging.proofs.MergingTotals.{of_range, spoken, sum_parts}
 
 -- ---- sorted numbers of which no two neighbours differ within a time
 
--- neighbours before a place are equal if their times are
+-- neighbours before a place are equal if their times are equal
 abbrev pub NeighboursAgree : List ℕ → ℕ → Type 0
 NeighboursAgree ns n =
     (i : ℕ) → i + 1 < n → get_or ns i 0 / 256 ≡ get_or ns (i + 1) 0 / 256 → get_or ns i 0 ≡ get_or ns (i + 1) 0
 
+-- if neighbours agree everywhere, two numbers that do not fall and have one time are equal
 agree_on : (ns : List ℕ) → DoNotFall ns → NeighboursAgree ns (length ns) → (d i : ℕ) → i + d < length ns →
     get_or ns i 0 / 256 ≡ get_or ns (i + d) 0 / 256 →
     get_or ns i 0 ≡ get_or ns (i + d) 0
@@ -41,7 +42,7 @@ agree_on ns up near (suc d) i within same =
     next ∙ agree_on ns up near d (i + 1) (omega (arith, within)) (later ∙ ap (λ (x : ℕ). get_or ns x 0 / 256) (sym at))
     ∙ ap (λ (x : ℕ). get_or ns x 0) at
 
--- so none differ
+-- if neighbours agree everywhere, all numbers that do not fall agree by time
 pub all_agree : (ns : List ℕ) → DoNotFall ns → NeighboursAgree ns (length ns) → AgreeByTime ns
 all_agree ns up near m n a b same =
     let e : get_or ns a.0 0 ≡ m = sym (get_or_default ns a.0 m 0 a.1) ∙ a.2 in
@@ -61,7 +62,7 @@ all_agree ns up near m n a b same =
 
 -- ---- columns that touch
 
--- the numbers tell times and how much is asked apart
+-- the numbers keep times and how much is asked apart
 same_asked : (t a b : ℕ) → a < 256 → b < 256 → (t * 256 % 2 ^ 64 + a) % 2 ^ 64 ≡ (t * 256 % 2 ^ 64 + b) % 2 ^ 64 → a ≡ b
 same_asked t a b h k e = omega (arith, h, k, e)
 
@@ -70,6 +71,7 @@ same_time : (t a b : ℕ) → a < 256 → b < 256 →
 same_time t a b h k = omega (arith, h, k)
 
 module _ (g : Graph) (few : process_count g ≤ 128) (faults : g.faults ≤ 8) (v : ℕ) (known : IsVariable g v) where
+  -- a number of a variable is at most 8
   pub top_small : top g.faults v ≤ 8
   top_small = go (nat_lt v 128)
     where
@@ -77,6 +79,7 @@ module _ (g : Graph) (few : process_count g ≤ 128) (faults : g.faults ≤ 8) (
       go true = faults
       go false = omega arith
 
+  -- columns of one time that touch do not ask equally much
   touch_agree : (c d : Column) → IsGood g c.cube → IsGood g d.cube → c.time ≡ d.time →
       TouchAt g.faults v c.cube d.cube → (demand_of c / 256 ≡ demand_of d / 256 → demand_of c ≡ demand_of d) → ⊥
   touch_agree c d good_c good_d same touch agree =
@@ -97,6 +100,7 @@ module _ (g : Graph) (few : process_count g ≤ 128) (faults : g.faults ≤ 8) (
       (sum_c ∙ ap (λ (w : ℕ). w + low_in c.cube v) others) sum_d (omega (arith, low_c, next))
       (omega (arith, low_d, high_d, top_small)) agree
     where
+      -- two demands of one time that differ in a few lows are different numbers of the same time
       apart : (t u a b w low high : ℕ) → t ≡ u → a ≡ w + low → b ≡ w + high → low < high → high ≤ 8
           → ((t * 256 % 2 ^ 64 + a % 256) % 2 ^ 64 / 256 ≡ (u * 256 % 2 ^ 64 + b % 256) % 2 ^ 64 / 256 →
           (t * 256 % 2 ^ 64 + a % 256) % 2 ^ 64 ≡ (u * 256 % 2 ^ 64 + b % 256) % 2 ^ 64) → ⊥
@@ -107,7 +111,7 @@ module _ (g : Graph) (few : process_count g ≤ 128) (faults : g.faults ≤ 8) (
           ap (λ (x : ℕ). (x * 256 % 2 ^ 64 + b % 256) % 2 ^ 64) (sym e)) in
           omega (arith, asked, f, h, less, small)
 
-  -- so no variable needs a mark
+  -- if the demands agree by time, no two columns of one time touch
   pub settled_by_demands : (xs : List Column) → AreGood g xs → AgreeByTime (map demand_of xs) →
       IsSettledOn g.faults v xs
   settled_by_demands xs good agree c d m n e t =
@@ -120,7 +124,7 @@ pub agree_sorted : (ns sorted : List ℕ) → IsPermutation ns sorted → AgreeB
 agree_sorted ns sorted p h m n c d same =
     h m n (Contains-permutation ns sorted m p c) (Contains-permutation ns sorted n p d) same
 
--- what a test tells if it fails tells what follows from it
+-- what holds if a test is false implies what follows from it
 pub off_weaker : {P Q : Type 0} (b : Bool) → (P → Q) → OnFalse b P → OnFalse b Q
 off_weaker true f h = h
 off_weaker false f h = f h

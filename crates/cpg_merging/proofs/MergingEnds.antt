@@ -67,6 +67,7 @@ one_element (z ∷ []) x y h c d = ⊎_elim
     (Contains-cases z [] x c)
 one_element (z ∷ w ∷ xs) x y h c d = absurd (omega arith)
 
+-- if at most one of the columns matches a scenario, two that match are the same
 pub one_column : (columns : List Column) (s : Scenario) (c d : Column) → length (times_in columns s) ≤ 1 →
     Contains columns c → Contains columns d →
     matches c.cube s ≡ true →
@@ -90,7 +91,7 @@ column_there columns s t m =
     let q = Contains-filter_parts (λ (z : Column). matches z.cube s) columns r.0 r.1 in
     (r.0, q.0, q.1)
 
--- the column of a number
+-- the column at a number is the one at that place of the list
 at_number : (columns : List Column) (i : ℕ) (c d : Column) → IsColumn columns i c → get_or columns i d ≡ c
 at_number [] i c d e = cc
 at_number (x ∷ xs) ℕ.zero c d e = cc
@@ -98,22 +99,28 @@ at_number (x ∷ xs) (ℕ.suc i) c d e = at_number xs i c d e
 
 -- ---- the end
 
+-- given: good columns, of which at most one matches in each scenario
+-- `few`, `order`, `all`: the order has each of at most 128 processes once; `good`, `single`: what is known of the
+-- columns
 module _ (g : Graph) (few : process_count g ≤ 128) (order : List ℕ)
     (all : IsPermutation (numbers_below (process_count g)) order)
     (columns : List Column) (good : AreGood g columns) (single : AreSingle g columns) where
   good_at : (c : Column) → Contains columns c → IsGood g c.cube
   good_at c m = All-contains (λ (x : Column). IsGood g x.cube) columns c good m
 
+  -- two columns at different places match no scenario together
   apart_at : (i j : ℕ) (c d : Column) → i < j → IsColumn columns i c → IsColumn columns j d → (s : Scenario) →
       IsScenario g s → matches c.cube s ≡ true → matches d.cube s ≡ true → ⊥
   apart_at i j c d l x y s is t u = pairs_apart g columns single i j c l (slice_get_within columns j d y) s is
       (subst (λ (z : Column). matches z.cube s ≡ true) (sym (at_number columns i c c x)) t)
       (subst (λ (z : Column). matches z.cube s ≡ true) (sym (at_number columns j d c y)) u)
 
+  -- each of the columns has a least scenario that it matches
   pub are_met : AreMet g order columns
   are_met = λ k d l. let x = good k d l in
       (lows g (get_or columns k d).cube, lows-least g few (get_or columns k d).cube x.cube x.met order)
 
+  -- columns that stand by their lows stand by the least scenarios that they match
   pub are_ordered : AreByLows (λ (c : Column). c.cube) g order columns → AreOrdered g order columns
   are_ordered up = λ i j c d s t l x y p q.
       let m = Contains-slice_get columns i c x in
@@ -137,9 +144,12 @@ module _ (g : Graph) (few : process_count g ≤ 128) (order : List ℕ)
       absurd (apart_at i j c d l x y s p.lawful p.holds (subst (λ z. matches d.cube z ≡ true) (sym same) q.holds)))
       (cases_Bool (is_before g order s t))
 
+  -- if no two columns of one time touch, no two can be made one
   pub is_merged : ((v : ℕ) → IsVariable g v → (c d : Column) → Contains columns c → Contains columns d →
       c.time ≡ d.time → TouchAt g.faults v c.cube d.cube → ⊥) →
       IsMerged g columns
+  -- two columns of one time that differ at v alone have ranges at v that touch, one way or the other, or that share a
+  -- number; touching ranges are excluded as the columns are settled, shared numbers as at most one column matches
   is_merged settled = λ i j v c d l x y e differ.
       let m = Contains-slice_get columns i c x in
       let n = Contains-slice_get columns j d y in
@@ -170,6 +180,7 @@ module _ (g : Graph) (few : process_count g ≤ 128) (order : List ℕ)
       (cases_lt (high_in g.faults c.cube v) (low_in d.cube v))
 
   module _ (entries : List Column) (joins : IsJoinOf g entries columns) where
+    -- the column that matches a scenario is as wide as the entry that does
     pub is_wider : (s : Scenario) (e c : Column) → IsScenario g s → Contains entries e → Contains columns c →
         matches e.cube s ≡ true → matches c.cube s ≡ true →
         IsWider g.faults c.cube e.cube
@@ -178,6 +189,7 @@ module _ (g : Graph) (few : process_count g ≤ 128) (order : List ℕ)
         let t = matches_wider g few r.0.cube e.cube s i (good_at r.0 r.1).cube r.3 x in
         subst (λ (z : Column). IsWider g.faults z.cube e.cube) (one_column columns s r.0 c (single s i) r.1 n t y) r.3
 
+    -- each literal of a column is on a variable of an entry that matches together with it
     pub is_spoken : (c : Column) (l : Literal) → Contains columns c → Contains c.cube l →
         (s : Scenario) × (e : Column) × (m : Literal) × IsScenario g s × Contains entries e ×
         IsTrue (matches e.cube s) × IsTrue (matches c.cube s) × Contains e.cube m × (m.variable ≡ l.variable)
@@ -230,7 +242,7 @@ merge_of g few order all entries columns ordered mergeable settled p up =
       spoken = is_spoken g few order all ordered good single entries joins;
     }
 
--- two facts of what is there if all went well
+-- two facts of an answer give what follows from both
 pub if_ok_both : {T E : Type 0} (r : Result T E) (P Q R : T → Type 0) → ((x : T) → P x → Q x → R x) → IfOk r P →
     IfOk r Q → IfOk r R
 if_ok_both (Ok x) P Q R h p q = h x p q

@@ -21,7 +21,7 @@ use Rattle.cpg_merging.proofs.MergingTotals.{of_range, spoken, sum_parts, touch_
 
 -- ---- which columns are chosen
 
--- if two columns of one kind ask differently, both are chosen, since a place tells but one
+-- if two columns of one kind ask differently, both are chosen, since a place stores only one amount
 pub both_chosen : (told : List ℕ) (differing : List Bool) (columns : List Column) → length differing ≡ length told →
     AreTold told differing (map kind_of columns) →
     HoldCandidates columns (filter (is_candidate differing) columns)
@@ -33,6 +33,7 @@ both_chosen told differing columns long tell c d there other same apart = (
     at : Column → ℕ
     at x = place_in (length told) (kind_of x).number
 
+    -- columns of one kind that ask differently are both candidates
     chosen : (x y : Column) → Contains columns x → Contains columns y → (kind_of x).number ≡ (kind_of y).number →
         (kind_of x).asked ≢ (kind_of y).asked →
         is_candidate differing x ≡ true
@@ -56,11 +57,14 @@ abbrev one_of : Literal → ℕ
 one_of l = 1
 
 module _ (g : Graph) (few : process_count g ≤ 128) (faults : g.faults ≤ 8) (v : ℕ) (known : IsVariable g v) where
+  -- columns of one time that touch are of one kind and ask differently
   touch_kinds : (c d : Column) → IsGood g c.cube → IsGood g d.cube → c.time ≡ d.time →
       TouchAt g.faults v c.cube d.cube →
       ((kind_of c).number ≡ (kind_of d).number) ×
       ((kind_of c).asked ≢ (kind_of d).asked)
   touch_kinds c d good_c good_d same touch =
+      -- both have a literal on v and the same literals on other variables, so the sums over literals, over variables
+      -- and of lower ends differ by that literal alone: the numbers are equal, and the lower ends differ
       let k = g.faults in
       let next : high_in k c.cube v + 1 ≡ low_in d.cube v = touch.next in
       let low_c = low-le-high k c.cube good_c.met v in
@@ -98,16 +102,19 @@ module _ (g : Graph) (few : process_count g ≤ 128) (faults : g.faults ≤ 8) (
             (omega (arith, low_c, next)) (omega (arith, low_d, high_d, top_small g few faults v known)),
       )
     where
+      -- equal times, lengths and sums of variables give equal numbers of the kinds
       numbers : (t u a b s r : ℕ) → t ≡ u → a ≡ b → s ≡ r →
           mixed (mixed (mixed 0 t) a) (s % 256) ≡ mixed (mixed (mixed 0 u) b) (r % 256)
       numbers t u a b s r e f h = ap (λ (x : ℕ). mixed (mixed (mixed 0 x) a) (s % 256)) e
           ∙ ap (λ (x : ℕ). mixed (mixed (mixed 0 u) x) (s % 256)) f
           ∙ ap (λ (x : ℕ). mixed (mixed (mixed 0 u) b) (x % 256)) h
 
+      -- sums that differ by less than 256 differ modulo 256
       apart : (a b w low high : ℕ) → a ≡ w + low → b ≡ w + high → low < high → high ≤ 8 → a % 256 ≢ b % 256
       apart a b w low high e f less small same = omega (arith, e, f, less, small, same)
 
-  -- columns that touch are candidates
+  -- given: two columns of one time that touch
+  -- `xs`, `good`: the columns; `c`, `d`, `m`, `n`, `same`: two of them with one time; `touch`: they touch at v
   module _ (xs : List Column) (good : AreGood g xs) (c d : Column) (m : Contains xs c) (n : Contains xs d)
       (same : c.time ≡ d.time) (touch : TouchAt g.faults v c.cube d.cube) where
     good_in : (x : Column) → Contains xs x → IsGood g x.cube

@@ -26,9 +26,11 @@ AreGood g columns = All (λ c. IsGood g c.cube) columns
 -- ---- lists
 
 module _ (g : Graph) where
+  -- columns are a join of themselves
   pub joins_itself : (columns : List Column) → IsJoinOf g columns columns
   joins_itself columns = record { times = λ s i. refl; held = λ e c. (e, c, refl, wider_itself g.faults e.cube) }
 
+  -- a join of a join is a join
   pub joins_through : (a b c : List Column) → IsJoinOf g a b → IsJoinOf g b c → IsJoinOf g a c
   joins_through a b c h k = record {
     times = λ s i. k.times s i ∙ h.times s i;
@@ -38,7 +40,7 @@ module _ (g : Graph) where
         (y.0, y.1, y.2 ∙ x.2, wider_through g.faults y.0.cube x.0.cube e.cube y.3 x.3);
   }
 
-  -- one more column before two lists with the same times
+  -- one more column before two lists with the same times in a scenario leaves them the same
   times_cons : (c : Column) (a b : List Column) (s : Scenario) → times_in a s ≡ times_in b s →
       times_in (c ∷ a) s ≡ times_in (c ∷ b) s
   times_cons c a b s e = go (matches c.cube s)
@@ -51,6 +53,7 @@ module _ (g : Graph) where
       go true = ap (λ ts. c.time ∷ ts) e
       go false = e
 
+  -- one more column before both lists leaves a join a join
   pub joins_cons : (c : Column) (a b : List Column) → IsJoinOf g a b → IsJoinOf g (c ∷ a) (c ∷ b)
   joins_cons c a b h = record {
     times = λ s i. times_cons c b a s (h.times s i);
@@ -67,7 +70,7 @@ module _ (g : Graph) where
 
 -- ---- one join
 
--- two columns that one follows the other touch
+-- a column that follows another is equal beside the variable, and begins there where the other ends
 pub followed_parts : (k v : ℕ) (c d : Column) → is_followed k v c d ≡ true →
     (beside_cmp v c d ≡ Equal) × (high_in k c.cube v + 1 ≡ low_in d.cube v)
 followed_parts k v c d h =
@@ -82,11 +85,13 @@ ranges_beside k v a b e u n = (
   sym (without-high v k a u n) ∙ ap (λ ls. high_in k ls u) e ∙ without-high v k b u n,
 )
 
+-- a column that follows another touches it at the variable
 pub touch_of : (k v : ℕ) (c d : Column) → is_followed k v c d ≡ true → TouchAt k v c.cube d.cube
 touch_of k v c d h =
     let r = followed_parts k v c d h in
     record { others = ranges_beside k v c.cube d.cube (beside_equal v c d r.0).1; next = r.1 }
 
+-- a column that follows another has its time
 pub time_of : (k v : ℕ) (c d : Column) → is_followed k v c d ≡ true → c.time ≡ d.time
 time_of k v c d h = (beside_equal v c d (followed_parts k v c d h).0).0
 
@@ -101,6 +106,7 @@ times_of_one t rest false true m n e x y = ap (λ z. cond z (t ∷ rest) rest) (
 times_of_one t rest false false true n e x y = ⊎_elim (λ (h : false ≡ true). cc) (λ (h : false ≡ true). cc) (e refl)
 times_of_one t rest false false false n e x y = refl
 
+-- the times of a list in a scenario are those of the rest, after the first one's if that matches
 pub times_first : (c : Column) (ds : List Column) (s : Scenario) →
     times_in (c ∷ ds) s ≡ cond (matches c.cube s) (c.time ∷ times_in ds s) (times_in ds s)
 times_first c ds s = go (matches c.cube s)
@@ -113,15 +119,20 @@ times_first c ds s = go (matches c.cube s)
     go false = refl
 
 module _ (g : Graph) (few : process_count g ≤ 128) (v : ℕ) (known : IsVariable g v) where
+  -- given: two good columns, the second of which follows the first
   module _ (c d : Column) (good_c : IsGood g c.cube) (good_d : IsGood g d.cube)
       (h : is_followed g.faults v c d ≡ true) where
     touch : TouchAt g.faults v c.cube d.cube
     touch = touch_of g.faults v c d h
 
+    -- the two made one are a good column
     pub good_joined : IsGood g (joined g.faults v c d).cube
     good_joined = good_both g few v c.cube d.cube good_c good_d touch
 
+    -- the two made one, before the others, are a join of the two and the others
     pub joins_two : (ds : List Column) → IsJoinOf g (c ∷ d ∷ ds) (joined g.faults v c d ∷ ds)
+    -- `times`: in each scenario the joined column matches exactly where c or d does, at their time. `held`: c and d
+    -- lie within the joined column, any other column within itself
     joins_two ds = record {
       times = λ s i.
           times_first (joined g.faults v c d) ds s
@@ -165,8 +176,10 @@ module _ (g : Graph) (few : process_count g ≤ 128) (v : ℕ) (known : IsVariab
     pub good : AreGood g after
     pub fewer : (length after < length before) ⊎ (after ≡ before)
 
+  -- a walk over good columns gives good columns that are a join of them: fewer ones, or the same
   pub walk : (c : Column) (ds : List Column) → AreGood g (c ∷ ds) → Walked (c ∷ ds) (walked g.faults v c ds)
   walk c [] a = record { joins = joins_itself g (c ∷ []); good = a; fewer = inr refl }
+  -- by induction on the columns; `go` takes the case of whether d follows c
   walk c (d ∷ ds) a = go (is_followed g.faults v c d) refl
       (λ good.
       walk (joined g.faults v c d) ds (All-cons (λ (x : Column). IsGood g x.cube) (joined g.faults v c d) ds good
@@ -179,11 +192,13 @@ module _ (g : Graph) (few : process_count g ≤ 128) (v : ℕ) (known : IsVariab
       good_d : IsGood g d.cube
       good_d = All-head (λ (x : Column). IsGood g x.cube) d ds (All-tail (λ (x : Column). IsGood g x.cube) c (d ∷ ds) a)
 
+      -- with the walk from the joined column, and that from d: the one that applies gives the whole
       go : (b : Bool) → is_followed g.faults v c d ≡ b →
           (IsGood g (joined g.faults v c d).cube →
           Walked (joined g.faults v c d ∷ ds) (walked g.faults v (joined g.faults v c d) ds)) →
           Walked (d ∷ ds) (walked g.faults v d ds) →
           Walked (c ∷ d ∷ ds) (cond b (walked g.faults v (joined g.faults v c d) ds) (c ∷ walked g.faults v d ds))
+      -- d follows c: the two are made one, which makes the columns fewer
       go true e ih_joined ih =
           let w = ih_joined (good_joined c d good_c good_d e) in
           record {
@@ -198,6 +213,7 @@ module _ (g : Graph) (few : process_count g ≤ 128) (v : ℕ) (known : IsVariab
                 omega arith)
                 w.fewer);
           }
+      -- d doesn't follow c: c stays as it is
       go false e ih_joined ih = record {
         joins = joins_cons g c (d ∷ ds) (walked g.faults v d ds) ih.joins;
         good = All-cons (λ (x : Column). IsGood g x.cube) c (walked g.faults v d ds) good_c ih.good;

@@ -18,29 +18,35 @@ use Rattle.cpg_cube.proofs.Ranges.{same_literal}
 
 -- ---- one comparison after another
 
+-- if two comparisons in turn are equal, each of them is
 pub then_equal : (o r : Ordering) → ordering_then o r ≡ Equal → (o ≡ Equal) × (r ≡ Equal)
 then_equal Less r h = cc
 then_equal Equal r h = (refl, h)
 then_equal Greater r h = cc
 
+-- if the two are not less, the first is not either
 pub then_not_less : (o r : Ordering) → is_lt (ordering_then o r) ≡ false → is_lt o ≡ false
 then_not_less Less r h = h
 then_not_less Equal r h = refl
 then_not_less Greater r h = refl
 
+-- an ordering that is tested to be equal is Equal
 pub equal_from : (o : Ordering) → is_eq o ≡ true → o ≡ Equal
 equal_from Less h = cc
 equal_from Equal h = refl
 equal_from Greater h = cc
 
+-- numbers that compare equal are the same
 pub number_equal : (x y : ℕ) → nat_cmp x y ≡ Equal → x ≡ y
 number_equal x y e = ranked x y Equal (sym e)
 
+-- a number that is not greater than another is at most that one
 pub not_less-le : (x y : ℕ) → is_lt (nat_cmp y x) ≡ false → x ≤ y
 not_less-le x y h = grind (arith, common_steps)
 
 -- ---- the orders are total, and what ties is equal
 
+-- literals are totally ordered by variable, low and high
 pub literal_total : IsTotalOrder literal_cmp
 literal_total = then_total (on_total (λ (l : Literal). l.variable) nat_cmp_total)
     (then_total (on_total (λ (l : Literal). l.low) nat_cmp_total) (on_total (λ (l : Literal). l.high) nat_cmp_total))
@@ -61,6 +67,7 @@ literals_equal (x ∷ xs) (y ∷ ys) h = let r = then_equal (literal_cmp x y) (s
     ap₂ ◌∷◌ (literal_equal x y r.0) (literals_equal xs ys r.1)
 
 module _ (v : ℕ) where
+  -- columns are totally ordered by time and their literals on other variables, and then by the low of the variable
   pub beside_total : IsTotalOrder (beside_cmp v)
   beside_total = then_total (on_total (λ (c : Column). c.time) nat_cmp_total)
       (on_total (λ (c : Column). without v c.cube) (lists_total literal_total))
@@ -68,6 +75,7 @@ module _ (v : ℕ) where
   pub column_total : IsTotalOrder (column_cmp v)
   column_total = then_total beside_total (on_total (λ (c : Column). low_in c.cube v) nat_cmp_total)
 
+  -- columns that tie have one time and the same literals on other variables, and the other way round
   pub beside_equal : (c d : Column) → beside_cmp v c d ≡ Equal →
       (c.time ≡ d.time) × (without v c.cube ≡ without v d.cube)
   beside_equal c d h =
@@ -80,7 +88,7 @@ module _ (v : ℕ) where
       ordering_then (nat_cmp c.time t) (slice_cmp literal_cmp (without v c.cube) ls)) (sym e) (sym f)
       ∙ tied_itself beside_total c
 
-  -- what stands between two that tie ties with them
+  -- a column that stands between two that tie ties with them
   pub between : (c d e : Column) → is_lt (beside_cmp v d c) ≡ false → is_lt (beside_cmp v e d) ≡ false →
       beside_cmp v c e ≡ Equal →
       beside_cmp v c d ≡ Equal

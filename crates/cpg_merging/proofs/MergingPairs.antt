@@ -28,6 +28,7 @@ pub record IsGood (g : Graph) (literals : List Literal) : Type 0 where
   pub narrow : IsNarrow g.faults literals
   pub met : is_met g.faults literals ≡ true
 
+-- if no literal goes past the whole range, no range of the cube does
 pub high_in-top : (k : ℕ) (ls : List Literal) → All (λ l. l.high ≤ top k l.variable) ls → (v : ℕ) →
     high_in k ls v ≤ top k v
 high_in-top k [] h v = omega arith
@@ -48,9 +49,11 @@ low-le-high k cube met v = low_in-high k cube v (λ l c.
     let o = from_all (is_open k) cube l a.0 c in
     leb-true l.low l.high (and_parts (nat_le l.low l.high) (nat_le l.low (top k l.variable)) o).0)
 
+-- each cube is as wide as itself
 pub wider_itself : (k : ℕ) (a : List Literal) → IsWider k a a
 wider_itself k a = λ v. (omega arith, omega arith)
 
+-- a cube as wide as one that is as wide as a third is as wide as the third
 pub wider_through : (k : ℕ) (a b c : List Literal) → IsWider k a b → IsWider k b c → IsWider k a c
 wider_through k a b c h i = λ v. let x = h v in let y = i v in (omega arith, omega arith)
 
@@ -58,9 +61,11 @@ wider_through k a b c h i = λ v. let x = h v in let y = i v in (omega arith, om
 pub shorn_wider : (k : ℕ) (cube : List Literal) → IsRising cube → IsWider k (shorn k cube) cube
 shorn_wider k cube r = λ v. let a = shorn-low k cube r v in let b = shorn-high k cube r v in (omega arith, omega arith)
 
+-- a cube is as wide as what is left without its whole literals
 pub wider_shorn : (k : ℕ) (cube : List Literal) → IsRising cube → IsWider k cube (shorn k cube)
 wider_shorn k cube r = λ v. let a = shorn-low k cube r v in let b = shorn-high k cube r v in (omega arith, omega arith)
 
+-- without its whole literals a cube still rises, keeps what holds of all its literals, and is narrow
 pub shorn_rising : (k : ℕ) (cube : List Literal) → IsRising cube → IsRising (shorn k cube)
 shorn_rising k cube r = AllPairs-filter (λ (l m : Literal). l.variable < m.variable) (λ l. not (is_whole k l)) cube r
 
@@ -74,7 +79,7 @@ shorn_narrow k cube w =
     (not-true (is_whole k l) r.1, All-contains (λ (m : Literal). m.high ≤ top k m.variable) cube l w r.0))
 
 module _ (g : Graph) (few : process_count g ≤ 128) where
-  -- if all numbers are in range
+  -- a rising cube matches a scenario if all numbers are in its ranges
   pub matches_in_ranges : (cube : List Literal) (s : Scenario) → IsRising cube
       → ((l : Literal) → Contains cube l → (low_in cube l.variable ≤ number_of s l.variable) ×
       (number_of s l.variable ≤ high_in g.faults cube l.variable)) → matches cube s ≡ true
@@ -101,13 +106,14 @@ module _ (g : Graph) (few : process_count g ≤ 128) where
       let x = w l.variable in
       (omega arith, omega arith))
 
-  -- leaving out whole literals changes nothing
+  -- without its whole literals a cube is still one of the graph
   pub cube_shorn : (cube : List Literal) → IsCube g cube → IsCube g (shorn g.faults cube)
   cube_shorn cube is = record {
     rising = shorn_rising g.faults cube is.rising;
     known = shorn_all g.faults (λ l. IsVariable g l.variable) cube is.known;
   }
 
+  -- leaving out the whole literals leaves what a cube matches as it was
   pub matches_shorn : (cube : List Literal) (s : Scenario) → IsScenario g s → IsCube g cube →
       matches (shorn g.faults cube) s ≡ matches cube s
   matches_shorn cube s i is = same_truth (matches (shorn g.faults cube) s) (matches cube s)
@@ -126,6 +132,7 @@ module _ (g : Graph) (few : process_count g ≤ 128) where
 
   -- ---- two that touch
 
+  -- given: two good cubes that touch at a variable
   module _ (v : ℕ) (a b : List Literal) (good_a : IsGood g a) (good_b : IsGood g b)
       (touch : TouchAt g.faults v a b) where
     -- the two as one, before the whole literals are left out
@@ -158,6 +165,7 @@ module _ (g : Graph) (few : process_count g ≤ 128) where
     cube_wide =
         record { rising = rising_wide; known = raised-all v (high_in g.faults b v) (IsVariable g) a good_a.cube.known }
 
+    -- the two as one have the ranges of the first, but the second's high at the variable
     pub both-low : (u : ℕ) → low_in both u ≡ low_in a u
     both-low u = shorn-low g.faults wide rising_wide u ∙ raised-low v (high_in g.faults b v) a u
 
@@ -168,6 +176,7 @@ module _ (g : Graph) (few : process_count g ≤ 128) where
     both-high_here = shorn-high g.faults wide rising_wide v ∙ raised-high_here v (high_in g.faults b v) g.faults a
         (let t = touch.next in let o = open_b v in let h = high_in-top g.faults b within_b v in omega arith)
 
+    -- the two as one are as wide as each
     pub wider_first : IsWider g.faults both a
     wider_first = λ u. let l = both-low u in (
       omega arith,
@@ -180,6 +189,7 @@ module _ (g : Graph) (few : process_count g ≤ 128) where
           (cases_eq u v),
     )
 
+    -- the two as one are as wide as the second
     pub wider_second : IsWider g.faults both b
     wider_second = λ u. let l = both-low u in ⊎_elim
         (λ (e : u ≡ v). let h = both-high_here in let t = touch.next in let o = open_a v in let m = both-low v in
@@ -198,7 +208,7 @@ module _ (g : Graph) (few : process_count g ≤ 128) where
         let q = ranges_of_match b s i y v known in
         let t = touch.next in omega arith
 
-    -- what matches the one matches either
+    -- a scenario that the two as one match is matched by one of the two
     pub either : (s : Scenario) → IsScenario g s → IsVariable g v → matches both s ≡ true →
         (matches a s ≡ true) ⊎ (matches b s ≡ true)
     either s i known x = ⊎_elim
@@ -225,12 +235,14 @@ module _ (g : Graph) (few : process_count g ≤ 128) where
         (cases_eq m.variable v))))
         (cases_lt (high_in g.faults a v) (number_of s v))
 
+    -- the two as one match what either matches
     pub matches_first : (s : Scenario) → IsScenario g s → matches a s ≡ true → matches both s ≡ true
     matches_first s i t = matches_wider both a s i cube_both wider_first t
 
     pub matches_second : (s : Scenario) → IsScenario g s → matches b s ≡ true → matches both s ≡ true
     matches_second s i t = matches_wider both b s i cube_both wider_second t
 
+    -- the two as one are a good cube
     pub good_both : IsGood g both
     good_both = record {
       cube = cube_both;

@@ -33,6 +33,7 @@ use Rattle.cpg_merging.proofs.MergingLists.{AreGood, followed_parts, ranges_besi
 
 -- ---- of two columns that match a scenario the list has two
 
+-- if at most one element passes a test, no two elements both do
 pub apart_pairs : {X : Type 0} (p : X → Bool) (xs : List X) → length (filter p xs) ≤ 1 →
     AllPairs (λ x y. p x ≡ true → p y ≡ true → ⊥) xs
 apart_pairs {X} p [] h = AllPairs-nil (λ x y. p x ≡ true → p y ≡ true → ⊥)
@@ -64,6 +65,7 @@ module _ (g : Graph) (few : process_count g ≤ 128) where
       low_in a v ≤ low_in b v → low_in b v ≤ high_in g.faults a v →
       (s : Scenario) × IsScenario g s × (matches a s ≡ true) × (matches b s ≡ true)
   share v a b good_a good_b others l h =
+      -- the scenario is the one with the least number of each range of b: at v its number lies in a's range too
       let s = lows g b in
       let i = lows-lawful g few b good_b.cube good_b.met in
       let t = lows-match g few b good_b.cube good_b.met in
@@ -92,7 +94,7 @@ module _ (g : Graph) (few : process_count g ≤ 128) where
       pub group : is_lt (beside_cmp v d c) ≡ false
       pub later : beside_cmp v c d ≡ Equal → high_in g.faults c.cube v < low_in d.cube v
 
-    -- sorted columns of which no two match one scenario
+    -- in sorted columns of which no two match one scenario, each earlier one lies before the later ones
     pub before_pairs : (xs : List Column) → AreGood g xs →
         ((s : Scenario) → IsScenario g s → length (times_in xs s) ≤ 1) →
         IsSortedBy (λ c d. is_lt (column_cmp v c d)) xs →
@@ -102,6 +104,7 @@ module _ (g : Graph) (few : process_count g ≤ 128) where
         (All-contains (λ (c : Column). IsGood g c.cube) xs (get_or xs j d) good (Contains-get_or xs j d k))
         (pairs_apart g xs single i j d l k) (sorted_pairs v xs up i j d l k)
       where
+        -- of two columns that match no scenario together, a later one in the order lies behind the other
         pair : (c d : Column) → IsGood g c.cube → IsGood g d.cube →
             ((s : Scenario) → IsScenario g s → matches c.cube s ≡ true → matches d.cube s ≡ true → ⊥) →
             is_lt (column_cmp v d c) ≡ false →
@@ -205,6 +208,8 @@ module _ (g : Graph) (few : process_count g ≤ 128) where
         good_d =
             All-head (λ (x : Column). IsGood g x.cube) d ds (All-tail (λ (x : Column). IsGood g x.cube) c (d ∷ ds) a)
 
+        -- by whether d follows c: the column found begins as the joined one, and then as c, or it is one of those
+        -- from d on
         go : (b : Bool) → is_followed g.faults v c d ≡ b →
             Contains (cond b (walked g.faults v (joined g.faults v c d) ds) (c ∷ walked g.faults v d ds)) r →
             (IsGood g (joined g.faults v c d).cube → Contains (walked g.faults v (joined g.faults v c d) ds) r →
@@ -310,7 +315,7 @@ module _ (g : Graph) (few : process_count g ≤ 128) where
             (AllPairs-rest Before d ds (AllPairs-rest Before c (d ∷ ds) p)))
         go false e ih_joined ih = AllPairs-cons_by Untouched c (walked g.faults v d ds) (untouched c d ds a p e) ih
 
-    -- columns of which none touches another
+    -- columns of which none touches another are settled at the variable
     settled_from : (xs : List Column) → AreGood g xs → AllPairs Untouched xs → IsSettledOn g.faults v xs
     settled_from xs good p = λ c d m n e t.
         let good_c = All-contains (λ (x : Column). IsGood g x.cube) xs c good m in

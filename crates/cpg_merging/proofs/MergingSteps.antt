@@ -36,6 +36,7 @@ abbrev pub AreSingle : Graph → List Column → Type 0
 AreSingle g columns = (s : Scenario) → IsScenario g s → length (times_in columns s) ≤ 1
 
 module _ (g : Graph) (few : process_count g ≤ 128) where
+  -- columns without whole literals are good columns
   pub good_of : (columns : List Column) → IsShorn g columns → AreGood g columns
   good_of columns h = All-from_each {P = λ c. IsGood g c.cube} columns (λ c m.
       let is = All-contains (λ (x : Column). IsCube g x.cube) columns c h.good.cubes m in
@@ -50,6 +51,7 @@ module _ (g : Graph) (few : process_count g ≤ 128) where
         met = met_by g few c.cube is r.0 r.1 r.2;
       })
 
+  -- good columns of which at most one matches a scenario are columns without whole literals
   pub shorn_of : (columns : List Column) → AreGood g columns → AreSingle g columns → IsShorn g columns
   shorn_of columns h single = record {
     good = record {
@@ -79,6 +81,7 @@ module _ (g : Graph) (few : process_count g ≤ 128) where
       (times_shorn cs s i (All-tail (λ (x : Column). IsCube g x.cube) c cs is))
       ∙ sym (times_first c cs s)
 
+  -- the columns without their whole literals are a join of the columns
   pub joins_shorn : (columns : List Column) → AreMergeable g columns → IsJoinOf g columns (all_shorn g.faults columns)
   joins_shorn columns h = record {
     times = λ s i. times_shorn columns s i h.cubes;
@@ -90,6 +93,7 @@ module _ (g : Graph) (few : process_count g ≤ 128) where
     );
   }
 
+  -- they can be merged, and have no whole literals
   pub shorn_columns : (columns : List Column) → AreMergeable g columns → IsShorn g (all_shorn g.faults columns)
   shorn_columns columns h = shorn_of (all_shorn g.faults columns)
       (All-map (λ (x : Column). IsGood g x.cube) shorn_column columns
@@ -118,6 +122,7 @@ module _ (g : Graph) (few : process_count g ≤ 128) where
     length_times zs s = length-map (filter (λ c. matches c.cube s) zs) (λ (c : Column). c.time)
         ∙ length-filter (λ (c : Column). matches c.cube s) zs
 
+    -- in another order, at most one column still matches a scenario, and each is still good
     pub single_permuted : AreSingle g xs → AreSingle g ys
     single_permuted h = λ s i.
         let a = length_times xs s in
@@ -138,6 +143,7 @@ module _ (g : Graph) (few : process_count g ≤ 128) where
       (Contains-map (λ (c : Column). c.time) (filter (λ (c : Column). matches c.cube s) ys) r.0
       (Contains-filter (λ (c : Column). matches c.cube s) ys r.0 q.1 (Contains-permutation xs ys r.0 p q.0)))
 
+  -- columns in another order are a join of them
   pub joins_permuted : (xs ys : List Column) → IsPermutation xs ys → AreSingle g xs → IsJoinOf g xs ys
   joins_permuted xs ys p h = record {
     times = λ s i. one_same (times_in ys s) (times_in xs s) (single_permuted xs ys p h s i) (h s i)
@@ -145,18 +151,21 @@ module _ (g : Graph) (few : process_count g ≤ 128) where
     held = λ e m. (e, Contains-permutation xs ys e p m, refl, wider_itself g.faults e.cube);
   }
 
+  -- if at most one of the columns matches a scenario, at most one of a join of them does
   pub single_joined : (xs ys : List Column) → IsJoinOf g xs ys → AreSingle g xs → AreSingle g ys
   single_joined xs ys j h = λ s i. subst (λ ts. length ts ≤ 1) (sym (j.times s i)) (h s i)
 
   -- ---- a step at one variable
 
-  -- sorted columns, walked over
+  -- walking over the sorted columns is a step at the variable
   pub passed_on : (v : ℕ) → IsVariable g v → (xs ys : List Column) → IsShorn g xs → IsPermutation xs ys →
       IsSortedBy (λ c d. is_lt (column_cmp v c d)) ys →
       IsPassed g (λ u. u ≡ v) xs (walked_over g.faults v ys)
+  -- `go` takes the sorted columns apart: none, or a first one from which the walk goes on
   passed_on v known xs ys h p up =
       go ys p up (good_permuted xs ys p (good_of xs h)) (single_permuted xs ys p h.good.apart)
     where
+      -- the columns in sorted order are good, and at most one matches in each scenario, as they are a permutation
       go : (zs : List Column) → IsPermutation xs zs → IsSortedBy (λ c d. is_lt (column_cmp v c d)) zs → AreGood g zs →
           AreSingle g zs →
           IsPassed g (λ u. u ≡ v) xs (walked_over g.faults v zs)
@@ -165,6 +174,7 @@ module _ (g : Graph) (few : process_count g ≤ 128) where
         good = shorn_of [] good single;
         fewer = inr (q, λ u e c d m n t k. Contains-nil c m);
       }
+      -- the walk gives a join of the columns: with fewer of them, or with the same ones, which are settled on v then
       go (z ∷ zs) q s good single =
           let w = walk g few v known z zs good in
           let j = joins_permuted xs (z ∷ zs) q h.good.apart in
@@ -193,6 +203,7 @@ not_walked k v c (d ∷ ds) h = cond-false (is_followed k v c d) (walked k v (jo
     (or_parts (is_followed k v c d) (is_any_followed_from k v d ds) h).0
     ∙ ap (λ xs. c ∷ xs) (not_walked k v d ds (or_parts (is_followed k v c d) (is_any_followed_from k v d ds) h).1)
 
+-- sorted columns of which none follows the one before stay as they are
 pub not_walked_over : (k v : ℕ) (cs : List Column) → is_any_followed k v cs ≡ false → walked_over k v cs ≡ cs
 not_walked_over k v [] h = refl
 not_walked_over k v (c ∷ cs) h = not_walked k v c cs h
@@ -200,7 +211,7 @@ not_walked_over k v (c ∷ cs) h = not_walked k v c cs h
 -- ---- steps one after another
 
 module _ (g : Graph) where
-  -- of which no two touch
+  -- columns of which no two touch at a variable have been gone over there
   pub passed_settled : (v : ℕ) → (xs : List Column) → IsShorn g xs → IsSettledOn g.faults v xs →
       IsPassed g (λ u. u ≡ v) xs xs
   passed_settled v xs h apart = record {
@@ -214,12 +225,12 @@ module _ (g : Graph) where
   settled_permuted v xs ys p h = λ c d m n. h c d (Contains-permutation ys xs c (IsPermutation-sym xs ys p) m)
       (Contains-permutation ys xs d (IsPermutation-sym xs ys p) n)
 
-  -- no variables
+  -- going over no variables leaves the columns as they are
   pub passed_none : (P : ℕ → Type 0) → ((v : ℕ) → P v → ⊥) → (xs : List Column) → IsShorn g xs → IsPassed g P xs xs
   passed_none P none xs h =
       record { joins = joins_itself g xs; good = h; fewer = inr (IsPermutation-refl xs, λ v o. absurd (none v o)) }
 
-  -- fewer variables, or others by the same numbers
+  -- what goes over some variables goes over fewer
   pub passed_wider : (P Q : ℕ → Type 0) → ((v : ℕ) → Q v → P v) → (xs ys : List Column) → IsPassed g P xs ys →
       IsPassed g Q xs ys
   passed_wider P Q h xs ys k = record {
@@ -231,6 +242,7 @@ module _ (g : Graph) where
         k.fewer;
   }
 
+  -- going over some variables and then over others is going over all of them
   pub passed_through : (P Q R : ℕ → Type 0) → ((v : ℕ) → R v → P v ⊎ Q v) → (xs ys zs : List Column) →
       IsPassed g P xs ys → IsPassed g Q ys zs →
       IsPassed g R xs zs
@@ -257,7 +269,7 @@ module _ (g : Graph) where
         h.fewer;
   }
 
-  -- columns that are as many as before are settled
+  -- if as many columns are left as before, they are settled at the variables gone over
   pub settled_same : (P : ℕ → Type 0) (xs ys : List Column) → IsPassed g P xs ys → length ys ≡ length xs → (v : ℕ) →
       P v →
       IsSettledOn g.faults v ys
@@ -266,7 +278,7 @@ module _ (g : Graph) where
       (λ (l : IsPermutation xs ys × ((v : ℕ) → P v → IsSettledOn g.faults v ys)). l.1)
       k.fewer
 
-  -- columns that are as many as before are the same in some order
+  -- if as many columns are left as before, they are the same in some order
   pub permuted_same : (P : ℕ → Type 0) (xs ys : List Column) → IsPassed g P xs ys → length ys ≡ length xs →
       IsPermutation xs ys
   permuted_same P xs ys k e = ⊎_elim
@@ -274,7 +286,7 @@ module _ (g : Graph) where
       (λ (l : IsPermutation xs ys × ((v : ℕ) → P v → IsSettledOn g.faults v ys)). l.0)
       k.fewer
 
-  -- columns that are not as many as before are fewer
+  -- if not as many columns are left as before, there are fewer
   pub fewer_else : (P : ℕ → Type 0) (xs ys : List Column) → IsPassed g P xs ys → length ys ≢ length xs →
       length ys < length xs
   fewer_else P xs ys k n = ⊎_elim
@@ -285,6 +297,7 @@ module _ (g : Graph) where
 
 -- ---- columns that are known to be sorted
 
+-- if columns are known to be sorted after two steps, they are those of before
 pub sorted_through : (before middle after : Listing) → IsSortedAs before middle → IsSortedAs middle after →
     IsSortedAs before after
 sorted_through before middle after h k t =

@@ -27,7 +27,7 @@ use Rattle.cpg_merging.specs.Totals.{DoNotFall, place_in}
 use Rattle.cpg_merging.proofs.MergingPairs.{IsGood, low-le-high, high_in-top}
 use Rattle.cpg_merging.proofs.MergingSettled.{same_without}
 
--- the literal that a cube's range of a variable comes of
+-- the literal with a cube's range of a variable
 abbrev pub of_range : ℕ → List Literal → ℕ → Literal
 of_range k cube v = record { variable = v; low = low_in cube v; high = high_in k cube v }
 
@@ -73,6 +73,7 @@ without_none v [] h = refl
 without_none v (l ∷ ls) h = without_other v l ls (h l (Contains-first l ls))
     ∙ ap (λ ms. l ∷ ms) (without_none v ls (λ m c. h m (Contains-rest l ls m c)))
 
+-- the sum over a rising cube is that over the literals on other variables and the one literal on this one
 pub sum_parts : (f : Literal → ℕ) (v : ℕ) (cube : List Literal) → IsRising cube → (l : Literal) → Contains cube l →
     l.variable ≡ v →
     sum_by f cube ≡ sum_by f (without v cube) + f l
@@ -97,15 +98,19 @@ sum_parts f v (m ∷ ms) rising l c e = elim (Contains-cases m ms l c) [
 
 -- ---- so sums of columns that touch differ in one literal
 
+-- if two sums with one number each are equal, the rests are equal with any other number too
 pub one_rest : (x r h i : ℕ) → (x + h) % 2 ^ 64 ≡ (r + h) % 2 ^ 64 → (x + i) % 2 ^ 64 ≡ (r + i) % 2 ^ 64
 one_rest x r h i e = omega (arith, e)
 
 module _ (g : Graph) (few : process_count g ≤ 128) (v : ℕ) (known : IsVariable g v) where
+  -- if no literal of a column on a variable has a partner among the sums, no column of these sums touches it there
   pub touch_partner : (c d : Column) → IsGood g c.cube → IsGood g d.cube → c.time ≡ d.time →
       TouchAt g.faults v c.cube d.cube → (totals : List ℕ) →
       Contains totals (total_of c)
       → ((l : Literal) → Contains d.cube l → l.variable ≡ v → HasNoPartner totals (total_of d) l) → ⊥
   touch_partner c d good_c good_d same touch totals there none =
+      -- both columns have a literal on v and the same rest: the total of c is the sum of that rest with d's literal
+      -- changed to the range of c, which is a partner of d's literal
       let k = g.faults in
       let next : high_in k c.cube v + 1 ≡ low_in d.cube v = touch.next in
       let low_c = low-le-high k c.cube good_c.met v in
@@ -132,6 +137,7 @@ module _ (g : Graph) (few : process_count g ≤ 128) (v : ℕ) (known : IsVariab
       (subst (Contains totals)
       (ap (λ n. n % 2 ^ 64) sum_c ∙ ap (λ (l : Literal). (rest + hash_of l) % 2 ^ 64) end) there)
     where
+      -- two sums in which one part is taken apart
       add_parts : (s t r w h : ℕ) → s ≡ r → t ≡ w + h → s + t ≡ r + w + h
       add_parts s t r w h e f = omega (arith, e, f)
 
@@ -143,15 +149,14 @@ pub marked_sorted : (columns : List Column) (marks : List Bool) (sorted : List �
 marked_sorted columns marks sorted p h = λ d l m n off low rest less is there.
     h d l m n off low rest less is (Contains-permutation (map total_of columns) sorted _ p there)
 
--- columns have the marks that they have in another order
+-- marks that are right for columns are right for them in another order
 pub marked_permuted : (g : Graph) (xs ys : List Column) (marks : List Bool) → IsPermutation xs ys →
     AreMarked g marks xs →
     AreMarked g marks ys
 marked_permuted g xs ys marks p h = λ v known off c d m n. let back = IsPermutation-sym xs ys p in
     h v known off c d (Contains-permutation ys xs c back m) (Contains-permutation ys xs d back n)
 
--- what is taken from a sum leaves one rest, up to whole rounds
--- what a test that failed tells
+-- what is taken from a sum leaves one rest, up to whole rounds what holds if a test is false
 pub from_off : {P : Type 0} (b : Bool) → b ≡ false → OnFalse b P → P
 from_off true e h = cc
 from_off false e h = h
@@ -170,7 +175,7 @@ pub all_of : {X : Type 0} (P : X → Type 0) (xs : List X) (i : ℕ) → length 
     ((m : X) → Contains (take i xs) m → P m) → (m : X) → Contains xs m → P m
 all_of P xs i long before m c = before m (subst (λ ys. Contains ys m) (sym (take_all i xs long)) c)
 
--- a mark more in a sieve
+-- setting the place of one number more makes the sieve one of these numbers
 pub sieve_more : (sieve : List Bool) (count place : ℕ) (numbers : List ℕ) (i d : ℕ) → i < length numbers →
     length sieve ≡ count → place ≡ place_in count (get_or numbers i d) → place < count
     → ((n : ℕ) → Contains (take i numbers) n → IsMarked sieve (place_in count n)) → (n : ℕ) →
@@ -188,7 +193,7 @@ sieve_more sieve count place numbers i d within long is inside before n c =
       | inr n ↦ get_or-set_other sieve place q true false n ∙ on
     ]
 
--- what a search doesn't find isn't there
+-- a number that a search does not find is not in the list
 pub not_there : (xs : List ℕ) (x : ℕ) (r : Result ℕ ℕ) → IsBinarySearchResult (λ y. nat_cmp y x) xs r → DoNotFall xs →
     OnFalse (is_ok r) (Contains xs x → ⊥)
 not_there xs x (Ok i) h up = tt
@@ -202,7 +207,7 @@ not_there xs x (Err i) h up = λ there.
 
 -- ---- marks of variables
 
--- if none is found, none is marked
+-- if no mark is found, no number is marked
 pub none_on : (p : Bool → Bool) → p true ≡ true → (marks : List Bool) → list_any p marks ≡ false → (v : ℕ) →
     ¬ IsMarked marks v
 none_on p is marks none v on = elim (cases_lt v (length marks)) [
@@ -211,7 +216,7 @@ none_on p is marks none v on = elim (cases_lt v (length marks)) [
   | inr l ↦ true≢false (sym on ∙ get_or_past marks v false l)
 ]
 
--- a mark set if there was none leaves the others
+-- setting a mark where there was none keeps the others
 pub mark_kept : (marks : List Bool) (place : ℕ) (b : Bool) → get_or marks place false ≡ false → (v : ℕ) →
     IsMarked marks v →
     IsMarked (slice_set marks place b) v
@@ -220,7 +225,7 @@ mark_kept marks place b off v on = elim (cases_eq v place) [
   | inr n ↦ get_or-set_other marks place v b false n ∙ on
 ]
 
--- what isn't marked then was set so
+-- a number that is not marked after its mark was set was set to false
 pub mark_off : (marks : List Bool) (place : ℕ) (b : Bool) → place < length marks →
     ¬ IsMarked (slice_set marks place b) place → b ≡ false
 mark_off marks place true within off = absurd (off (get_or-set_same marks place true false within))
@@ -228,6 +233,8 @@ mark_off marks place false within off = refl
 
 -- marks by the columns before a place and by that there are marks by those before the next
 module _ {X : Type 0} (f : X → Column) (sums : List ℕ) (columns : List X) where
+  -- if the marks are right for the columns before a place and for the one there, they are right for those before the
+  -- next
   pub marked_next : (totals : List ℕ) (old new : List Bool) (place : ℕ) (x : X) → place < length columns →
       x ≡ get_or columns place x →
       totals ≡ map total_of (map f columns) →
@@ -255,6 +262,7 @@ module _ {X : Type 0} (f : X → Column) (sums : List ℕ) (columns : List X) wh
       now = subst (λ (t : ℕ). (n : Literal) → Contains (f x).cube n → ¬ IsMarked new n.variable → HasNoPartner sums t n)
           total here
 
+  -- at the end of the columns the marks are right for all of them
   pub marked_all : (marks : List Bool) (place : ℕ) → length columns ≤ place →
       AreMarkedBy sums marks (take place (map f columns)) →
       AreMarkedBy sums marks (map f columns)

@@ -1,5 +1,5 @@
--- Kinds of columns: columns that touch have one time and literals on the same variables, and ask differently much above
--- 0 in all.
+-- Kinds of columns: columns that touch have one time and literals on the same variables, and ask different amounts
+-- above 0 in all.
 use Rattle.std.specs.Prelude.{ℕ, ◌%◌, ◌≡◌, ◌≢◌, Bool, false, List, length, get_or, sum_by, Contains}
 use Rattle.cpg_cube.specs.declared.literal.Literal.{Literal}
 use Rattle.cpg_cube.specs.declared.column.Column.{Column}
@@ -22,16 +22,16 @@ kind_by time literals = record {
 abbrev pub kind_of : Column → ColumnKind
 kind_of c = kind_by c.time c.cube
 
--- a column of this kind asks what its place tells, if no difference is noted
+-- a column of this kind asks the amount that is stored at its place, if no difference is noted there
 abbrev pub IsTold : List ℕ → List Bool → ColumnKind → Type 0
 IsTold told differing kind = ¬ IsMarked differing (place_in (length told) kind.number) →
     get_or told (place_in (length told) kind.number) 0 ≡ kind.asked
 
--- columns of these kinds ask what their places tell, if no difference is noted
+-- columns of these kinds ask the amounts that are stored at their places, if no difference is noted there
 abbrev pub AreTold : List ℕ → List Bool → List ColumnKind → Type 0
 AreTold told differing kinds = (kind : ColumnKind) → Contains kinds kind → IsTold told differing kind
 
--- whether a column is one of a place where a difference is noted
+-- whether a column belongs to a place where a difference is noted
 abbrev pub is_candidate : List Bool → Column → Bool
 is_candidate differing c = get_or differing (place_in (length differing) (kind_of c).number) false
 

@@ -28,6 +28,8 @@ raised v high cube =
     map (λ l. if l.variable == v then record { variable = l.variable; low = l.low; high = high } else l) cube
 
 -- literals by variable, low and high
+-- `low` and `high` are the ends of the range that a literal allows its variable; a variable without a literal has the
+-- whole range
 abbrev pub literal_cmp : Literal → Literal → Ordering
 literal_cmp l m =
     ordering_then (nat_cmp l.variable m.variable) (ordering_then (nat_cmp l.low m.low) (nat_cmp l.high m.high))
@@ -42,13 +44,14 @@ column_cmp v c d = ordering_then (beside_cmp v c d) (nat_cmp (low_in c.cube v) (
 
 -- whether columns differ in the variable alone, and the second's range begins where the first's ends
 abbrev pub is_followed : ℕ → ℕ → Column → Column → Bool
+-- `k`: the faults; `v`: the variable; c and d differ at v alone, and d's range there begins where c's ends
 is_followed k v c d = is_eq (beside_cmp v c d) && (high_in k c.cube v + 1 == low_in d.cube v)
 
 -- the two made one
 abbrev pub joined : ℕ → ℕ → Column → Column → Column
 joined k v c d = record { time = c.time; cube = shorn k (raised v (high_in k d.cube v) c.cube) }
 
--- sorted columns where neighbours that touch are made one
+-- sorted columns where neighbours that touch are made one; c is carried along, joined with those that follow it
 abbrev pub walked : ℕ → ℕ → Column → List Column → List Column
 walked k v c [] = c ∷ []
 walked k v c (d ∷ ds) = if is_followed k v c d then walked k v (joined k v c d) ds else c ∷ walked k v d ds
@@ -63,6 +66,7 @@ abbrev pub is_any_followed_from : ℕ → ℕ → Column → List Column → Boo
 is_any_followed_from k v c [] = false
 is_any_followed_from k v c (d ∷ ds) = is_followed k v c d || is_any_followed_from k v d ds
 
+-- whether some column of a list follows the one before it
 abbrev pub is_any_followed : ℕ → ℕ → List Column → Bool
 is_any_followed k v [] = false
 is_any_followed k v (c ∷ cs) = is_any_followed_from k v c cs
@@ -73,18 +77,23 @@ all_shorn k columns = map (λ c. record { time = c.time; cube = shorn k c.cube }
 
 -- columns of which none has a literal of the whole range
 pub record IsShorn (g : Graph) (columns : List Column) : Type 0 where
+  -- they can be merged: each matches some scenario, and no scenario matches two
   pub good : AreMergeable g columns
   pub not_whole : HaveNoWhole g.faults columns
 
 -- the later columns have the times of the earlier, and each earlier lies within one of them
 pub record IsJoinOf (g : Graph) (before after : List Column) : Type 0 where
+  -- in each scenario they have the same times
   pub times : (s : Scenario) → IsScenario g s → times_in after s ≡ times_in before s
+  -- each earlier column lies within a later one of its time
   pub held : (e : Column) → Contains before e →
       (c : Column) × Contains after c × (c.time ≡ e.time) × IsWider g.faults c.cube e.cube
 
 -- equal but for a variable, where the second's range begins where the first's ends
 pub record TouchAt (k : ℕ) (v : ℕ) (a b : List Literal) : Type 0 where
+  -- all other variables have equal ranges
   pub others : (u : ℕ) → u ≢ v → (low_in a u ≡ low_in b u) × (high_in k a u ≡ high_in k b u)
+  -- the second's range begins right behind the first's end
   pub next : high_in k a v + 1 ≡ low_in b v
 
 -- no two columns of one time touch at the variable
@@ -96,6 +105,7 @@ IsSettledOn k v columns =
 pub record IsPassed (g : Graph) (over : ℕ → Type 0) (before after : List Column) : Type 0 where
   pub joins : IsJoinOf g before after
   pub good : IsShorn g after
+  -- either columns were joined, or none touch at the variables gone over
   pub fewer : (length after < length before) ⊎
       (IsPermutation before after × ((v : ℕ) → over v → IsSettledOn g.faults v after))
 

@@ -1,5 +1,5 @@
--- Numbers of columns, each a sum over its literals, by which it is found whether any two of a row touch: if two do, the
--- later one's sum with one literal changed is the sum of the other.
+-- Numbers of columns, each a sum over the column's literals. They show whether any two columns of a row touch: if two
+-- do, the later one's sum with one literal changed is the sum of the other.
 use Rattle.std.specs.Prelude.{ℕ, ◌+◌, ◌-◌, ◌*◌, ◌/◌, ◌^◌, ◌%◌, ◌<◌, ◌≤◌, ◌≡◌, Bool, true, false, List, length, get_or}
 use Rattle.std.specs.Prelude.{sum_by, Contains}
 use Rattle.cpg_base.specs.Graph.{Graph, IsVariable}
@@ -11,7 +11,7 @@ use Rattle.cpg_merging.specs.Merging.{IsSettledOn}
 abbrev pub mixed : ℕ → ℕ → ℕ
 mixed sum number = (sum + number) % 2 ^ 64 * 6364136223846793005 % 2 ^ 64
 
--- a number for a literal, another for each
+-- a number for a literal, different for each literal
 abbrev pub number_of : Literal → ℕ
 number_of l = l.variable * 65536 + l.low * 256 + l.high
 
@@ -58,7 +58,7 @@ AreMarked g marks columns = (v : ℕ) → IsVariable g v → ¬ IsMarked marks v
 abbrev pub DoNotFall : List ℕ → Type 0
 DoNotFall ns = (i j : ℕ) → i ≤ j → j < length ns → get_or ns i 0 ≤ get_or ns j 0
 
--- where a number has its mark in a sieve of so many
+-- the place of a number's mark in a sieve with `count` places
 unfoldable pub place_in : ℕ → ℕ → ℕ
 place_in count n = n / 4294967296 * count / 4294967296
 

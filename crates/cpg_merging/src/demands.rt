@@ -1,4 +1,4 @@
-//! How much columns ask above 0 in all, by which it is mostly found at once that no two of them touch.
+//! How much columns ask above 0 in all. This usually shows at once that no two of them touch.
 ghost use Rattle.std.specs.Prelude.{◌≡◌, ◌/◌, ◌%◌, IfOk, length, map, sum_by};
 ghost use Rattle.std.specs.Bool.{OnFalse};
 ghost use Rattle.cpg_merging.specs.Demands.{AgreeByTime, demand_of, low_of};
@@ -8,7 +8,7 @@ use cpg_base::OutOfMemory;
 use cpg_cube::{Column, Literal};
 use std::alloc::Global;
 
-/// What parts a demand's time from how much is asked.
+/// The number that separates a demand's time from how much is asked.
 const ASKED: u64 = 256;
 
 /// The sum of the lows, in a byte.
@@ -49,7 +49,7 @@ fn do_differ(first: u64, second: u64) -> bool
     first != second && first / ASKED == second / ASKED
 }
 
-/// Whether any two of one time differ.
+/// Whether any two demands of one time differ.
 fn do_any_differ(sorted: &[u64]) -> bool
     requires { DoNotFall sorted.now }
     ensures { OnFalse result (AgreeByTime sorted.now) }
@@ -67,7 +67,7 @@ pub(crate) fn have_many_demands(alloc: Global, columns: &[Column]) -> Result<boo
     ensures { IfOk result (λ r. OnFalse r (AgreeByTime (map demand_of columns.now))) }
 {
     let mut demands = demands(alloc, columns)?;
-    // most rows have few, so that this takes little
+    // most rows have few columns, so this costs little
     demands.sort_unstable();
     Ok(do_any_differ(demands.as_slice()))
 }

@@ -20,6 +20,7 @@ fn low_of(literals: &[Literal], variable: u8) -> u8
             return literal.low;
         }
     }
+    // no literal: the whole range, from 0 on
     0
 }
 
@@ -32,6 +33,7 @@ fn high_of(faults: u8, literals: &[Literal], variable: u8) -> u8
             return literal.high;
         }
     }
+    // no literal: the whole range, up to the top
     top(faults, variable)
 }
 
@@ -45,6 +47,7 @@ fn compare_others(variable: u8, a: &[Literal], b: &[Literal]) -> Ordering
             return compare_others(variable, rest, others);
         }
     }
+    // a literal on the variable itself is passed over, on either side
     match (a.split_first(), b.split_first()) {
         (Some((first, rest)), _) if first.variable == variable => compare_others(variable, rest, b),
         (_, Some((first, rest))) if first.variable == variable => compare_others(variable, a, rest),
@@ -173,7 +176,7 @@ fn shorn_copies(alloc: Global, faults: u8, columns: &[Column]) -> Result<Vec<Col
     Ok(shorn)
 }
 
-/// Columns without the literals of the whole range. They are as they were if none has one.
+/// Columns without the literals of the whole range. If no column has such a literal, they stay as they are.
 pub(crate) fn shorn_columns(
     alloc: Global,
     faults: u8,
@@ -181,6 +184,7 @@ pub(crate) fn shorn_columns(
 ) -> Result<Vec<Column>, OutOfMemory>
     ensures { IfOk result (λ r. r.items ≡ all_shorn faults columns.items) }
 {
+    // usual: nothing to take out
     if !has_any_whole(faults, columns.as_slice()) {
         return Ok(columns);
     }
@@ -216,10 +220,12 @@ fn join_neighbours(
     let mut joined = Vec::new(alloc);
     joined.reserve(columns.len())?;
     let mut rest = columns.into_iter();
+    // no columns at all
     let Some(first) = rest.next() else {
         return Ok(joined);
     };
     let mut current = first;
+    // `current` is the last column, as far as it is joined
     for next in rest {
         if is_followed(faults, variable, &current, &next) {
             current = join(alloc, faults, variable, &current, &next)?;
@@ -240,6 +246,7 @@ pub(crate) fn joined_columns(
 ) -> Result<Vec<Column>, OutOfMemory>
     ensures { IfOk result (λ r. r.items ≡ walked_over faults variable columns.items) }
 {
+    // usual: nothing to join
     if !is_any_followed(faults, variable, columns.as_slice()) {
         return Ok(columns);
     }

@@ -1,5 +1,5 @@
-//! Kinds of columns. Those that touch are of one kind, and ask differently much above 0 in all: so mostly few columns are left to
-//! be looked at.
+//! Kinds of columns. Columns that touch are of one kind and ask different amounts above 0 in all, so usually few
+//! columns are left to look at.
 ghost use Rattle.std.specs.Prelude.{ℕ, ◌≡◌, ◌%◌, ◌^◌, ◌<◌, IfOk, filter, get_or, length, map, sum_by};
 ghost use Rattle.cpg_merging.specs.Demands.{low_of};
 ghost use Rattle.cpg_merging.specs.Kinds.{AreTold, HoldCandidates, IsTold, is_candidate, kind_by, kind_of, variable_of};
@@ -10,10 +10,10 @@ use cpg_base::OutOfMemory;
 use cpg_cube::{Column, Literal};
 use std::alloc::Global;
 
-/// How many places of a table there are for each column.
+/// How many places a table has for each column.
 const SPREAD: usize = 8;
 
-/// What columns that touch have in common, and how much a column asks above 0 in all, in a byte.
+/// What columns that touch have in common, and how much a column asks above 0 in all, as a byte.
 #[derive(Clone, Copy)]
 struct ColumnKind {
     /// A number for the time, for how many literals there are and for the sum of their variables.
@@ -63,7 +63,7 @@ fn last_asked(alloc: Global, count: usize, kinds: &[ColumnKind]) -> Result<Vec<u
     Ok(told)
 }
 
-/// Notes it if a column asks otherwise than its place tells.
+/// Notes a difference if a column asks for something else than the last column of its place did.
 fn note(told: &[u8], kind: ColumnKind, differing: &mut [bool])
     requires some { 0 < length told.now }
     requires long { length differing.old ≡ length told.now }
@@ -72,13 +72,14 @@ fn note(told: &[u8], kind: ColumnKind, differing: &mut [bool])
     ensures noted { IsTold told.now differing.new kind }
 {
     let place = place_in(told.len(), kind.number);
+    // it asks for the same as the last one, so no difference is noted
     if told[place] == kind.asked {
         return;
     }
     differing[place] = true;
 }
 
-/// The places where some column asks otherwise than its place tells.
+/// The places where some column asks for something else than another column of the place.
 fn differing(alloc: Global, told: &[u8], kinds: &[ColumnKind]) -> Result<Vec<bool>, OutOfMemory>
     requires { 0 < length told.now }
     ensures long { IfOk result (λ differing. length differing.items ≡ length told.now) }
@@ -111,7 +112,7 @@ fn chosen<'a>(
     Ok(chosen)
 }
 
-/// Columns among which are all that touch another.
+/// Columns that include all those that touch another column.
 pub(crate) fn candidates<'a>(
     alloc: Global,
     columns: &'a [Column],

@@ -11,17 +11,18 @@ use cpg_base::{OutOfMemory, Problem};
 use cpg_cube::{BLOCK, Column, Listing, Literal, VARIABLES, begin_at_zero};
 use std::alloc::Global;
 
-/// Marks the variable of a literal if a column with this sum may follow another at it.
+/// Marks the variable of a literal if a column with this sum may follow another column there.
 fn mark_at(sums: Sums<'_>, total: u64, literal: Literal, marks: &mut [bool; VARIABLES])
     requires { AreSums sums.sorted.now sums.sieve.now }
     ensures kept { (v : ℕ) → IsMarked marks.old v → IsMarked marks.new v }
     ensures marked { ¬ IsMarked marks.new literal.variable → HasNoPartner sums.entry.sorted.now total literal }
 {
-    // as most literals begin at 0, which nothing comes before
+    // most literals begin at 0, and nothing comes before 0
     if literal.low == 0 {
         return;
     }
     let place = literal.variable as usize;
+    // marked already, whatever this literal shows
     if marks[place] {
         return;
     }
@@ -50,6 +51,7 @@ fn mark_block(
     ensures kept { (v : ℕ) → IsMarked marks.old v → IsMarked marks.new v }
     ensures marked { (l : Literal) → Contains literals.now l → ¬ IsMarked marks.new l.variable → HasNoPartner sums.entry.sorted.now total l }
 {
+    // nothing comes before 0, so none of the block can be marked
     if begin_at_zero(literals) {
         return;
     }
@@ -67,6 +69,7 @@ fn mark(sums: Sums<'_>, total: u64, literals: &[Literal], marks: &mut [bool; VAR
         mark_block(sums, total, block, marks);
         left = rest;
     }
+    // fewer than a block are left
     mark_each(sums, total, left, marks);
 }
 
@@ -110,12 +113,13 @@ fn marks_of(
 {
     // called for its contract: the graph is within its limits
     let _processes = problem.processes();
-    // mostly this tells already that no two columns touch
+    // this usually shows already that no two columns touch
     let many = have_many_demands(alloc, columns)?;
     if !many {
         return Ok([false; VARIABLES]);
     }
     let candidates = candidates(alloc, columns)?;
+    // no two columns of one kind ask differently
     if candidates.is_empty() {
         return Ok([false; VARIABLES]);
     }

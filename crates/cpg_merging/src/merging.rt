@@ -26,13 +26,13 @@ fn joined_on(
     ensures { IfOk result (λ r. IsPassed problem.now (λ v. v ≡ variable) columns.items r.items) }
 {
     let k = problem.faults();
-    // most columns stand in runs that are sorted already, of which the stable sort makes use
+    // most columns stand in runs that are sorted already, which the stable sort makes use of
     let mut columns = columns;
     columns.sort_by(|a, b| compare(variable, a, b))?;
     joined_columns(alloc, k, variable, columns)
 }
 
-/// Columns that aren't known to stand by their least scenarios.
+/// Marks columns as not known to stand by their least scenarios.
 fn unsorted(columns: Vec<Column>) -> Listing
     ensures { result ≡ record { columns = columns; is_sorted = false } }
 {
@@ -58,22 +58,25 @@ fn joined_at(
 {
     // called for its contract: the graph is within its limits
     let _processes = problem.processes();
+    // nothing touches at this variable
     if !marked.marks[variable as usize] {
         return Ok(marked);
     }
     let Marked { listing, marks } = marked;
     let before = listing.columns.len();
     let columns = joined_on(alloc, problem, variable, listing.columns)?;
+    // none was joined, so the marks stay right, but the columns have another order now
     if columns.len() == before {
         return Ok(Marked {
             listing: unsorted(columns),
             marks,
         });
     }
+    // columns were joined, so the marks are found anew
     Marked::of(alloc, problem, unsorted(columns))
 }
 
-/// Joins columns that touch at one of the variables from `first` up to `end`, which it leaves out.
+/// Joins columns that touch at one of the variables from `first` up to, but not including, `end`.
 fn joined_over(
     alloc: Global,
     problem: &Problem,
@@ -103,10 +106,11 @@ fn joined_once(alloc: Global, problem: &Problem, marked: Marked) -> Result<Marke
     ensures marked { IfOk result (λ r. AreMarked problem.now r.marks r.listing.columns.items) }
     ensures sorted { IfOk result (λ r. IsSortedAs marked.listing r.listing) }
 {
-    // mostly none is marked
+    // usually no variable is marked
     if !marked.marks.contains(&true) {
         return Ok(marked);
     }
+    // first the fault counts of the processes, then the values of the conditions
     let processes = problem.processes().len() as u8;
     let marked = joined_over(alloc, problem, 0, processes, marked)?;
     let end = FIRST_VALUE + problem.conditions() as u8;
@@ -152,8 +156,8 @@ pub fn merged(
     listing.sorted(alloc, problem, order)
 }
 
-/// What `merged` answers, of entries of which no literal has the whole range of its variable. If they are known to stand by
-/// the least scenario that they match, and no two may touch at any variable, they aren't sorted.
+/// What `merged` returns for entries of which no literal has the whole range of its variable. If they are known to
+/// stand by the least scenario that they match, and no two may touch at any variable, they aren't sorted.
 pub fn merged_tidy(
     alloc: Global,
     problem: &Problem,

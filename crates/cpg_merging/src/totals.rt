@@ -1,4 +1,4 @@
-//! Sums over literals by which it is found whether any two columns touch.
+//! Sums over literals, which show whether any two columns touch.
 ghost use Rattle.std.specs.Prelude.{◌≡◌, ◌+◌, ◌%◌, ◌^◌, ◌<◌, Contains, IfOk, length, map};
 ghost use Rattle.std.specs.Bool.{OnFalse};
 ghost use Rattle.cpg_merging.specs.Totals.{AreSums, HasNoPartner, IsSieve, hash_of, mixed, number_of, place_in, total_by, total_of};
@@ -10,10 +10,10 @@ use std::alloc::Global;
 /// The multiplier of Knuth's linear congruential generator of 64 bits.
 const MULTIPLIER: u64 = 6_364_136_223_846_793_005;
 
-/// How many places of a sieve there are for each number.
+/// How many places a sieve has for each number.
 const SPREAD: usize = 16;
 
-/// What divides a number of 64 bits into its halves.
+/// The divisor that splits a number of 64 bits into its halves.
 const HALF: u64 = 4_294_967_296;
 
 /// A sum with one number more, spread.
@@ -23,7 +23,7 @@ pub(crate) fn mixed(sum: u64, number: u64) -> u64
     sum.wrapping_add(number).wrapping_mul(MULTIPLIER)
 }
 
-/// A number for a literal, another for each.
+/// A number for a literal, different for each literal.
 fn number_of(literal: Literal) -> u64
     ensures { result ≡ number_of literal }
 {
@@ -64,7 +64,7 @@ pub(crate) fn totals(alloc: Global, columns: &[&Column]) -> Result<Vec<u64>, Out
     Ok(totals)
 }
 
-/// Where a number has its mark in a sieve of so many.
+/// The place of a number's mark in a sieve with `count` places.
 #[tactic(auto, unfolding(crate::specs::Totals::place_in))]
 pub(crate) fn place_in(count: usize, number: u64) -> usize
     requires { 0 < count }
@@ -87,7 +87,7 @@ fn put_each(sieve: &mut [bool], numbers: &[u64])
     }
 }
 
-/// A mark for each of some numbers, with which most others share none.
+/// A sieve that marks each of some numbers. Most other numbers share no mark with them.
 pub(crate) fn sieve_of(alloc: Global, numbers: &[u64]) -> Result<Vec<bool>, OutOfMemory>
     ensures some { IfOk result (λ sieve. 0 < length sieve.items) }
     ensures sieve { IfOk result (λ sieve. IsSieve sieve.items numbers.now) }
@@ -117,7 +117,7 @@ fn is_there(sums: Sums<'_>, number: u64) -> bool
     requires { AreSums sums.sorted.now sums.sieve.now }
     ensures { OnFalse result (Contains sums.entry.sorted.now number → ⊥) }
 {
-    // mostly it isn't, which the sieve sees at once
+    // usually it is not, and the sieve shows that at once
     if !sums.sieve[place_in(sums.sieve.len(), number)] {
         return false;
     }
@@ -129,10 +129,12 @@ pub(crate) fn has_partner(sums: Sums<'_>, total: u64, literal: Literal) -> bool
     requires { AreSums sums.sorted.now sums.sieve.now }
     ensures { OnFalse result (HasNoPartner sums.entry.sorted.now total literal) }
 {
+    // nothing comes before 0
     if literal.low == 0 {
         return false;
     }
     let rest = rest_of(total, hash_of(literal));
+    // over each range that ends just below the literal's
     for low in 0..literal.low {
         let ended = Literal {
             variable: literal.variable,

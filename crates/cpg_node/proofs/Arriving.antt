@@ -23,6 +23,7 @@ has_row (row ∷ rows) x i l = go (row.item == x) (has_row rows x i) l
     go false later l = later l
 
 module _ (table : OwnTable) (arrival : ℕ) (f : Frame) where
+  -- a frame arrives at a time if and only if the column that it names has that time
   pub arrives_at : (c : Column) → slice_get (columns_in table.hears f.item) f.column ≡ Some c →
       (c.time == arrival) ≡ arrives table arrival f
   arrives_at c is =
@@ -36,6 +37,7 @@ module _ (table : OwnTable) (arrival : ℕ) (f : Frame) where
       ∙ ap (λ (d : Column). d.time == arrival)
       (get_or_from_slice_get (columns_in table.hears f.item) f.column c no_column is))
 
+  -- a frame that names no column does not arrive
   pub arrives_nowhere : slice_get (columns_in table.hears f.item) f.column ≡ None → false ≡ arrives table arrival f
   arrives_nowhere is = elim (cases_lt f.column (length (columns_in table.hears f.item))) [
     | inl l ↦ absurd (none-some (get_or (columns_in table.hears f.item) f.column no_column)

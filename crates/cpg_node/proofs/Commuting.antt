@@ -22,6 +22,7 @@ kept_run f o None ne = refl
 kept_run f o (Some run) ne = cond-false (o.process == f.process) (Some (record run { report = Some f })) (Some run)
     (ne_eqb o.process f.process ne)
 
+-- a report does not change the execution of another process
 pub other_running : (f : Ended) (p : ℕ) → f.process ≢ p → (os : List Own) (runs : List (Option Running)) →
     running_in os (zip_with (with_report f) os runs) p ≡ running_in os runs p
 other_running f p ne [] runs = refl
@@ -39,6 +40,7 @@ next_same d f = next_reported f d.table d.heard d.running d.last
 
 -- a report that may come may still come after another one, and could have come before it
 
+-- an execution that may be reported may still be reported after the report of another process
 pub may_then : (d : Dispatcher) (f : Ended) (time : ℕ) (e : Ended) → f.process ≢ e.process → MayFinish d time e →
     MayFinish (finished d f) time e
 may_then d f time e ne m = record {
@@ -53,6 +55,7 @@ may_then d f time e ne m = record {
   before = subst (λ o. IfSome o (λ n. time ≤ n)) (sym (next_same d f)) m.before;
 }
 
+-- an execution that may be reported after the report of another process may be reported before it
 pub may_before : (d : Dispatcher) (f : Ended) (time : ℕ) (e : Ended) → f.process ≢ e.process →
     MayFinish (finished d f) time e →
     MayFinish d time e
@@ -70,6 +73,7 @@ may_before d f time e ne m = record {
 
 -- two reports leave the same in either order
 
+-- the reports of two processes leave the same executions in either order
 swapped : (x y : Ended) → x.process ≢ y.process → (os : List Own) (runs : List (Option Running)) →
     zip_with (with_report y) os (zip_with (with_report x) os runs)
     ≡ zip_with (with_report x) os (zip_with (with_report y) os runs)
@@ -84,6 +88,7 @@ swapped x y ne (o ∷ os) (run ∷ runs) = ap₂ ◌∷◌ one (swapped x y ne o
       | inr far ↦ ap (with_report y o) (kept_run x o run far) ∙ sym (kept_run x o (with_report y o run) far)
     ]
 
+-- the reports of two processes leave the same dispatcher in either order
 pub swap : (d : Dispatcher) (x y : Ended) → x.process ≢ y.process →
     finished (finished d x) y ≡ finished (finished d y) x
 swap d x y ne = ap (λ runs. record { table = d.table; heard = d.heard; running = runs; last = d.last })
@@ -91,6 +96,7 @@ swap d x y ne = ap (λ runs. record { table = d.table; heard = d.heard; running 
 
 -- an execution that is reported doesn't end again
 
+-- after a report of a process, its execution has the report
 reported_run : (f : Ended) (os : List Own) (runs : List (Option Running)) →
     running_in os (zip_with (with_report f) os runs) f.process
     ≡ option_map (λ (run : Running). record { start = run.start; report = Some f }) (running_in os runs f.process)
@@ -112,6 +118,7 @@ reported_run f (o ∷ os) (run ∷ runs) = elim (cases_eq o.process f.process) [
     own (Some run) b =
         cond-true (o.process == f.process) (Some (record { start = run.start; report = Some f })) (Some run) b
 
+-- an execution is reported at most once
 pub reported_once : (d : Dispatcher) (f : Ended) (run : Running) → running_of (finished d f) f.process ≡ Some run →
     run.report ≡ None → ⊥
 reported_once d f run e none = go (running_of d f.process) (sym (reported_run f d.table.own d.running) ∙ e)
@@ -132,6 +139,7 @@ cut_ranges r a b =
 abbrev nothing : Range
 nothing = record { low = 0; high = 0 }
 
+-- to cut the range of one variable twice is to cut it at once by both
 cut_same : (h : List Range) (v : ℕ) (a b : Literal) → v < length h →
     set (set h v (cut_range (range_of h v) a)) v (cut_range (range_of (set h v (cut_range (range_of h v) a)) v) b)
     ≡ set h v (cut_range (cut_range (range_of h v) a) b)
@@ -140,6 +148,7 @@ cut_same h v a b within =
     ap (λ r. set (set h v one) v (cut_range r b)) (get_or-set_same h v one nothing within)
     ∙ set-set h v one (cut_range one b)
 
+-- on one variable the greatest low and the least high stay, in either order; on two nothing meets
 cut_twice : (h : List Range) (a b : Literal) → cut (cut h a) b ≡ cut (cut h b) a
 cut_twice h a b =
     let one : Range = cut_range (range_of h a.variable) a in
@@ -166,10 +175,12 @@ cut_over : (ls : List Literal) (h : List Range) (l : Literal) → cut_all (cut h
 cut_over [] h l = refl
 cut_over (m ∷ ls) h l = ap (λ h. cut_all h ls) (cut_twice h l m) ∙ cut_over ls (cut h m) l
 
+-- ranges that are cut by two lists of literals are the same in either order
 cuts_either : (xs ys : List Literal) (h : List Range) → cut_all (cut_all h xs) ys ≡ cut_all (cut_all h ys) xs
 cuts_either [] ys h = refl
 cuts_either (x ∷ xs) ys h = cuts_either xs ys (cut h x) ∙ ap (λ h. cut_all h xs) (cut_over ys h x)
 
+-- two frames leave the same dispatcher in either order
 pub hear_either : (d : Dispatcher) (x y : Frame) → hear (hear d x) y ≡ hear (hear d y) x
 hear_either d x y = ap (λ h. record { table = d.table; heard = h; running = d.running; last = d.last })
     (cuts_either (frame_literals d.table x) (frame_literals d.table y) d.heard)
@@ -186,11 +197,13 @@ uncut (r ∷ h) (suc v) l e =
     let p = or_parts (is_contradicted r) (list_any is_contradicted (set h v (cut_range (range_of h v) l))) e in
     or_from (is_contradicted r) (list_any is_contradicted h) p.0 (uncut h v l p.1)
 
+-- what contradicts nothing after several literals contradicts nothing before them
 uncut_all : (ls : List Literal) (h : List Range) → list_any is_contradicted (cut_all h ls) ≡ false →
     list_any is_contradicted h ≡ false
 uncut_all [] h e = e
 uncut_all (l ∷ ls) h e = uncut h l.variable l (uncut_all ls (cut h l) e)
 
+-- if two frames of one time are fine in one order, they are fine in the other
 pub fine_either : (d : Dispatcher) (time : ℕ) (x y : Frame) → is_strange d time x ≡ false →
     is_strange (hear d x) time y ≡ false →
     (is_strange d time y ≡ false) × (is_strange (hear d y) time x ≡ false)

@@ -27,6 +27,7 @@ cond_parts : {X : Type 0} (b : Bool) (xs : List X) (x : X) → Contains (cond b 
 cond_parts true xs x h = h
 cond_parts false xs x h = absurd (Contains-nil x h)
 
+-- a column that matches in a scenario is a match
 match_of : (tables : List NodeTable) (s : Scenario) (x : ℕ) (c : Column) → Contains (matching tables s x) c →
     Match tables s x c
 match_of tables s x c h = let q = Contains-filter_parts (λ (c : Column). matches c.cube s) (columns_of tables x) c h in
@@ -37,6 +38,7 @@ abbrev ever : ℕ → Bool
 ever moment = true
 
 module _ (g : Graph) (tables : List NodeTable) (node time : ℕ) (s : Scenario) (law : IsScenario g s) where
+  -- each fact of a node is one that it learns at some time
   told : (l : Literal) → Contains (facts g tables node s time) l → Learnt g tables s node ever l
   told l h = elim (Contains-append_cases
       (flat_map (facts_of_end g tables s time) (filter (λ p. node_of g p == node) (numbers_below (process_count g))))
@@ -97,6 +99,7 @@ module _ (g : Graph) (tables : List NodeTable) (node time : ℕ) (s : Scenario) 
   abbrev fs : List Literal
   fs = facts g tables node s time
 
+  -- each fact on the variable of a literal contains the variable's number
   true_of : (l m : Literal) → Contains (filter (λ (m : Literal). m.variable == l.variable) fs) m →
       (m.low ≤ number_of s l.variable) × (number_of s l.variable ≤ m.high)
   true_of l m n =
@@ -109,6 +112,7 @@ module _ (g : Graph) (tables : List NodeTable) (node time : ℕ) (s : Scenario) 
       let above : number_of s m.variable ≤ m.high = leb-true _ _ t.1 in
       (omega arith, omega arith)
 
+  -- the number of a variable lies within what the facts leave of it
   low : (l : Literal) → kept_low fs l.variable ≤ number_of s l.variable
   low l = elim (greatest_cases (map (λ (m : Literal). m.low) (filter (λ (m : Literal). m.variable == l.variable) fs))) [
     | inl z ↦ omega (arith, z)

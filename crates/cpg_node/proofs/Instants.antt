@@ -25,11 +25,13 @@ use Rattle.cpg_node.specs.Instants.{left_of, planned_times, end_times, entries_l
 
 -- What is after a later moment is after an earlier one.
 
+-- what is after a turn is after the turn before it
 after_both : (last : Option ℕ) (time x : ℕ) → is_after last time ≡ true → is_after (Some time) x ≡ true →
     is_after last x ≡ true
 after_both None time x a b = refl
 after_both (Some t) time x a b = lt-ltb t x (omega (arith, ltb-true t time a, ltb-true time x b))
 
+-- after a later turn no more of the times are left
 pub fewer_left : (last : Option ℕ) (time : ℕ) (xs : List ℕ) → is_after last time ≡ true →
     left_of (Some time) xs ≤ left_of last xs
 fewer_left last time xs a =
@@ -42,7 +44,7 @@ one_kept true false x xs ys h l = absurd (true≢false (sym (h refl)))
 one_kept false true x xs ys h l = omega arith
 one_kept false false x xs ys h l = l
 
--- fewer, if the later moment is one of them
+-- after a later turn fewer of the times are left, if it is at one of them
 pub one_less : (last : Option ℕ) (time : ℕ) (xs : List ℕ) → is_after last time ≡ true → Contains xs time →
     left_of (Some time) xs < left_of last xs
 one_less last time [] a c = absurd (Contains-nil time c)
@@ -60,7 +62,7 @@ one_less last time (x ∷ xs) a c = elim (Contains-cases x xs time c) [
     first false true e f l = omega arith
     first false false e f l = absurd (true≢false (sym f))
 
--- one more in front
+-- with one more element in front, no fewer pass
 front_left : (p : ℕ → Bool) (x : ℕ) (xs : List ℕ) → length (filter p xs) ≤ length (filter p (x ∷ xs))
 front_left p x xs = go (p x)
   where
@@ -75,6 +77,7 @@ few_each : (o : Own) (run : Option Running) → length o.times ≤ 9 → length 
 few_each o None l = omega arith
 few_each o (Some run) l = omega (arith, l, length-map o.times (λ d. run.start + d))
 
+-- if each process has at most 9 possible ends, all processes together have at most 9 for each
 pub few_ends : (os : List Own) (runs : List (Option Running)) → HaveFewEnds os →
     length (flat_map (λ ends. ends) (zip_with possible_ends os runs)) ≤ length os * 9
 few_ends [] runs h = omega arith
@@ -88,6 +91,7 @@ few_ends (o ∷ os) (run ∷ runs) h = omega (
 
 -- Executions that start in a turn are no more than its acts.
 
+-- no more pass one of two tests than pass each of them together
 either_few : (p q : Own → Bool) (os : List Own) →
     length (filter (λ o. p o || q o) os) ≤ length (filter p os) + length (filter q os)
 either_few p q [] = omega arith
@@ -100,6 +104,7 @@ either_few p q (o ∷ os) = go (p o) (q o) (filter (λ o. p o || q o) os) (filte
     go false true all some others l = omega (arith, l)
     go false false all some others l = l
 
+-- at most one process has a number
 once : (x : ℕ) (os : List Own) → DoRise os → length (filter (λ (o : Own). x == o.process) os) ≤ 1
 once x [] h = omega arith
 once x (o ∷ os) h = elim (cases_eq x o.process) [
@@ -122,6 +127,7 @@ once x (o ∷ os) h = elim (cases_eq x o.process) [
 abbrev started : List Act → List Own → List Own
 started acts os = filter (λ (o : Own). list_any (λ (a : Act). a.item == o.process) acts) os
 
+-- a turn starts no more executions than it has acts
 started_few : (acts : List Act) (os : List Own) → DoRise os → length (started acts os) ≤ length acts
 started_few [] os h = omega (
   arith,
@@ -135,6 +141,7 @@ started_few (a ∷ acts) os h = omega (
   started_few acts os h,
 )
 
+-- as many pass of two lists together as of each
 kept_parts : (p : ℕ → Bool) (xs ys : List ℕ) →
     length (filter p (xs ++ ys)) ≡ length (filter p xs) + length (filter p ys)
 kept_parts p xs ys = ap (λ (l : List ℕ). length l) (filter-append p xs ys) ∙ length-append (filter p xs) (filter p ys)
@@ -193,6 +200,7 @@ instant_is d time e = go (is_some d.last)
       ]
     ]
 
+-- the times of the table are among the planned times
 fixed_left : (d : Dispatcher) (p : ℕ → Bool) →
     length (filter p (fixed_times d.table)) ≤ length (filter p (planned_times d))
 fixed_left d p = go (is_some d.last)
@@ -209,6 +217,7 @@ module _ (d : Dispatcher) (time : ℕ) (frames : List Frame) (comes : next d ≡
   after : is_after d.last time ≡ true
   after = (next_is d time comes).after
 
+  -- a turn leaves fewer instants
   pub turn_less : instants_left (turn d time [] frames) < instants_left d
   turn_less =
       let acts : List Act = acts_of_turn d time [] frames in
@@ -242,7 +251,7 @@ pub table_less : (d : Dispatcher) (time : ℕ) (frames : List Frame) → next d 
     instants_left (turn d time [] frames) < instants_left d
 table_less d time frames comes made = turn_less d time frames comes (own_rise d.table made) (own_few_ends d.table made)
 
--- reports change nothing
+-- reports do not change how many instants are left
 pub reported_left : (d : Dispatcher) (es : List Ended) → instants_left (fold finished d es) ≡ instants_left d
 reported_left d [] = refl
 reported_left d (e ∷ es) = reported_left (finished d e) es ∙ ap
@@ -263,7 +272,7 @@ fixed_count t = omega (
   sum_by-append (λ (row : Row). length row.columns) t.sends t.hears,
 )
 
--- at most 10 for each entry, one more, and the ends of what runs
+-- at most 10 instants are left for each entry, one more, and the ends of what runs
 pub most_instants : (d : Dispatcher) → length d.table.own ≤ 128 → HaveFewEnds d.table.own →
     instants_left d ≤ column_count (rows_of d.table) * 10 + 1153
 most_instants d few ends = omega (

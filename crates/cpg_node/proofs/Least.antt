@@ -32,20 +32,24 @@ fold_min a b (y ∷ ys) = ap (λ m. fold min m ys) (min_assoc a b y) ∙ fold_mi
     min_assoc : (a b y : ℕ) → min (min a b) y ≡ min a (min b y)
     min_assoc a b y = omega arith
 
+-- of a time and none, the earlier is the time
 pub earlier_none : (o : Option ℕ) → earlier o None ≡ o
 earlier_none None = refl
 earlier_none (Some t) = refl
 
+-- the earliest of three times is the same however they are grouped
 pub earlier_assoc : (a b c : Option ℕ) → earlier (earlier a b) c ≡ earlier a (earlier b c)
 earlier_assoc None b c = refl
 earlier_assoc (Some a) None c = refl
 earlier_assoc (Some a) (Some b) None = refl
 earlier_assoc (Some a) (Some b) (Some c) = let e : min (min a b) c ≡ min a (min b c) = omega arith in ap Some e
 
+-- the least of a list is the earlier of its first time and of the least of the rest
 pub least_cons : (x : ℕ) (xs : List ℕ) → least_of (x ∷ xs) ≡ earlier (Some x) (least_of xs)
 least_cons x [] = refl
 least_cons x (y ∷ ys) = ap Some (fold_min x y ys)
 
+-- the least of two lists together is the earlier of their least times
 pub least_append : (xs ys : List ℕ) → least_of (xs ++ ys) ≡ earlier (least_of xs) (least_of ys)
 least_append [] ys = refl
 least_append (x ∷ xs) ys = least_cons x (xs ++ ys) ∙ ap (earlier (Some x)) (least_append xs ys)
@@ -57,13 +61,14 @@ pub least_passing : (p : ℕ → Bool) (xs ys : List ℕ) →
     least_of (filter p (xs ++ ys)) ≡ earlier (least_of (filter p xs)) (least_of (filter p ys))
 least_passing p xs ys = ap least_of (filter-append p xs ys) ∙ least_append (filter p xs) (filter p ys)
 
--- a loop over lists of times
+-- the step of a loop over lists of times
 pub least_more : (p : ℕ → Bool) (first : Option ℕ) (xs ys : List ℕ) (whole : Option ℕ) →
     earlier first (least_of (filter p (xs ++ ys))) ≡ whole →
     earlier (earlier first (least_of (filter p xs))) (least_of (filter p ys)) ≡ whole
 least_more p first xs ys whole e = earlier_assoc first (least_of (filter p xs)) (least_of (filter p ys))
     ∙ ap (earlier first) (sym (least_passing p xs ys)) ∙ e
 
+-- the step of a loop over two lists whose elements, place by place, give times
 pub least_zip : {A B : Type 0} (p : ℕ → Bool) (f : A → B → List ℕ) (n : ℕ) (os : List A) (rs : List B) (a : A) (b : B)
     (first now : Option ℕ) (whole : Option ℕ) → n < length os →
     length os ≡ length rs → a ≡ get_or os n a →
@@ -77,6 +82,7 @@ least_zip p f n os rs a b first now whole l e at is h =
     (ap (λ a. earlier first (least_of (filter p (f a (get_or rs n b) ++ rest)))) at
     ∙ ap (λ l. earlier first (least_of (filter p (flat_map (λ l. l) l)))) (sym (zip_with-drop f n os rs a b l e)) ∙ h)
 
+-- the step of a loop over the times that a map gives
 pub least_map : (p : ℕ → Bool) (f : ℕ → ℕ) (n : ℕ) (ts : List ℕ) (d : ℕ) (first now end whole : Option ℕ) →
     n < length ts →
     end ≡ least_of (filter p (f (get_or ts n d) ∷ [])) →

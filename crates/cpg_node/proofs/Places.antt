@@ -11,6 +11,7 @@ zip_front f (suc n) [] rs = rs
 zip_front f (suc n) (o ∷ os) [] = []
 zip_front f (suc n) (o ∷ os) (r ∷ rs) = f o r ∷ zip_front f n os rs
 
+-- changed up to its length, a list is changed at each place
 pub zip_front-whole : {A B : Type 0} (f : A → B → B) (os : List A) (rs : List B) → length os ≡ length rs →
     zip_front f (length os) os rs ≡ zip_with f os rs
 zip_front-whole f [] [] e = refl
@@ -18,6 +19,7 @@ zip_front-whole f [] (r ∷ rs) e = absurd (omega arith)
 zip_front-whole f (o ∷ os) [] e = refl
 zip_front-whole f (o ∷ os) (r ∷ rs) e = ap (λ l. f o r ∷ l) (zip_front-whole f os rs (omega arith))
 
+-- a list that is changed place by place keeps its length
 pub zip_front-length : {A B : Type 0} (f : A → B → B) (n : ℕ) (os : List A) (rs : List B) →
     length (zip_front f n os rs) ≡ length rs
 zip_front-length f zero os rs = refl
@@ -25,7 +27,7 @@ zip_front-length f (suc n) [] rs = refl
 zip_front-length f (suc n) (o ∷ os) [] = refl
 zip_front-length f (suc n) (o ∷ os) (r ∷ rs) = ap (λ l. suc l) (zip_front-length f n os rs)
 
--- a place that is not changed yet
+-- at the next place nothing has changed yet
 pub zip_front-at : {A B : Type 0} (f : A → B → B) (n : ℕ) (os : List A) (rs : List B) (d : B) →
     get_or (zip_front f n os rs) n d ≡ get_or rs n d
 zip_front-at f zero os rs d = refl
@@ -33,7 +35,7 @@ zip_front-at f (suc n) [] rs d = refl
 zip_front-at f (suc n) (o ∷ os) [] d = refl
 zip_front-at f (suc n) (o ∷ os) (r ∷ rs) d = zip_front-at f n os rs d
 
--- one more place
+-- to change the next place is to have changed one place more
 pub zip_front-more : {A B : Type 0} (f : A → B → B) (n : ℕ) (os : List A) (rs : List B) (a : A) (b : B) →
     n < length os →
     length os ≡ length rs →
@@ -70,6 +72,7 @@ drop_both f n (o ∷ os) [] a b l e = absurd (omega arith)
 drop_both f zero (o ∷ os) (r ∷ rs) a b l e = refl
 drop_both f (suc n) (o ∷ os) (r ∷ rs) a b l e = drop_both f n os rs a b (omega arith) (omega arith)
 
+-- the step of a loop over two lists: what is left begins with what the place gives
 pub zip_with-drop : {A B C : Type 0} (f : A → B → C) (n : ℕ) (os : List A) (rs : List B) (a : A) (b : B) →
     n < length os →
     length os ≡ length rs →
@@ -78,7 +81,7 @@ pub zip_with-drop : {A B C : Type 0} (f : A → B → C) (n : ℕ) (os : List A)
 zip_with-drop f n os rs a b l e = drop_both f n os rs a b l e
     ∙ ap (λ m. f (get_or os n a) (get_or rs n b) ∷ zip_with f (drop m os) (drop m rs)) (sym (add-one n))
 
--- a process at another place
+-- the search for a process goes on past the place of another one
 running_in-suc : (n : ℕ) (os : List Own) (rs : List (Option Running)) (p : ℕ) (a : Own) → n < length os →
     length os ≡ length rs → a ≡ get_or os n a → a.process ≢ p →
     running_in (drop n os) (drop n rs) p ≡ running_in (drop (suc n) os) (drop (suc n) rs) p
@@ -92,6 +95,7 @@ running_in-suc zero (o ∷ os) (r ∷ rs) p a l e at other = go (o.process == p)
 running_in-suc (suc n) (o ∷ os) (r ∷ rs) p a l e at other =
     running_in-suc n os rs p a (omega arith) (omega arith) at other
 
+-- the step of a loop that looks for a process: at a place of another one it goes on
 pub running_in-next : (n : ℕ) (os : List Own) (rs : List (Option Running)) (p : ℕ) (a : Own) → n < length os →
     length os ≡ length rs → a ≡ get_or os n a → a.process ≢ p →
     running_in (drop n os) (drop n rs) p ≡ running_in (drop (n + 1) os) (drop (n + 1) rs) p

@@ -16,7 +16,7 @@ use Rattle.cpg_cube.specs.declared.column.Column.{Column}
 use Rattle.cpg_node.specs.Dispatcher.{OwnTable, Range, Act, times_in, has_heard, no_column, acts_of_columns, acts_at}
 use Rattle.cpg_node.specs.Plan.{Planned, plan_of_columns, plan_from, plan_of, no_row, takes, act_of, SameAtEachTime}
 
--- one more entry
+-- the acts of one entry more come before those of the rest
 pub acts_more : (test : Planned → Bool) (p : Planned) (ps : List Planned) →
     map act_of (filter test (p ∷ ps)) ≡ map act_of (filter test (p ∷ [])) ++ map act_of (filter test ps)
 acts_more test p ps = go (test p)
@@ -27,6 +27,7 @@ acts_more test p ps = go (test p)
     go true = refl
     go false = refl
 
+-- the plan of two lists of rows is that of the first and then that of the second
 pub plan_from-append : (place : ℕ) (xs ys : List Row) →
     plan_from place (xs ++ ys) ≡ plan_from place xs ++ plan_from (place + length xs) ys
 plan_from-append place [] ys = let e : place ≡ place + 0 = omega arith in ap (λ n. plan_from n ys) e
@@ -43,6 +44,7 @@ times_of_columns : (place x i : ℕ) (cs : List Column) →
 times_of_columns place x i [] = refl
 times_of_columns place x i (c ∷ cs) = ap (λ l. c.time ∷ l) (times_of_columns place x (i + 1) cs)
 
+-- the times of what is planned for rows are the times of the rows
 pub plan_times : (place : ℕ) (rows : List Row) → map (λ (p : Planned). p.time) (plan_from place rows) ≡ times_in rows
 plan_times place [] = refl
 plan_times place (row ∷ rows) =
@@ -55,6 +57,7 @@ plan_times place (row ∷ rows) =
 abbrev is_due : List Row → List Range → ℕ → Planned → Bool
 is_due rows heard time p = (p.time == time) && takes rows heard p
 
+-- the acts of a row are those of its planned entries that are due
 acts_of_row : (rows : List Row) (heard : List Range) (time place x i : ℕ) (cs : List Column) →
     ((k n : ℕ) → n ≡ i + k → get_or (get_or rows place no_row).columns n no_column ≡ get_or cs k no_column) →
     acts_of_columns heard time x i cs ≡ map act_of (filter (is_due rows heard time) (plan_of_columns place x i cs))
@@ -78,6 +81,7 @@ acts_of_row rows heard time place x i (c ∷ cs) at =
         ∙ ap (λ e. map act_of (cond e (p ∷ ps) ps)) (sym s)
     go p false e s t ps acts r = r ∙ ap (λ e. map act_of (cond e (p ∷ ps) ps)) (sym s)
 
+-- the acts of rows are those of their planned entries that are due
 acts_of_rows : (all : List Row) (heard : List Range) (time place : ℕ) (rows : List Row) →
     ((k n : ℕ) → n ≡ place + k → get_or all n no_row ≡ get_or rows k no_row) →
     flat_map (λ (row : Row). acts_of_columns heard time row.item 0 row.columns) rows
@@ -93,6 +97,7 @@ acts_of_rows all heard time place (row ∷ rows) at =
     ∙ map-append act_of (filter (is_due all heard time) (plan_of_columns place row.item 0 row.columns))
     (filter (is_due all heard time) (plan_from (place + 1) rows)))
 
+-- the acts of a time are those of the planned entries of that time whose literals have been heard
 acts_planned : (t : OwnTable) (heard : List Range) (time : ℕ) →
     acts_at t heard time ≡ map act_of (filter (is_due (t.sends ++ t.starts) heard time) (plan_of t))
 acts_planned t heard time = acts_of_rows (t.sends ++ t.starts) heard time 0 (t.sends ++ t.starts)
@@ -117,7 +122,7 @@ acts_same t heard time plan same = acts_planned t heard time
     ∙ ap (map act_of) (filter_both (λ (p : Planned). p.time == time) (takes (t.sends ++ t.starts) heard) (plan_of t)
     ∙ ap (filter (takes (t.sends ++ t.starts) heard)) (sym (same time)))
 
--- what passes where it stands together
+-- if the elements that pass stand together, a filter keeps just that part of the list
 pub filter_run : {X : Type 0} (test : X → Bool) (xs : List X) (first end : ℕ) → first ≤ end → end ≤ length xs →
     ((i : ℕ) (d : X) → i < first → test (get_or xs i d) ≡ false) →
     ((i : ℕ) (d : X) → first ≤ i → i < end → test (get_or xs i d) ≡ true) →
@@ -170,6 +175,7 @@ planned_in ps qs same p c = (Contains-filter_parts (λ (q : Planned). q.time == 
     (subst (λ l. Contains l p) (same p.time)
     (Contains-filter (λ (q : Planned). q.time == p.time) ps p (eq-eqb p.time p.time refl) c))).0
 
+-- the time of a planned entry is a time of the table
 pub planned_time : (t : OwnTable) (p : Planned) → Contains (plan_of t) p →
     Contains (times_in (t.sends ++ t.starts)) p.time
 planned_time t p c = subst (λ l. Contains l p.time) (plan_times 0 (t.sends ++ t.starts))
@@ -180,6 +186,7 @@ planned_time t p c = subst (λ l. Contains l p.time) (plan_times 0 (t.sends ++ t
 tie_is : (a b : ℕ) → (not (is_lt (nat_cmp a b)) && not (is_lt (nat_cmp b a))) ≡ (b == a)
 tie_is a b = grind (arith, nat_tests)
 
+-- a list and its stable sort by time have the same entries at each time, in the same order
 pub same_from_stable : (xs ys : List Planned) → IsStableByKey (λ (p : Planned). p.time) nat_cmp xs ys →
     SameAtEachTime ys xs
 same_from_stable xs ys stable time =
@@ -190,6 +197,7 @@ same_from_stable xs ys stable time =
     ∙ stable x ∙ same_filter (λ p. not (is_lt (nat_cmp time p.time)) && not (is_lt (nat_cmp p.time time)))
     (λ (p : Planned). p.time == time) xs (λ p c. tie_is time p.time)
 
+-- the plan of the sends and then that of the starts make the plan of the table
 pub planned_is : (t : OwnTable) (new one two : List Planned) (sends starts : List Row) (n : ℕ) → new ≡ [] →
     sends ≡ t.sends → starts ≡ t.starts →
     n ≡ length t.sends →

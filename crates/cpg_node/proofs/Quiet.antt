@@ -23,6 +23,7 @@ use Rattle.cpg_node.specs.Quiet.{AwaitedAreCandidates}
 
 -- A quiet turn.
 
+-- a turn without ends and acts leaves what runs
 same_runs : (time : ℕ) (os : List Own) (runs : List (Option Running)) → length runs ≡ length os →
     zip_with (running_after [] [] time) os runs ≡ runs
 same_runs time [] [] e = refl
@@ -30,6 +31,7 @@ same_runs time [] (run ∷ runs) e = absurd (omega arith)
 same_runs time (o ∷ os) [] e = absurd (omega arith)
 same_runs time (o ∷ os) (run ∷ runs) e = ap (λ l. run ∷ l) (same_runs time os runs (omega arith))
 
+-- a quiet turn changes nothing but the last instant
 pub quiet_turns : QuietTurnsChangeNothing
 quiet_turns d time count q =
     let heard : heard_after d time [] [] ≡ d.heard = ap (fold (hear_end d.table) d.heard) q.ends in
@@ -42,6 +44,7 @@ quiet_turns d time count q =
 
 -- An instant that is no column's and not awaited.
 
+-- at a time that none of its columns has, a row has no act
 no_acts_of : (heard : List Range) (time x i : ℕ) (cs : List Column) →
     (Contains (map (λ (c : Column). c.time) cs) time → ⊥) →
     acts_of_columns heard time x i cs ≡ []
@@ -53,6 +56,7 @@ no_acts_of heard time x i (c ∷ cs) n =
     (Contains-first c.time (map (λ (c : Column). c.time) cs)))))
     ∙ no_acts_of heard time x (i + 1) cs (λ m. n (Contains-rest c.time (map (λ (c : Column). c.time) cs) time m))
 
+-- at a time that no column of the rows has, the rows have no act
 no_acts_in : (heard : List Range) (time : ℕ) (rows : List Row) →
     ((row : Row) → Contains rows row → Contains (map (λ (c : Column). c.time) row.columns) time → ⊥) →
     flat_map (λ (row : Row). acts_of_columns heard time row.item 0 row.columns) rows ≡ []
@@ -61,12 +65,14 @@ no_acts_in heard time (row ∷ rows) n =
     ap₂ ◌++◌ (no_acts_of heard time row.item 0 row.columns (n row (Contains-first row rows)))
     (no_acts_in heard time rows (λ r m. n r (Contains-rest row rows r m)))
 
+-- the times of a row are among those of the rows
 in_rows : (rows : List Row) (row : Row) (time : ℕ) → Contains rows row →
     Contains (map (λ (c : Column). c.time) row.columns) time →
     Contains (times_in rows) time
 in_rows rows row time m c =
     Contains-flat_map (λ (row : Row). map (λ (c : Column). c.time) row.columns) rows row time m c
 
+-- at a time at which no end is awaited no report is due
 no_reports : (k time : ℕ) (os : List Own) (runs : List (Option Running)) →
     (Contains (flat_map (λ ends. ends) (zip_with (awaited_end k) os runs)) time → ⊥) →
     flat_map (λ es. es) (zip_with (due_reports_of time) os runs) ≡ []
@@ -88,6 +94,7 @@ no_reports k time (o ∷ os) (Some run ∷ runs) n = go run.report n (no_reports
         (Contains-first (run.start + get_or o.times e.faults 0) rest))))
         ∙ ih (λ m. n (Contains-rest _ rest time m))
 
+-- at an instant that is not awaited a turn is quiet
 pub turns_left_out : TurnsLeftOutAreQuiet
 turns_left_out d time n heard = record {
   ends = no_reports d.table.faults time d.table.own d.running
@@ -114,6 +121,7 @@ turns_left_out d time n heard = record {
 abbrev HasAll : ℕ → Own → Type 0
 HasAll k o = length o.times ≡ k + 1
 
+-- each own process of a table has a duration for each number of faults
 own_all : (k n node p c : ℕ) (qs : List HeadProcess) → All (IsHeadProcess k n) qs →
     All (HasAll k) (own_from node p c qs)
 own_all k n node p c [] h = All-nil (HasAll k)
@@ -139,6 +147,7 @@ few_faults : (k : ℕ) (r : Option Ended) → IfSome r (λ (e : Ended). e.faults
 few_faults k None h = omega arith
 few_faults k (Some e) h = h
 
+-- each awaited end is a possible end
 possible : (k : ℕ) (os : List Own) (runs : List (Option Running)) → All (HasAll k) os → All (TellsFew k) runs →
     (time : ℕ) →
     Contains (flat_map (λ ends. ends) (zip_with (awaited_end k) os runs)) time →
@@ -161,6 +170,7 @@ possible k (o ∷ os) (Some run ∷ runs) a f time m =
           (possible k os runs (All-tail (HasAll k) o os a) (All-tail (TellsFew k) (Some run) runs f) time r)
     ]
 
+-- each awaited instant is a candidate
 pub awaited_candidates : AwaitedAreCandidates
 awaited_candidates d made few time m =
     let ends : List ℕ = flat_map (λ ends. ends) (zip_with (awaited_end d.table.faults) d.table.own d.running) in

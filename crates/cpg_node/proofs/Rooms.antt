@@ -20,6 +20,7 @@ now time ts = filter (λ t. t == time) ts
 
 -- A turn does no more acts than there are entries of its time.
 
+-- a row has no more acts at a time than columns of that time
 columns_few : (heard : List Range) (time x i : ℕ) (cs : List Column) →
     length (acts_of_columns heard time x i cs) ≤ length (now time (map (λ (c : Column). c.time) cs))
 columns_few heard time x i [] = omega arith
@@ -35,6 +36,7 @@ columns_few heard time x i (c ∷ cs) =
     go true false l = omega (arith, l)
     go false b l = l
 
+-- rows have no more acts at a time than columns of that time
 rows_few : (heard : List Range) (time : ℕ) (rows : List Row) →
     length (flat_map (λ (row : Row). acts_of_columns heard time row.item 0 row.columns) rows)
     ≤ length (now time (times_in rows))
@@ -52,6 +54,7 @@ rows_few heard time (row ∷ rows) =
       rows_few heard time rows,
     )
 
+-- what is no earlier than a time after the last turn is after it too
 pub after_later : (last : Option ℕ) (time x : ℕ) → is_after last time ≡ true → time ≤ x → is_after last x ≡ true
 after_later None time x a h = refl
 after_later (Some l) time x a h = lt-ltb l x (omega (arith, ltb-true l time a, h))
@@ -79,7 +82,7 @@ left_then last time a (t ∷ ts) = go (t == time) (ltb time t) (is_after last t)
     go false false true apart x y h = omega (arith, h)
     go false false false apart x y h = h
 
--- the acts of a turn and the entries that are left after it
+-- the acts of a turn and the entries that are left after it are no more than the entries that were left before
 pub room_turn : (d : Dispatcher) (time : ℕ) (frames : List Frame) → next d ≡ Some time →
     length (acts_of_turn d time [] frames) + length (entries_left (turn d time [] frames)) ≤ length
     (entries_left d)
@@ -99,6 +102,7 @@ all_left p (x ∷ xs) = go (p x) (all_left p xs)
     go true l = omega arith
     go false l = omega arith
 
+-- rows have as many times as columns
 pub times_count : (rows : List Row) → length (times_in rows) ≡ column_count rows
 times_count [] = refl
 times_count (row ∷ rows) = length-append (map (λ (c : Column). c.time) row.columns) (times_in rows)
@@ -107,6 +111,7 @@ times_count (row ∷ rows) = length-append (map (λ (c : Column). c.time) row.co
 
 -- At first there are no more than columns of what the node sends and starts.
 
+-- no more entries are left than there are columns of what the node sends and starts
 pub room_open : (d : Dispatcher) → length (entries_left d) ≤ column_count d.table.sends + column_count d.table.starts
 room_open d = omega (
   arith,

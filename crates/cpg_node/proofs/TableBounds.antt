@@ -23,6 +23,7 @@ use Rattle.cpg_node.proofs.Planning.{planned_in, planned_time}
 abbrev pub AreShort : Own → Type 0
 AreShort o = All (λ d. d < 2 ^ 60) o.times
 
+-- the executions of a node's own processes are short, by the head
 own_short : (k n node p c : ℕ) (qs : List HeadProcess) → All (IsHeadProcess k n) qs →
     All AreShort (own_from node p c qs)
 own_short k n node p c [] h = All-nil AreShort
@@ -54,6 +55,7 @@ own_number p x o true is m = elim (Contains-cases x [] o m) [
 ]
 own_number p x o false is m = absurd (Contains-nil o m)
 
+-- by induction on the processes: the own one of the first is p, and the others have higher numbers
 own_above : (node p c : ℕ) (qs : List HeadProcess) (o : Own) → Contains (own_from node p c qs) o → p ≤ o.process
 own_above node p c [] o m = absurd (Contains-nil o m)
 own_above node p c (q ∷ qs) o m =
@@ -66,6 +68,7 @@ own_above node p c (q ∷ qs) o m =
       | inr n ↦ omega (arith, own_above node (p + 1) (cond q.condition (c + 1) c) qs o n)
     ]
 
+-- by induction on the processes: the own one of the first comes before all others
 own_rises : (node p c : ℕ) (qs : List HeadProcess) → DoRise (own_from node p c qs)
 own_rises node p c [] = tt
 own_rises node p c (q ∷ qs) = Rises-append (λ (a b : Own). a.process < b.process) (own_front node p c q)
@@ -83,6 +86,7 @@ own_rises node p c (q ∷ qs) = Rises-append (λ (a b : Own). a.process < b.proc
     front true = (λ o m. absurd (Contains-nil o m), tt)
     front false = tt
 
+-- the own processes of a table rise by number
 pub own_rise : (t : NodeTable) → IsTable t → DoRise t.own
 own_rise t h = subst DoRise (sym h.of.own) (own_rises h.node 0 0 h.head.processes)
 
@@ -90,6 +94,7 @@ own_rise t h = subst DoRise (sym h.of.own) (own_rises h.node 0 0 h.head.processe
 abbrev pub HaveFewEnds : List Own → Type 0
 HaveFewEnds os = All (λ (o : Own). length o.times ≤ 9) os
 
+-- a node's own processes have at most 9 possible ends each, by the head
 own_ends : (k n node p c : ℕ) (qs : List HeadProcess) → k ≤ 8 → All (IsHeadProcess k n) qs →
     HaveFewEnds (own_from node p c qs)
 own_ends k n node p c [] few h = All-nil (λ (o : Own). length o.times ≤ 9)
@@ -106,6 +111,7 @@ own_ends k n node p c (q ∷ qs) few h = All-append (λ (o : Own). length o.time
         (omega (arith, few, (All-head (IsHeadProcess k n) q qs h).count)) (All-nil (λ (o : Own). length o.times ≤ 9))
     front false = All-nil (λ (o : Own). length o.times ≤ 9)
 
+-- each own process of a table has at most 9 possible ends
 pub own_few_ends : (t : NodeTable) → IsTable t → HaveFewEnds t.own
 own_few_ends t h = subst HaveFewEnds (sym h.of.own)
     (own_ends h.head.faults (length h.head.nodes) h.node 0 0 h.head.processes h.lawful.faults h.lawful.processes)
@@ -124,12 +130,15 @@ in_sends t row c = Contains-append_right t.starts (t.sends ++ t.hears) row (Cont
 in_starts : (t : NodeTable) (row : Row) → Contains t.starts row → Contains (rows_of t) row
 in_starts t row c = Contains-append_left t.starts (t.sends ++ t.hears) row c
 
+-- each row that a node sends has few enough columns
 pub sends_few : (t : NodeTable) → IsTable t → All (λ (row : Row). length row.columns ≤ MOST_COLUMNS) t.sends
 sends_few t h = rows_few t h t.sends (in_sends t)
 
+-- each row that a node starts has few enough columns
 pub starts_few : (t : NodeTable) → IsTable t → All (λ (row : Row). length row.columns ≤ MOST_COLUMNS) t.starts
 starts_few t h = rows_few t h t.starts (in_starts t)
 
+-- each time of a table's rows is before 2 to the 60
 time_early : (t : NodeTable) → IsTable t → (rows : List Row) →
     ((row : Row) → Contains rows row → Contains (rows_of t) row) → (x : ℕ) → Contains (times_in rows) x → x < 2 ^ 60
 time_early t h rows in' x c =

@@ -44,7 +44,8 @@ next_open d e =
     sym (ap (λ last. least_of (filter (is_after last) (cond (is_some last) (candidates d) (0 ∷ candidates d)))) e
     ∙ ap Some (fold_zero (filter (is_after None) (candidates d))))
 
--- after a turn it is the first of the table's times that is left, or the first possible end
+-- after a turn the next instant is the first of the table's times that is left, or the first possible end if that is
+-- earlier
 pub next_found : (table : OwnTable) (heard : List Range) (running : List (Option Running)) (last : ℕ) (times : List ℕ)
     (place : ℕ) →
     IsPermutation (fixed_times table) times →
@@ -80,12 +81,14 @@ same_ends e o (Some run) = go (o.process == e.process)
     go true = refl
     go false = refl
 
+-- a report leaves the possible ends as they were
 pub ends_reported : (e : Ended) (os : List Own) (runs : List (Option Running)) →
     zip_with possible_ends os (zip_with (with_report e) os runs) ≡ zip_with possible_ends os runs
 ends_reported e [] runs = refl
 ends_reported e (o ∷ os) [] = refl
 ends_reported e (o ∷ os) (run ∷ runs) = ap₂ ◌∷◌ (same_ends e o run) (ends_reported e os runs)
 
+-- a report leaves the next instant as it was
 pub next_reported : (e : Ended) (table : OwnTable) (heard : List Range) (running : List (Option Running))
     (last : Option ℕ) →
     next (record { table = table; heard = heard; running = zip_with (with_report e) table.own running; last = last })
@@ -102,7 +105,7 @@ timed_report e o (Some run) h = go (o.process == e.process)
     go true = h
     go false = h
 
--- what holds of all that runs, place by place
+-- what leaves each start small leaves all starts small
 timed_zip : (f : Own → Option Running → Option Running) →
     ((o : Own) (run : Option Running) → IsTimed run → IsTimed (f o run)) →
     (os : List Own) (runs : List (Option Running)) → AreTimed runs →
@@ -112,6 +115,7 @@ timed_zip f keep (o ∷ os) [] h = All-nil IsTimed
 timed_zip f keep (o ∷ os) (run ∷ runs) h = All-cons IsTimed (f o run) (zip_with f os runs)
     (keep o run (All-head IsTimed run runs h)) (timed_zip f keep os runs (All-tail IsTimed run runs h))
 
+-- a report leaves starts small
 pub timed_reported : (e : Ended) (os : List Own) (runs : List (Option Running)) → AreTimed runs →
     AreTimed (zip_with (with_report e) os runs)
 timed_reported e = timed_zip (with_report e) (timed_report e)
@@ -133,11 +137,13 @@ timed_after ended acts time early o run h =
     go false e true = tt
     go false e false = h
 
+-- a turn leaves starts small
 pub timed_turn : (ended : List Ended) (acts : List Act) (time : ℕ) → (0 < length acts → time < 2 ^ 60) →
     (os : List Own) (runs : List (Option Running)) → AreTimed runs →
     AreTimed (zip_with (running_after ended acts time) os runs)
 timed_turn ended acts time early = timed_zip (running_after ended acts time) (timed_after ended acts time early)
 
+-- two lists of one length, put together place by place, have that length
 pub length_zip : {A B C : Type 0} (f : A → B → C) (os : List A) (rs : List B) → length rs ≡ length os →
     length (zip_with f os rs) ≡ length os
 length_zip f [] rs e = refl
@@ -168,6 +174,9 @@ turn_is table heard running last time ended due frames after acts runs is h a r 
     ((λ i. record { table = table; heard = heard' i; running = runs' i; last = Some time }), acts')
 
 -- the entries of the turn stand together after the place; ps and qs are the plan, as calls see it
+-- `same`, `line`: the plan has the columns of the table, in order of time. `comes`: the next instant is `time`.
+-- `seen`, `sliced`: ps and qs are the plan. `inside`, `before`, `here`: the entries from `place` to `end` are those
+-- of no later time, and the next one is later.
 module _ (table : OwnTable) (heard : List Range) (running : List (Option Running)) (last : Option ℕ) (time : ℕ)
     (plan ps qs : List Planned) (place end : ℕ)
     (same : SameAtEachTime plan (plan_of table)) (line : IsLine (λ (p : Planned). p.time) last plan place)
@@ -233,6 +242,7 @@ module _ (table : OwnTable) (heard : List Range) (running : List (Option Running
       (λ i d k l. eq-eqb (get_or plan i d).time time (at_time i d k l))
       (λ i d k l. later (get_or plan i d).time (omega (arith, here' d (omega arith), line.rises end i d k l)))
 
+  -- the acts of the turn are those of the entries in the run whose literals have been heard
   pub acts_are : (after : List Range) (acts : List Act) →
       acts ≡ map act_of (filter (takes (table.sends ++ table.starts) after) (take (end - place) (drop place qs))) →
       acts ≡ acts_at table after time
@@ -241,6 +251,7 @@ module _ (table : OwnTable) (heard : List Range) (running : List (Option Running
       ∙ sym (acts_same table after time plan same
       ∙ ap (λ l. map act_of (filter (takes (table.sends ++ table.starts) after) l)) run)
 
+  -- after the turn the place of the plan is behind the run
   pub line_moves : IsLine (λ (p : Planned). p.time) (Some time) plan end
   line_moves = moves_on (λ (p : Planned). p.time) last plan place end time line next'.after from within before' here'
 
@@ -261,6 +272,7 @@ module _ (table : OwnTable) (heard : List Range) (running : List (Option Running
 
 -- The clauses of a turn, about the state as a caller sees it.
 
+-- a turn of the dispatcher is one of the state that a caller sees
 pub returned_turn : (now : NodeState) (d : Dispatcher) (acts : List Act) (time : ℕ) (after : Dispatcher)
     (ended : List Ended) (frames : List Frame) →
     record { dispatcher = d; acts = acts } ≡ now →
@@ -270,6 +282,7 @@ returned_turn now d acts time after ended frames view comes is =
     subst (λ (s : NodeState). IfSome (next s.dispatcher) (λ t. after ≡ turn s.dispatcher t ended frames)) view
     (subst (λ o. IfSome o (λ t. after ≡ turn d t ended frames)) (sym comes) is)
 
+-- the acts of a turn of the dispatcher are those of the state that a caller sees
 pub returned_acts : (now : NodeState) (d : Dispatcher) (acts : List Act) (time : ℕ) (after : List Act)
     (ended : List Ended) (frames : List Frame) →
     record { dispatcher = d; acts = acts } ≡ now →
@@ -282,6 +295,7 @@ returned_acts now d acts time after ended frames view comes is =
 
 -- Times stay small.
 
+-- each possible end is before 2 to the 61
 ends_early : (os : List Own) (runs : List (Option Running)) → All AreShort os → AreTimed runs → (t : ℕ) →
     Contains (flat_map (λ ends. ends) (zip_with possible_ends os runs)) t → t < 2 ^ 61
 ends_early [] runs s h t c = absurd (Contains-nil t c)

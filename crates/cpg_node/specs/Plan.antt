@@ -53,5 +53,7 @@ SameAtEachTime ps qs =
 pub record IsLine {X : Type 0} (time : X → ℕ) (last : Option ℕ) (xs : List X) (place : ℕ) : Type 0 where
   pub within : place ≤ length xs
   pub rises : IsNonDecreasingBy time xs
+  -- what stands before the place is no later than the last turn
   pub reached : (i : ℕ) (d : X) → i < place → is_after last (time (get_or xs i d)) ≡ false
+  -- what stands from the place on is later
   pub left : (i : ℕ) (d : X) → place ≤ i → i < length xs → is_after last (time (get_or xs i d)) ≡ true

@@ -17,15 +17,25 @@ state_of n = record { dispatcher = dispatcher_of n; acts = n.acts.items }
 
 -- the entries and the times are in order, the next instant is known, and there is room for a turn
 pub record IsSound (n : Inside) : Type 0 where
+  -- the table is lawful
   pub made : IsTable n.table
+  -- one execution, or none, for each of its own processes
   pub count : length n.running.items ≡ length n.table.own
+  -- room for a copy of what has been heard
   pub mirror : length n.heard.items ≡ length n.before.items
   pub starts : AreTimed n.running.items
+  -- the plan has all columns that the node sends or starts
   pub planned : SameAtEachTime n.plan.items (plan_of n.table)
   pub early : All (λ (p : Planned). p.time < 2 ^ 60) n.plan.items
+  -- it is in order of time, and `plan_place` is behind the last turn
   pub entries : IsLine (λ (p : Planned). p.time) n.last n.plan.items n.plan_place
+  -- all times of the table
   pub times : IsPermutation (fixed_times n.table) n.times.items
+  -- they are in order, and `times_place` is behind the last turn
   pub instants : IsLine (λ t. t) n.last n.times.items n.times_place
+  -- the next instant is found already
   pub next : n.next ≡ next (dispatcher_of n)
+  -- room for an act of each entry, so that a turn asks for no memory
   pub room : length n.plan.items ≤ vec_capacity n.acts
+  -- room for a report of each process
   pub due_room : length n.table.own ≤ vec_capacity n.due

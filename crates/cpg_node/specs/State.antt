@@ -40,10 +40,13 @@ time_of d p faults = get_or (own_of d.table p).times faults 0
 
 -- an execution that hasn't reported, and with its faults ends at this time
 pub record EndsAt (d : Dispatcher) (time : ℕ) (e : Ended) : Type 0 where
+  -- the process runs
   pub run : Running
   pub runs : running_of d e.process ≡ Some run
+  -- its end hasn't been reported
   pub unreported : run.report ≡ None
   pub few : e.faults ≤ d.table.faults
+  -- the start and the duration with these faults are together this time
   pub planned : run.start + time_of d e.process e.faults ≡ time
 
 -- a frame whose column arrives at the time
@@ -61,14 +64,21 @@ pub record MayTurn (d : Dispatcher) (ended : List Ended) (frames : List Frame) :
 -- An execution that hasn't reported may have ended at this time: after its start and no later than planned, and after
 -- the last turn and no later than the next instant.
 pub record MayFinish (d : Dispatcher) (time : ℕ) (e : Ended) : Type 0 where
+  -- the process runs
   pub run : Running
   pub runs : running_of d e.process ≡ Some run
+  -- its end hasn't been reported
   pub unreported : run.report ≡ None
   pub few : e.faults ≤ d.table.faults
+  -- a process without a condition gives no value
   pub plain : (own_of d.table e.process).condition ≡ None → e.value ≡ false
+  -- after its start
   pub started : run.start < time
+  -- no later than planned with these faults
   pub in_time : time ≤ run.start + time_of d e.process e.faults
+  -- after the last turn
   pub later : is_after d.last time ≡ true
+  -- no later than the next instant
   pub before : IfSome (next d) (λ n. time ≤ n)
 
 -- whether a frame's item is in the hear rows, and its column there arrives at the time
@@ -87,5 +97,6 @@ earlier (Some time) (Some other) = Some (min time other)
 abbrev pub IsTimed : Option Running → Type 0
 IsTimed running = IfSome running (λ (run : Running). run.start < 2 ^ 60)
 
+-- all of these executions have
 abbrev pub AreTimed : List (Option Running) → Type 0
 AreTimed runs = All IsTimed runs

@@ -1,15 +1,15 @@
-//! What a dispatcher does.
+//! Acts: what a dispatcher does.
 ghost use Rattle.std.specs.Prelude.{◌≡◌, ◌≤◌, ◌++◌, length};
 ghost use Rattle.std.specs.Vec.{vec_capacity};
 
 /// A start or a send.
 #[derive(Clone, Copy, Debug, PartialEq, Eq)]
 pub struct Act {
-    /// When it is, in time units of the graph file.
+    /// Its time, in time units of the graph file.
     pub time: u64,
     /// The number of the item.
     pub item: u32,
-    /// The place in the item's row of the column by which it is.
+    /// The place of its column in the item's row.
     pub column: u32,
 }
 

@@ -25,6 +25,7 @@ pub fn running_in(own: &[Own], running: &[Option<Running>], process: u32) -> Opt
 pub fn earlier(time: Option<u64>, other: Option<u64>) -> Option<u64>
     ensures { result ≡ earlier time other }
 {
+    // `None` stands for never, so the other is the earlier one
     let Some(first) = time else {
         return other;
     };
@@ -62,6 +63,7 @@ fn first_end_of(own: &Own, running: Option<Running>, last: u64) -> Option<u64>
     requires start { IsTimed running }
     ensures { result ≡ least_of (filter (is_after (Some last)) (possible_ends own.now running)) }
 {
+    // a process that doesn't run has no end
     let Some(running) = running else {
         return None;
     };
@@ -73,6 +75,7 @@ pub fn earliest_end(own: &[Own], running: &[Option<Running>], last: u64) -> Opti
     requires same { length own.now ≡ length running.now }
     requires times { All (λ o. All (λ d. d < 2 ^ 60) o.times) own.now }
     requires starts { AreTimed running.now }
+    // the least of all ends that may come after the last turn, over all that runs
     ensures { result ≡ least_of (filter (is_after (Some last)) (flat_map (λ ends. ends) (zip_with possible_ends own.now running.now))) }
 {
     let mut first = None;
@@ -82,11 +85,12 @@ pub fn earliest_end(own: &[Own], running: &[Option<Running>], last: u64) -> Opti
     first
 }
 
-/// An execution after a report, which it keeps if it is its own.
+/// An execution after a report. It keeps the report if the report is its own.
 fn with_report(ended: Ended, own: &Own, running: Option<Running>) -> Option<Running>
     ensures { result ≡ with_report ended own.now running }
 {
     let running = running?;
+    // the report is of another process
     if own.process != ended.process {
         return Some(running);
     }
@@ -96,7 +100,7 @@ fn with_report(ended: Ended, own: &Own, running: Option<Running>) -> Option<Runn
     })
 }
 
-/// The execution of the report keeps it.
+/// Notes a report: the execution that it belongs to keeps it.
 pub fn note_report(own: &[Own], running: &mut [Option<Running>], ended: Ended)
     requires { length own.now ≡ length running.old }
     ensures { running.new ≡ zip_with (with_report ended) own.now running.old }
@@ -113,7 +117,9 @@ fn due_report(own: &Own, running: Option<Running>, time: u64) -> Option<Ended>
     ensures { option_to_list result ≡ due_reports_of time own.now running }
 {
     let running = running?;
+    // no report yet: nothing is due
     let ended = running.report?;
+    // the planned end is the start and the duration with the faults that the report has
     let duration = own
         .times
         .times()
@@ -132,6 +138,7 @@ fn add_due(own: &Own, running: Option<Running>, time: u64, due: &mut Vec<Ended>)
     requires times { All (λ d. d < 2 ^ 60) own.now.times }
     requires start { IsTimed running }
     requires room { vec_len due.old < vec_capacity due.old }
+    // the report is added if there is one and its planned end is at the time
     ensures added { due.new.items ≡ due.old.items ++ due_reports_of time own.now running }
     ensures one { vec_len due.new ≤ vec_len due.old + 1 }
     ensures room { vec_capacity due.new ≡ vec_capacity due.old }
@@ -156,19 +163,21 @@ pub fn gather_due(own: &[Own], running: &[Option<Running>], time: u64, due: &mut
     }
 }
 
+/// Whether one of these acts starts the process.
 fn is_started(acts: &[Act], process: u32) -> bool
     ensures { result ≡ list_any (λ a. a.item == process) acts.now }
 {
     acts.iter().any(|act| act.item == process)
 }
 
+/// Whether one of these ends is of the process.
 fn is_ended(ended: &[Ended], process: u32) -> bool
     ensures { result ≡ list_any (λ e. e.process == process) ended.now }
 {
     ended.iter().any(|end| end.process == process)
 }
 
-/// A process runs from its last start, until it ends.
+/// What a process runs after a turn: it runs from its last start until it ends.
 fn running_after(
     ended: &[Ended],
     due: &[Ended],
@@ -179,15 +188,18 @@ fn running_after(
 ) -> Option<Running>
     ensures { result ≡ running_after (ended.now ++ due.now) acts.now time own.now running }
 {
+    // a start in this turn: the process runs from now on, without a report
     if is_started(acts, own.process) {
         return Some(Running {
             start: time,
             report: None,
         });
     }
+    // its end was given to this turn
     if is_ended(ended, own.process) {
         return None;
     }
+    // its report was kept until this turn
     if is_ended(due, own.process) {
         return None;
     }

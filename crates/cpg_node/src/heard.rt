@@ -26,7 +26,7 @@ fn whole_range(faults: u8, variable: u8) -> Range
     Range { low: 0, high }
 }
 
-/// Every variable may have any number that faults allow.
+/// The ranges of all variables before anything is heard: each may have any number that the faults allow.
 pub fn whole_ranges(alloc: Global, faults: u8) -> Result<Vec<Range>, OutOfMemory>
     ensures { IfOk result (λ heard. heard.items ≡ map (whole_range faults) (numbers_below variable_count)) }
 {
@@ -38,10 +38,11 @@ pub fn whole_ranges(alloc: Global, faults: u8) -> Result<Vec<Range>, OutOfMemory
     Ok(heard)
 }
 
-/// A variable's number is known.
+/// Notes that a variable's number is known.
 fn know(heard: &mut [Range], variable: usize, number: u8)
     ensures { heard.new ≡ know heard.old variable number }
 {
+    // a variable that isn't there changes nothing
     if variable < heard.len() {
         heard[variable] = Range {
             low: number,
@@ -50,10 +51,11 @@ fn know(heard: &mut [Range], variable: usize, number: u8)
     }
 }
 
-/// A variable's number is in a range.
+/// Notes that a variable's number is in a range.
 fn cut(heard: &mut [Range], variable: usize, low: u8, high: u8)
     ensures { heard.new ≡ cut heard.old (record { variable = variable; low = low; high = high }) }
 {
+    // a variable that isn't there changes nothing
     if variable < heard.len() {
         let range = heard[variable];
         heard[variable] = Range {
@@ -63,7 +65,7 @@ fn cut(heard: &mut [Range], variable: usize, low: u8, high: u8)
     }
 }
 
-/// Literals hold.
+/// Notes that literals hold.
 fn cut_all(heard: &mut [Range], literals: &[Literal])
     ensures { heard.new ≡ cut_all heard.old literals.now }
 {
@@ -76,6 +78,7 @@ fn cut_all(heard: &mut [Range], literals: &[Literal])
 fn has_heard(heard: &[Range], literal: &Literal) -> bool
     ensures { result ≡ has_heard heard.now literal.now }
 {
+    // for a variable that isn't there, which no table has
     let unknown = Range { low: 0, high: 0 };
     let range = heard
         .get(literal.variable as usize)
@@ -95,21 +98,23 @@ pub fn have_heard(heard: &[Range], literals: &[Literal]) -> bool
 fn condition_of(table: &NodeTable, process: u32) -> Option<u32>
     ensures { result ≡ (own_of table.now process).condition }
 {
+    // `None` also for a process of another node
     let own = own_of(table, process)?;
     own.condition
 }
 
-/// Where the range of a condition's value stands.
+/// The place of the range of a condition's value.
 fn value_place(condition: u32) -> usize
     ensures { result ≡ value_variable condition }
 {
     usize::from(FIRST_VALUE) + condition as usize
 }
 
-/// An end tells the faults and the value of its process.
+/// Hears an end, which tells the faults and the value of its process.
 fn hear_end(table: &NodeTable, heard: &mut [Range], ended: &Ended)
     ensures { heard.new ≡ hear_end table.now heard.old ended.now }
 {
+    // the variable of a process is its count of faults
     know(heard, ended.process as usize, ended.faults);
     if let Some(condition) = condition_of(table, ended.process) {
         let number = u8::from(ended.value);
@@ -117,7 +122,7 @@ fn hear_end(table: &NodeTable, heard: &mut [Range], ended: &Ended)
     }
 }
 
-/// Ends are heard, one after another.
+/// Hears ends, one after another.
 fn hear_ends(table: &NodeTable, heard: &mut [Range], ended: &[Ended])
     ensures { heard.new ≡ fold (hear_end table.now) heard.old ended.now }
 {
@@ -126,7 +131,7 @@ fn hear_ends(table: &NodeTable, heard: &mut [Range], ended: &[Ended])
     }
 }
 
-/// The literals of a column hold.
+/// Notes that the literals of a column hold.
 fn cut_column(heard: &mut [Range], columns: &[Column], column: u32)
     ensures { heard.new ≡ cut_all heard.old (get_or columns.now column no_column).cube }
 {
@@ -135,12 +140,13 @@ fn cut_column(heard: &mut [Range], columns: &[Column], column: u32)
     }
 }
 
-/// A frame tells the literals of its column and, for a broadcast, the value.
+/// Hears a frame, which tells the literals of its column and, for a broadcast, the value.
 fn hear_frame(table: &NodeTable, heard: &mut [Range], frame: &Frame)
     ensures { heard.new ≡ hear_frame table.now heard.old frame.now }
 {
     let columns = table.heard_columns(frame.item);
     cut_column(heard, columns, frame.column);
+    // a broadcast: its value stands behind the literals of its column
     if frame.item >= table.first_broadcast() {
         let condition = frame.item - table.first_broadcast();
         let number = u8::from(frame.value);
@@ -148,7 +154,7 @@ fn hear_frame(table: &NodeTable, heard: &mut [Range], frame: &Frame)
     }
 }
 
-/// Frames are heard, one after another.
+/// Hears frames, one after another.
 fn hear_frames(table: &NodeTable, heard: &mut [Range], frames: &[Frame])
     ensures { heard.new ≡ fold (hear_frame table.now) heard.old frames.now }
 {
@@ -157,7 +163,7 @@ fn hear_frames(table: &NodeTable, heard: &mut [Range], frames: &[Frame])
     }
 }
 
-/// What a turn takes is heard: ends, reports and then frames.
+/// Hears what a turn takes: ends, reports and then frames.
 pub fn hear_all(
     table: &NodeTable,
     heard: &mut [Range],
@@ -165,6 +171,7 @@ pub fn hear_all(
     due: &[Ended],
     frames: &[Frame],
 )
+    // first `ended` is heard, then `due`, then `frames`, each in the order of the list
     ensures { heard.new ≡ fold (hear_frame table.now) (fold (hear_end table.now) (fold (hear_end table.now) heard.old ended.now) due.now) frames.now }
 {
     hear_ends(table, heard, ended);
@@ -179,7 +186,7 @@ fn are_contradicted(heard: &[Range]) -> bool
     heard.iter().any(|range| range.high < range.low)
 }
 
-/// Whether the node hears the item of a frame, and by such a column then.
+/// Whether the node hears the item of a frame, by the column that it names, at this time.
 pub fn arrives(table: &NodeTable, arrival: u64, frame: &Frame) -> bool
     ensures { result ≡ arrives table.now arrival frame.now }
 {
@@ -189,13 +196,14 @@ pub fn arrives(table: &NodeTable, arrival: u64, frame: &Frame) -> bool
     }
 }
 
-/// Takes a frame, unless it contradicts what has been heard; then nothing changes.
+/// Takes a frame, unless it contradicts what has been heard. In that case nothing changes.
 pub fn hears(table: &NodeTable, heard: &mut [Range], before: &mut [Range], frame: &Frame) -> bool
     requires { length heard.old ≡ length before.old }
     ensures fits { result ≡ not (list_any is_contradicted (hear_frame table.now heard.old frame.now)) }
     ensures heard { OnTrue result (heard.new ≡ hear_frame table.now heard.old frame.now) }
     ensures same { OnFalse result (heard.new ≡ heard.old) }
 {
+    // what was heard is kept, so that a frame that contradicts it can be taken back
     before.copy_from_slice(heard);
     hear_frame(table, heard, frame);
     if are_contradicted(heard) {

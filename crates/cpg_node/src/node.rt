@@ -16,7 +16,8 @@ use cpg_table::NodeTable;
 use std::alloc::Global;
 use std::marker::Model;
 
-/// A node that acts by its own table and by what it has heard, seen as its dispatcher and the acts of its last turn.
+/// A node, which acts by its own table and by what it has heard. It is seen as its dispatcher and the acts of its last
+/// turn.
 #[derive(Drop)]
 pub struct Node {
     table: NodeTable,
@@ -51,7 +52,7 @@ impl Model for Node {
 }
 
 impl Node {
-    /// The node of a table before its first turn. It takes all room that the node will need.
+    /// The node of a table before its first turn. Reserves all the room that the node will need.
     pub fn new(alloc: Global, table: NodeTable) -> Result<Node, OutOfMemory>
         ensures { IfOk result (λ node. node ≡ record { dispatcher = initial_dispatcher table; acts = [] }) }
     {
@@ -61,6 +62,7 @@ impl Node {
         let plan = plan_of(alloc, &table)?;
         let times = times_of(alloc, &table)?;
         let mut acts = Vec::new(alloc);
+        // an act for each entry of the plan, and a report for each process: no turn needs more room
         acts.reserve(plan.len())?;
         let mut due = Vec::new(alloc);
         due.reserve(running.len())?;
@@ -96,15 +98,15 @@ impl Node {
         Some(running.start)
     }
 
-    /// Whether a process runs on this node and has told of its end, which is kept until the planned end. Any number is
-    /// taken.
+    /// Whether a process runs on this node and has reported its end. The report is kept until the planned end. Any
+    /// process number is accepted.
     pub fn reported(&self, process: u32) -> bool
         ensures { result ≡ has_reported self.now.dispatcher process }
     {
         self.report(process).is_some()
     }
 
-    /// What a process that runs on this node has told of its end. `None` exactly if it hasn't `reported`.
+    /// The report of a process that runs on this node. `None` exactly if it hasn't `reported`.
     pub fn report(&self, process: u32) -> Option<Ended>
         ensures { result ≡ report_of self.now.dispatcher process }
     {
@@ -135,13 +137,15 @@ impl Node {
         self.acts.as_slice()
     }
 
-    /// Takes a frame that arrives at a time. It is strange exactly if the node doesn't hear its item, its column isn't
-    /// there or doesn't arrive then, or what it tells contradicts what has been heard; then nothing changes.
+    /// Takes a frame that arrives at a time. The frame is strange exactly if the node doesn't hear its item, if its
+    /// column isn't there or doesn't arrive then, or if what it tells contradicts what has been heard. A strange frame
+    /// changes nothing.
     pub fn hear(&mut self, arrival: u64, frame: Frame) -> Result<(), StrangeFrame>
         ensures strange { IsErr result ↔ (is_strange self.old.dispatcher arrival frame ≡ true) }
         ensures heard { OnOk result (self.new ≡ record self.old { dispatcher = hear self.old.dispatcher frame }) }
         ensures same { OnErr result (self.new ≡ self.old) }
     {
+        // the table has no such column for the item, or it arrives at another time
         if !arrives(&self.table, arrival, &frame) {
             return Err(StrangeFrame);
         }
@@ -157,8 +161,8 @@ impl Node {
         }
     }
 
-    /// Notes an execution that ended at a time, maybe early. What it tells is kept until its planned end. The contract alone
-    /// names `time`.
+    /// Notes an execution that ended at a time, maybe early. Its report is kept until its planned end. Only the contract
+    /// uses `time`.
     pub fn finished(&mut self, time: u64, ended: Ended)
         requires { MayFinish self.old.dispatcher time ended }
         ensures { self.new ≡ record self.old { dispatcher = finished self.old.dispatcher ended } }
@@ -166,14 +170,17 @@ impl Node {
         note_report(self.table.own(), self.running.as_mut_slice(), ended);
     }
 
-    /// Takes the turn of the next instant: first the ends of executions that haven't been told by `finished`, and the kept
-    /// reports of this instant, then the frames that arrive, and then does all that is planned for it and whose literals
-    /// have been heard.
+    /// Takes the turn of the next instant. It first takes the ends of executions that weren't given to `finished`, and
+    /// the kept reports of this instant, and then the frames that arrive. Then it does every entry that is planned for
+    /// this instant and whose literals have all been heard.
     pub fn turn(&mut self, ended: &[Ended], frames: &[Frame])
         requires { MayTurn self.old.dispatcher ended.now frames.now }
+        // if there is a next turn, the dispatcher is as after it
         ensures turn { IfSome (next self.old.dispatcher) (λ time. self.new.dispatcher ≡ turn self.old.dispatcher time ended.now frames.now) }
+        // if there is a next turn, the acts are those of this turn
         ensures acts { IfSome (next self.old.dispatcher) (λ time. self.new.acts ≡ acts_of_turn self.old.dispatcher time ended.now frames.now) }
     {
+        // no next instant: nothing can happen any more
         let Some(time) = self.next else {
             return;
         };
@@ -190,6 +197,7 @@ impl Node {
             self.due.as_slice(),
             frames,
         );
+        // the entries of this instant are those from the last place up to the first later one
         let plan_end = past_entries(self.plan.as_slice(), self.plan_place, time);
         let plan = &self.plan[self.plan_place..plan_end];
         gather_acts(&self.table, self.heard.as_slice(), plan, &mut self.acts);
@@ -201,9 +209,11 @@ impl Node {
             self.table.own(),
             self.running.as_mut_slice(),
         );
+        // both places go on behind this instant
         self.plan_place = plan_end;
         self.times_place = past_times(self.times.as_slice(), self.times_place, time);
         self.last = Some(time);
+        // the next instant is the next time in the table, or an end that may come before it
         let end = earliest_end(self.table.own(), self.running.as_slice(), time);
         let time = time_at(self.times.as_slice(), self.times_place);
         self.next = earlier(time, end);

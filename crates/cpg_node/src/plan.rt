@@ -15,10 +15,10 @@ use cpg_cube::{Column, Literal};
 use cpg_table::{NodeTable, Row};
 use std::alloc::Global;
 
-/// A column of what a node sends or starts: when it is, and where it stands.
+/// A column of an item that a node sends or starts: its time and its place in the table.
 #[derive(Clone, Copy, Debug, PartialEq, Eq)]
 pub struct Planned {
-    /// When it is, in time units of the graph file.
+    /// Its time, in time units of the graph file.
     pub time: u64,
     /// The place of its row: sends first, then starts.
     pub row: usize,
@@ -65,12 +65,13 @@ fn plan_rows(plan: &mut Vec<Planned>, first: usize, rows: &[Row]) -> Result<(), 
     Ok(())
 }
 
-/// All columns of what a node sends and starts, by time; those of one time by their place.
+/// All columns of what a node sends and starts, in order of time. Those of one time are in order of their places.
 pub fn plan_of(alloc: Global, table: &NodeTable) -> Result<Vec<Planned>, OutOfMemory>
     ensures same { IfOk result (λ plan. SameAtEachTime plan.items (plan_of table.now)) }
     ensures rises { IfOk result (λ plan. IsNonDecreasingBy (λ p. p.time) plan.items) }
 {
     let mut plan = Vec::new(alloc);
+    // sends first, then starts: the sort keeps this order at each time
     plan_rows(&mut plan, 0, table.sends())?;
     plan_rows(&mut plan, table.sends().len(), table.starts())?;
     plan.sort_by_key(|planned| planned.time)?;
@@ -117,7 +118,7 @@ pub fn time_at(times: &[u64], place: usize) -> Option<u64>
     times.get(place).copied()
 }
 
-/// The place of the first time that is later than this, from a place on before which none is.
+/// The place of the first time that is later than this. The search begins at a place before which no time is later.
 pub fn past_times(times: &[u64], from: usize, time: u64) -> usize
     requires within { from ≤ length times.now }
     ensures within { (from ≤ result) × (result ≤ length times.now) }
@@ -125,6 +126,7 @@ pub fn past_times(times: &[u64], from: usize, time: u64) -> usize
     ensures here { (d : ℕ) → result < length times.now → time < slice_index_or times.now result d }
 {
     let mut place = from;
+    // from place to place until the first later time: a turn passes few
     while place < times.len() {
         if times[place] > time {
             return place;
@@ -134,7 +136,7 @@ pub fn past_times(times: &[u64], from: usize, time: u64) -> usize
     place
 }
 
-/// The place of the first entry that is later than this, from a place on before which none is.
+/// The place of the first entry that is later than this. The search begins at a place before which no entry is later.
 pub fn past_entries(plan: &[Planned], from: usize, time: u64) -> usize
     requires within { from ≤ length plan.now }
     ensures within { (from ≤ result) × (result ≤ length plan.now) }
@@ -142,6 +144,7 @@ pub fn past_entries(plan: &[Planned], from: usize, time: u64) -> usize
     ensures here { (d : Planned) → result < length plan.now → time < (slice_index_or plan.now result d).time }
 {
     let mut place = from;
+    // from place to place until the first later entry: a turn passes few
     while place < plan.len() {
         if plan[place].time > time {
             return place;
@@ -151,31 +154,34 @@ pub fn past_entries(plan: &[Planned], from: usize, time: u64) -> usize
     place
 }
 
-/// The columns of the row of a place, none if there is no row.
+/// The columns of the row at a place, or none if there is no row.
 fn columns_at(rows: &[Row], place: usize) -> &[Column]
     ensures { result.now ≡ (get_or rows.now place no_row).columns }
 {
+    // no row stands there
     let Some(row) = rows.get(place) else {
         return &[];
     };
     row.columns()
 }
 
-/// The columns of the row of a place: sends first, then starts.
+/// The columns of the row at a place. Sends come first, then starts.
 fn columns_of(table: &NodeTable, place: usize) -> &[Column]
     ensures { result.now ≡ (get_or (table.now.sends ++ table.now.starts) place no_row).columns }
 {
     let sends = table.sends();
+    // the places of the sends come first, and those of the starts count on from them
     if place < sends.len() {
         return columns_at(sends, place);
     }
     columns_at(table.starts(), place - sends.len())
 }
 
-/// The literals of the column of a place, none if there is no column.
+/// The literals of the column at a place, or none if there is no column.
 fn literals_at(columns: &[Column], place: usize) -> &[Literal]
     ensures { result.now ≡ (get_or columns.now place no_column).cube }
 {
+    // no column stands there, so there is nothing to be heard
     let Some(entry) = columns.get(place) else {
         return &[];
     };
@@ -193,6 +199,7 @@ fn takes(table: &NodeTable, heard: &[Range], planned: &Planned) -> bool
 /// Adds the act of an entry, if all of its literals have been heard.
 fn add_act(table: &NodeTable, heard: &[Range], planned: &Planned, acts: &mut Vec<Act>)
     requires { vec_len acts.old < vec_capacity acts.old }
+    // the act of the entry is added if the node has heard what its column asks for
     ensures added { acts.new.items ≡ acts.old.items ++ map act_of (filter (takes (table.now.sends ++ table.now.starts) heard.now) (planned.now ∷ [])) }
     ensures one { vec_len acts.new ≤ vec_len acts.old + 1 }
     ensures room { vec_capacity acts.new ≡ vec_capacity acts.old }
@@ -212,6 +219,7 @@ pub fn gather_acts(table: &NodeTable, heard: &[Range], plan: &[Planned], acts: &
     ensures acts { acts.new.items ≡ map act_of (filter (takes (table.now.sends ++ table.now.starts) heard.now) plan.now) }
     ensures room { vec_capacity acts.new ≡ vec_capacity acts.old }
 {
+    // the room was reserved for all entries of the plan, so no act needs more
     acts.clear();
     for planned in plan {
         add_act(table, heard, planned, acts);

@@ -7,6 +7,6 @@ use crate::Ended;
 pub struct Running {
     /// When it started, in time units of the graph file.
     pub start: u64,
-    /// What it told if it has ended early.
+    /// Its report, if it has ended early.
     pub report: Option<Ended>,
 }

@@ -1,6 +1,6 @@
-//! Frames that are refused.
+//! Strange frames, which are refused.
 
-/// A frame whose item the node doesn't hear, whose column isn't there or doesn't arrive then, or that contradicts what
-/// has been heard.
+/// A frame is strange if the node doesn't hear its item, if its column isn't there or doesn't arrive then, or if it
+/// contradicts what has been heard.
 #[derive(Clone, Copy, Debug, PartialEq, Eq)]
 pub struct StrangeFrame;

@@ -1,4 +1,4 @@
-//! What a dispatcher is told.
+//! What a dispatcher learns from: ends and frames.
 
 /// The end of an execution.
 #[derive(Clone, Copy, Debug, PartialEq, Eq)]
@@ -11,13 +11,13 @@ pub struct Ended {
     pub value: bool,
 }
 
-/// What comes over the bus.
+/// A frame that comes over the bus.
 #[derive(Clone, Copy, Debug, PartialEq, Eq)]
 pub struct Frame {
     /// The number of the message's or broadcast's item.
     pub item: u32,
     /// The place in the item's row of the column by which it was sent.
     pub column: u32,
-    /// The value that a broadcast carries. It isn't looked at if the item is a message.
+    /// The value that a broadcast carries. A message carries none, and its value is ignored.
     pub value: bool,
 }

@@ -25,13 +25,14 @@ use Rattle.cpg_order.proofs.Along.{is_in_from}
 
 -- ---- edges between processes
 
--- an edge of the graph is one from its source to its target
+-- each edge of the graph leads from its source to its target
 pub has_edge_from : (g : Graph) (e : ℕ) → e < edge_count g → has_edge g (source g e) (target g e) ≡ true
 has_edge_from g e h = list_any_true (λ f. (f.from == source g e) && (f.to == target g e)) g.edges (edge_at g e)
     (Contains-get_or g.edges e _ h)
     (and_from (source g e == source g e) (target g e == target g e) (eq-eqb (source g e) (source g e) refl)
     (eq-eqb (target g e) (target g e) refl))
 
+-- an input of a process is an edge from its source to the process
 pub has_edge_of_input : (g : Graph) (p e : ℕ) → Contains (inputs g p) e → has_edge g (source g e) p ≡ true
 has_edge_of_input g p e c = let r = inputs_parts g p e c in
     subst (λ q. has_edge g (source g e) q ≡ true) r.1 (has_edge_from g e r.0)
@@ -39,6 +40,7 @@ has_edge_of_input g p e c = let r = inputs_parts g p e c in
 -- ---- a topological order leaves no cycle
 
 module _ (g : Graph) (order : List ℕ) (topological : IsTopological g order) where
+  -- an edge from p to q is in the list of edges, so p comes before q in a topological order
   has_edge_goes_up : (p q : ℕ) → has_edge g p q ≡ true → place order p < place order q
   has_edge_goes_up p q t =
       let r = list_any_parts (λ f. (f.from == p) && (f.to == q)) g.edges t in
@@ -50,6 +52,7 @@ module _ (g : Graph) (order : List ℕ) (topological : IsTopological g order) wh
       subst (λ x. place order x < place order q) from
       (subst (λ x. place order (source g e) < place order x) to (edge_goes_up g order topological e r.1.1))
 
+  -- along a cycle no place is below that of its first process
   places_grow : (walk : List ℕ) → IsCycle g walk → (k : ℕ) → k < length walk →
       place order (get_or walk 0 0) ≤ place order (get_or walk k 0)
   places_grow walk is zero l = omega arith
@@ -59,6 +62,7 @@ module _ (g : Graph) (order : List ℕ) (topological : IsTopological g order) wh
       ap (λ i. get_or walk i 0) (let e : k + 1 ≡ suc k = omega arith in e) in
       omega (arith, places_grow walk is k (omega arith), ap (place order) at)
 
+  -- a graph with a topological order has no cycle
   pub no_cycle : HasCycle g → ⊥
   no_cycle (walk, is) =
       let round_up = has_edge_goes_up (get_or walk (length walk - 1) 0) (get_or walk 0 0) is.back in
@@ -76,6 +80,7 @@ pub record IsWalkBack (g : Graph) (walk : List ℕ) (process : ℕ) : Type 0 whe
   pub last : 0 < length walk → has_edge g process (get_or walk (length walk - 1) 0) ≡ true
 
 module _ (g : Graph) where
+  -- the empty walk is a walk back, and any process may come first
   pub walk_none : (process : ℕ) → IsWalkBack g [] process
   walk_none process = record {
     apart = AllPairs-nil (λ p q. p ≢ q);
@@ -94,6 +99,7 @@ module _ (g : Graph) where
     end_is : get_or (walk ++ process ∷ []) (length walk) 0 ≡ process
     end_is = get_or-append_seam walk process [] 0
 
+    -- with one more process at its end, the walk still has an edge to each process from the next
     next_more : (k : ℕ) → k + 1 < length walk + 1 →
         has_edge g (get_or (walk ++ process ∷ []) (k + 1) 0) (get_or (walk ++ process ∷ []) k 0) ≡ true
     next_more k l = elim (cases_lt (k + 1) (length walk)) [
@@ -105,6 +111,7 @@ module _ (g : Graph) where
           (grown k (omega arith) ∙ ap (λ i. get_or walk i 0) f) ∙ is.last (omega arith)
     ]
 
+    -- a process that is not in the walk back is added to it, and a process with an edge to it comes next
     pub walk_more : (next : ℕ) → process < process_count g → is_in walk process ≡ false →
         has_edge g next process ≡ true →
         IsWalkBack g (walk ++ process ∷ []) next
@@ -129,7 +136,7 @@ module _ (g : Graph) where
           ap (λ i. has_edge g next (get_or (walk ++ process ∷ []) i 0)) e ∙ ap (has_edge g next) end_is ∙ edge);
     }
 
-    -- if it meets itself, there is a cycle
+    -- if the walk back meets itself, the walk from that place on is a cycle
     pub walk_meets : (from : ℕ) → from < length walk → get_or walk from 0 ≡ process → IsCycleBack g (drop from walk)
     walk_meets from l at =
         let long = length-drop from walk in
@@ -161,10 +168,12 @@ down_before m n k l = ap (λ b. if b then m - k else m + n - k) (le-leb k m l)
 down_after : (m n k : ℕ) → m < k → place_down m n k ≡ m + n - k
 down_after m n k l = ap (λ b. if b then m - k else m + n - k) (lt-leb k m l)
 
+-- going down and around stays among the n places
 pub down_within : (m n k : ℕ) → m < n → k < n → place_down m n k < n
 down_within m n k h l =
     elim (cases_lt m k) [ inl a ↦ omega (arith, down_after m n k a) | inr b ↦ omega (arith, down_before m n k b) ]
 
+-- going down and around takes no place twice in n steps
 pub down_apart : (m n i j : ℕ) → m < n → i < j → j < n → place_down m n i ≢ place_down m n j
 down_apart m n i j h a b e = elim (cases_lt m i) [
   | inl c ↦ omega (arith, down_after m n i c, down_after m n j (omega arith))
@@ -174,7 +183,7 @@ down_apart m n i j h a b e = elim (cases_lt m i) [
   ]
 ]
 
--- one further down, or from the lowest to the highest
+-- the next place is one further down, or the highest after the lowest
 pub down_next : (m n k : ℕ) → m < n → k < n →
     ((place_down m n k ≡ 0) × (place_down m n (k + 1) ≡ n - 1)) ⊎
     ((0 < place_down m n k) × (place_down m n (k + 1) + 1 ≡ place_down m n k))
@@ -188,13 +197,17 @@ down_next m n k h l = elim (cases_order k m) [
       inr (omega (arith, down_after m n k b), omega (arith, down_after m n k b, down_after m n (k + 1) (omega arith)))
 ]
 
+-- going down begins at the place m
 pub down_first : (m n : ℕ) → place_down m n 0 ≡ m
 down_first m n = omega (arith, down_before m n 0 (omega arith))
 
+-- going down n steps comes back to the place m
 pub down_around : (m n : ℕ) → m < n → place_down m n n ≡ m
 down_around m n h = omega (arith, down_after m n n h)
 
+-- given a cycle against the edges, and a place in it
 module _ (g : Graph) (back : List ℕ) (is : IsCycleBack g back) (m : ℕ) (inside : m < length back) where
+  -- each step down and around goes along an edge
   edge_down : (k : ℕ) → k < length back →
       has_edge g (get_or back (place_down m (length back) k) 0) (get_or back (place_down m (length back) (k + 1)) 0)
       ≡ true
@@ -204,6 +217,7 @@ module _ (g : Graph) (back : List ℕ) (is : IsCycleBack g back) (m : ℕ) (insi
         ∙ is.next (place_down m (length back) (k + 1)) (omega (arith, down_within m (length back) k inside l))
   ]
 
+  -- going down and around meets no process twice
   down_elements_apart : (i j : ℕ) → i < j → j < length back →
       get_or back (place_down m (length back) i) 0 ≢ get_or back (place_down m (length back) j) 0
   down_elements_apart i j a b e =
@@ -215,6 +229,7 @@ module _ (g : Graph) (back : List ℕ) (is : IsCycleBack g back) (m : ℕ) (insi
         | inr (inr l) ↦ is.apart (place_down m (length back) j) (place_down m (length back) i) 0 l p (sym e)
       ]
 
+  -- a cycle against the edges, read backwards from its least process on, is a cycle of the graph
   pub cycle_from_back : (walk : List ℕ) →
       walk ≡ map (λ k. get_or back (place_down m (length back) k) 0) (numbers_below (length back))
       → ((k : ℕ) → k < length back → get_or back m 0 ≤ get_or back k 0) → IsCycle g walk

@@ -13,6 +13,7 @@ module _ (key : ℕ → ℕ) where
   abbrev pub with_key : ℕ → ℕ → List ℕ
   with_key n k = filter (λ x. key x == k) (numbers_below n)
 
+  -- when the number n is added to the list of its key, each list has the numbers up to n with its key
   filed_at : (n k i : ℕ) (lists : List (List ℕ)) → key n < k → i < k → lists ≡ map (with_key n) (numbers_below k) →
       get_or (set lists (key n) (with_key n (key n) ++ n ∷ [])) i [] ≡ with_key (n + 1) i
   filed_at n k i lists h l is =
@@ -51,5 +52,6 @@ module _ (key : ℕ → ℕ) where
       was ∙ ap (λ xs. get_or xs at old) is ∙ get_or-map-below (with_key n) k at old h ∙ ap (with_key n) e in
       ap₂ (set lists) e (then ∙ ap (λ xs. xs ++ n ∷ []) found) ∙ filed n k lists (subst (λ a. a < k) e h) is
 
+  -- there is one list for each of the k keys
   pub length_filed : (n k : ℕ) (lists : List (List ℕ)) → lists ≡ map (with_key n) (numbers_below k) → length lists ≡ k
   length_filed n k lists is = ap length is ∙ length-map-range_with_len (with_key n) 0 k

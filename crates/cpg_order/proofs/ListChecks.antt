@@ -28,6 +28,7 @@ pub record AreSeen (list : List ℕ) (seen : List Bool) (i : ℕ) : Type 0 where
   pub marks : (x : ℕ) → x < length list → get_or seen x false ≡ is_in (take i list) x
 
 module _ (list : List ℕ) where
+  -- before the first number no place is marked
   pub seen_none : (seen : List Bool) → seen ≡ replicate (length list) false → AreSeen list seen 0
   seen_none seen is = record {
     long = ap length is ∙ length-replicate (length list) false;
@@ -36,7 +37,9 @@ module _ (list : List ℕ) where
     marks = λ x l. ap (λ s. get_or s x false) is ∙ get_or-replicate (length list) x false false l;
   }
 
+  -- given marks for the first i numbers, and one more number
   module _ (seen : List Bool) (i : ℕ) (are : AreSeen list seen i) (l : i < length list) where
+    -- the next number is below the length and not marked yet, so it is marked
     pub seen_more : get_or list i 0 < length list → get_or seen (get_or list i 0) false ≡ false →
         AreSeen list (set seen (get_or list i 0) true) (i + 1)
     seen_more small fresh =
@@ -73,28 +76,31 @@ module _ (list : List ℕ) where
               ];
         }
 
-    -- what it means that the test fails
+    -- a number that is not below the length shows that the list doesn't have each number once
     pub not_great : length list ≤ get_or list i 0 → IsPermutation (numbers_below (length list)) list → ⊥
     not_great h all = omega (arith, from_order (length list) list all (get_or list i 0) (Contains-get_or list i 0 l))
 
+    -- a list in which a number occurs twice doesn't have each number once
     pub not_twice : get_or list i 0 < length list → get_or seen (get_or list i 0) false ≡ true →
         IsPermutation (numbers_below (length list)) list → ⊥
     not_twice small old all = both_ways (is_in (take i list) (get_or list i 0))
         (apart_before list i (order_apart (length list) list all) l) (sym (are.marks (get_or list i 0) small) ∙ old)
 
+  -- a list in which all numbers are below its length and differ has each number once
   pub all_seen : (seen : List Bool) → AreSeen list seen (length list) → IsPermutation (numbers_below (length list)) list
   all_seen seen are =
       let whole = take_all (length list) list (omega arith) in
       permutation_of_all (length list) list (subst (AllPairs (λ x y. x ≢ y)) whole are.apart)
       (λ x c. are.below x (subst (λ xs. Contains xs x) (sym whole) c)) (omega arith)
 
--- an edge that leads to a later place
+-- a process with an earlier place comes before one with a later place
 pub comes_before_at : (order : List ℕ) → IsOrder order → (p q a b : ℕ) → p < length order → a ≡ place order p →
     b ≡ place order q → a < b →
     comes_before order p q ≡ true
 comes_before_at order lawful p q a b l x y h =
     comes_before_from_places order p q (Contains-order (length order) order lawful.all p l) (omega arith)
 
+-- a process whose place is not earlier than another's doesn't come before it
 pub not_before_at : (order : List ℕ) (p q a b : ℕ) → a ≡ place order p → b ≡ place order q → b ≤ a →
     comes_before order p q ≡ true → ⊥
 not_before_at order p q a b x y h t = omega (arith, places_from_comes_before order p q t)

@@ -27,16 +27,18 @@ turn-le : (b : Bool) (n : ℕ) → (if b then n else 0) ≤ n
 turn-le true n = omega arith
 turn-le false n = omega arith
 
--- the tails of the last processes of the order are found, and none is longer than so many processes allow
+-- the tails of the last `done` processes of the order are found, and no tail is longer than these processes allow
 pub record AreFound (g : Graph) (order tails : List ℕ) (done : ℕ) : Type 0 where
   pub long : length tails ≡ process_count g
   pub found : (p : ℕ) → p < process_count g → process_count g ≤ done + place order p → get_or tails p 0 ≡ tail g p
   pub low : (p : ℕ) → get_or tails p 0 ≤ done * 700000000000
 
+-- given a topological order of a graph within the limits
 module _ (g : Graph) (within : IsWithinLimits g) (order : List ℕ) (topological : IsTopological g order) where
   order_long : length order ≡ process_count g
   order_long = length_order (process_count g) order topological.all
 
+  -- at the start, with zeros alone, no tail is found
   pub none_found : (tails : List ℕ) → length tails ≡ process_count g →
       ((p : ℕ) → p < process_count g → get_or tails p 0 ≡ 0) →
       AreFound g order tails 0
@@ -50,15 +52,17 @@ module _ (g : Graph) (within : IsWithinLimits g) (order : List ℕ) (topological
     ];
   }
 
+  -- given the tails of the last `done` processes, and the process before them
   module _ (tails : List ℕ) (done p : ℕ) (are : AreFound g order tails done) (inside : p < process_count g)
       (at : place order p + done + 1 ≡ process_count g) where
+    -- a bound on the longest way over an edge, when some tails are found
     pub longest_from-le : longest_from g tails p ≤ 16000000000 + done * 700000000000
     longest_from-le = greatest-le _ _ (λ x c.
         let r = Contains-map_parts (λ e. (if is_message g e then round g else 0) + get_or tails (target g e) 0)
         (outputs g p) x c in
         omega (arith, r.2, turn-le (is_message g r.0) (round g), round-le g within, are.low (target g r.0)))
 
-    -- the next tail
+    -- the duration of the next process and the longest way over its outputs are its tail
     pub next_tail : duration g p 0 + longest_from g tails p ≡ tail g p
     next_tail = ap (λ xs. duration g p 0 + greatest xs) (same_map _ _ (outputs g p)
         (λ e c. ap (λ x. (if is_message g e then round g else 0) + x)
@@ -72,6 +76,7 @@ module _ (g : Graph) (within : IsWithinLimits g) (order : List ℕ) (topological
         ∙ ap (λ k. get_or order k 0) e
         ∙ get_or-place order p 0 (Contains-order (process_count g) order topological.all p inside)
 
+    -- with the tail of the next process, going backwards through the order, one more is found
     pub found_more : AreFound g order (set tails p (duration g p 0 + longest_from g tails p)) (done + 1)
     found_more = record {
       long = length-set tails p _ ∙ are.long;
@@ -95,6 +100,7 @@ module _ (g : Graph) (within : IsWithinLimits g) (order : List ℕ) (topological
       ];
     }
 
+  -- with as many tails as processes, the list has the tail of each process
   pub all_found : (tails : List ℕ) → AreFound g order tails (process_count g) →
       tails ≡ map (tail g) (numbers_below (process_count g))
   all_found tails are = ext_get_or 0 tails (map (tail g) (numbers_below (process_count g)))
@@ -102,7 +108,7 @@ module _ (g : Graph) (within : IsWithinLimits g) (order : List ℕ) (topological
       (λ p l. let h : p < process_count g = omega (arith, are.long) in
       are.found p h (omega arith) ∙ sym (get_or-map-below (tail g) (process_count g) p 0 h))
 
--- the next tail, as code finds it
+-- the longest way over the outputs, as code finds it
 pub way_is : (g : Graph) (turn p : ℕ) (outs found tails : List ℕ) → turn ≡ round g → found ≡ tails → outs ≡ outputs g p
     → greatest (map (λ e. (if is_message g e then turn else 0) + get_or found (target g e) 0) outs)
     ≡ longest_from g tails p

@@ -31,12 +31,13 @@ module _ (R : ℕ → ℕ → Type 0) (chain : (p q r : ℕ) → R p q → R q r
       (subst (λ k. R (get_or xs (i + gap + 1) 0) (get_or xs k 0))
       (let e : i + gap + 1 + 1 ≡ i + suc gap + 1 = omega arith in e) (next (i + gap + 1) (omega arith)))
 
+  -- what holds of all neighbours, and goes on from pair to pair, holds of all pairs
   pub all_pairs_from_next : AllPairs R xs
   all_pairs_from_next i j d h l = subst₂ R (get_or_default xs i 0 d (omega arith)) (get_or_default xs j 0 d l)
       (subst (λ k. R (get_or xs i 0) (get_or xs k 0)) (let e : i + (j - i - 1) + 1 ≡ j = omega arith in
       e) (ahead (j - i - 1) i (omega arith)))
 
--- what two ranks say that are not in the wrong order
+-- of two ranks in order the first has the longer way, or the same way and no greater number
 pub in_order : (a b p q : ℕ) → is_lt (ordering_then (nat_cmp a b) (nat_cmp q p)) ≡ false → (b < a) ⊎ ((a ≡ b) × (p ≤ q))
 in_order a b p q h = grind (arith, common_steps)
 
@@ -57,6 +58,7 @@ module _ (tails : List ℕ) (sorted : List UrgencyRank)
       (sym (get_or-map (rank_of tails) (numbers_below (length tails)) k 0 d
       (omega (arith, length-map (numbers_below (length tails)) (rank_of tails))))) refl)
 
+  -- of two neighbours in the sorted ranks the first goes first
   one_after : (k : ℕ) (r s : UrgencyRank) → k + 1 < length sorted → r ≡ get_or sorted k r →
       s ≡ get_or sorted (k + 1) r →
       (s.tail.0 < r.tail.0) ⊎ ((r.tail.0 ≡ s.tail.0) × (r.process ≤ s.process)) →
@@ -81,6 +83,7 @@ module _ (tails : List ℕ) (sorted : List UrgencyRank)
             (omega arith) (omega arith)
       ]
 
+  -- the processes of sorted ranks are ranked: a longer way first, and of equal ones the lower number
   pub ranked_from_sorted : ((k : ℕ) (d : UrgencyRank) → k + 1 < length sorted →
       ((get_or sorted (k + 1) d).tail.0 < (get_or sorted k d).tail.0) ⊎
       (((get_or sorted k d).tail.0 ≡ (get_or sorted (k + 1) d).tail.0) ×
@@ -106,6 +109,7 @@ module _ (tails : List ℕ) (sorted : List UrgencyRank)
 
 -- ---- the urgency order
 
+-- processes ranked by their tails are in urgency order
 pub urgency_from_ranks : (g : Graph) (tails order : List ℕ) → tails ≡ map (tail g) (numbers_below (process_count g)) →
     AreRanked tails order →
     IsUrgencyOrder g order

@@ -29,7 +29,7 @@ use Rattle.cpg_base.proofs.Places.{place-lt, get_or-place, comes_before_from}
 
 -- ---- numbers below a bound, without repeats
 
--- there are no more of them
+-- there are at most n different numbers below n
 pub length-le_below : (n : ℕ) (xs : List ℕ) → AllPairs (λ x y. x ≢ y) xs → ((x : ℕ) → Contains xs x → x < n) →
     length xs ≤ n
 length-le_below n xs apart below =
@@ -43,13 +43,13 @@ apart_more x xs apart out = AllPairs-cons_by (λ x y. x ≢ y) x xs
 below_more : (n x : ℕ) (xs : List ℕ) → x < n → ((y : ℕ) → Contains xs y → y < n) → (y : ℕ) → Contains (x ∷ xs) y → y < n
 below_more n x xs l below y c = elim (Contains-cases x xs y c) [ inl e ↦ subst (λ z. z < n) e l | inr d ↦ below y d ]
 
--- one that is not there leaves room for it
+-- a number below n that is not among different ones leaves fewer than n of them
 pub length-lt_below : (n x : ℕ) (xs : List ℕ) → AllPairs (λ x y. x ≢ y) xs → ((x : ℕ) → Contains xs x → x < n) → x < n →
     is_in xs x ≡ false → length xs < n
 length-lt_below n x xs apart below l out =
     length-le_below n (x ∷ xs) (apart_more x xs apart out) (below_more n x xs l below)
 
--- as many as the bound are all
+-- if n different numbers are below n, each number below n is among them
 pub has_all : (n : ℕ) (xs : List ℕ) → AllPairs (λ x y. x ≢ y) xs → ((x : ℕ) → Contains xs x → x < n) → n ≤ length xs →
     (x : ℕ) → x < n → Contains xs x
 has_all n xs apart below long x l = elim (cases_Bool (is_in xs x)) [
@@ -57,17 +57,19 @@ has_all n xs apart below long x l = elim (cases_Bool (is_in xs x)) [
   | inr f ↦ absurd (omega (arith, length-lt_below n x xs apart below l f))
 ]
 
+-- n different numbers below n are all of them
 pub permutation_of_all : (n : ℕ) (xs : List ℕ) → AllPairs (λ x y. x ≢ y) xs → ((x : ℕ) → Contains xs x → x < n) →
     n ≤ length xs →
     IsPermutation (numbers_below n) xs
 permutation_of_all n xs apart below long = permutation_of_same (numbers_below n) xs (numbers_apart n) apart
     (λ x c. has_all n xs apart below long x (numbers-Contains n x c)) (λ x c. Contains-numbers n x (below x c))
 
--- ---- what is ready
+-- ---- ready processes
 
 abbrev Apart : List ℕ → Type 0
 Apart xs = AllPairs (λ x y. x ≢ y) xs
 
+-- at the start those processes are ready that wait for no input
 pub ready_first : (waiting ready : List ℕ) →
     ready ≡ filter (λ p. get_or waiting p 0 == 0) (numbers_below (length waiting)) →
     AreReady waiting ready
@@ -83,6 +85,7 @@ ready_first waiting ready is = record {
       (eq-eqb (get_or waiting p 0) 0 e) (Contains-numbers (length waiting) p l));
 }
 
+-- given a process that waits, and the number of inputs for which it waits from now on
 module _ (waiting ready : List ℕ) (are : AreReady waiting ready) (p left : ℕ) (waits_still : 0 < get_or waiting p 0)
     (inside : p < length waiting) where
   other_than : (q : ℕ) → Contains ready q → q ≢ p
@@ -96,6 +99,7 @@ module _ (waiting ready : List ℕ) (are : AreReady waiting ready) (p left : ℕ
   kept_all q n l e =
       are.all q (omega (arith, length-set waiting p left)) (sym (get_or-set_other waiting p q left 0 n) ∙ e)
 
+  -- while a process still waits for inputs, the same processes are ready
   pub ready_kept : left ≢ 0 → AreReady (set waiting p left) ready
   ready_kept some = record {
     apart = are.apart;
@@ -107,6 +111,7 @@ module _ (waiting ready : List ℕ) (are : AreReady waiting ready) (p left : ℕ
     ];
   }
 
+  -- a process that waits for no more inputs becomes ready
   pub ready_more : left ≡ 0 → AreReady (set waiting p left) (ready ++ p ∷ [])
   ready_more none = record {
     apart = AllPairs-append (λ x y. x ≢ y) ready (p ∷ []) are.apart
@@ -146,6 +151,7 @@ passing_if : (p : ℕ → Bool) (b : Bool) (x : ℕ) (xs : List ℕ) →
 passing_if p true x xs = passing_one p x xs
 passing_if p false x xs = omega arith
 
+-- as many pass in two lists together as in each of them, added up
 pub passing-append : (p : ℕ → Bool) (xs ys : List ℕ) → passing p (xs ++ ys) ≡ passing p xs + passing p ys
 passing-append p [] ys = omega arith
 passing-append p (x ∷ xs) ys = let r = passing-append p xs ys in
@@ -153,17 +159,20 @@ passing-append p (x ∷ xs) ys = let r = passing-append p xs ys in
     let b = passing_one p x xs in
     omega arith
 
+-- if none passes, each of the list fails
 pub none_passing : (p : ℕ → Bool) (xs : List ℕ) (x : ℕ) → passing p xs ≡ 0 → Contains xs x → p x ≡ false
 none_passing p xs x none c = elim (cases_Bool (p x)) [
   | inl t ↦ absurd (let k = Contains-filter p xs x t c in omega (arith, k.1))
   | inr f ↦ f
 ]
 
+-- if some of a list pass, there is one that does
 pub some_passing : (p : ℕ → Bool) (xs : List ℕ) → 0 < passing p xs → (x : ℕ) × Contains xs x × (p x ≡ true)
 some_passing p xs h = let x = get_or (filter p xs) 0 0 in
     let r = Contains-filter_parts p xs x (Contains-get_or (filter p xs) 0 0 h) in
     (x, r.0, r.1)
 
+-- if all pass, as many pass as there are
 pub all_passing : (p : ℕ → Bool) (xs : List ℕ) → ((x : ℕ) → p x ≡ true) → passing p xs ≡ length xs
 all_passing p [] h = refl
 all_passing p (x ∷ xs) h = let r = all_passing p xs h in
@@ -171,6 +180,7 @@ all_passing p (x ∷ xs) h = let r = all_passing p xs h in
     let t : cond {A = ℕ} (p x) 1 0 ≡ 1 = ap {B = ℕ} (λ b. cond b 1 0) (h x) in
     omega arith
 
+-- one element is counted alike on both sides
 one_of : (tx sx ux vx : Bool) (a b c : ℕ) → (sx ≡ true → ux ≡ true) → (sx ≡ true → vx ≡ false) →
     (sx ≡ false → ux ≡ vx) → a ≡ b + c
     → cond tx (cond ux 1 0) 0 + a ≡ cond tx (cond vx 1 0) 0 + b + (cond sx (cond tx 1 0) 0 + c)
@@ -218,6 +228,7 @@ not_false true e = refl
 not_false false e = sym e
 
 module _ (g : Graph) (settled : List ℕ) (p : ℕ) (fresh : is_in settled p ≡ false) where
+  -- when p is settled, each process waits for fewer inputs: fewer by its edges from p
   pub waits_fewer : (q : ℕ) →
       waits g settled q ≡ waits g (settled ++ p ∷ []) q + passing (λ e. target g e == q) (outputs g p)
   waits_fewer q = passing_split (λ e. target g e == q) (λ e. source g e == p) (λ e. not (is_in settled (source g e)))
@@ -234,7 +245,7 @@ module _ (g : Graph) (settled : List ℕ) (p : ℕ) (fresh : is_in settled p ≡
         | inr e' ↦ absurd (both_ways (source g e == p) f (eq-eqb (source g e) p (sym e')))
       ]))
 
--- what waits for nothing has its sources among the settled
+-- a process that waits for no input has the sources of all its inputs among the settled processes
 pub sources_settled : (g : Graph) (settled : List ℕ) (p : ℕ) → waits g settled p ≡ 0 → (e : ℕ) →
     Contains (inputs g p) e →
     Contains settled (source g e)
@@ -252,6 +263,7 @@ Contains-take xs i j x l c =
       get_or-take j xs c.0 x (omega (arith, c.1)) ∙ sym (get_or-take i xs c.0 x (omega (arith, c.1))) ∙ c.2,
     )
 
+-- in a list of different numbers none occurs before its own place
 pub apart_before : (xs : List ℕ) (d : ℕ) → Apart xs → d < length xs → is_in (take d xs) (get_or xs d 0) ≡ false
 apart_before xs d apart l = elim (cases_Bool (is_in (take d xs) (get_or xs d 0))) [
   | inl t ↦
@@ -263,6 +275,7 @@ apart_before xs d apart l = elim (cases_Bool (is_in (take d xs) (get_or xs d 0))
 ]
 
 module _ (g : Graph) (waiting : List ℕ) where
+  -- at the start no process is settled, and each waits for all its inputs
   pub settled_first : (ready : List ℕ) → length waiting ≡ process_count g →
       ((p : ℕ) → p < process_count g → get_or waiting p 0 ≡ length (inputs g p)) →
       AreReady waiting ready →
@@ -281,7 +294,9 @@ module _ (g : Graph) (waiting : List ℕ) where
             (sym (none (get_or ready k 0) (subst (λ n. get_or ready k 0 < n) long r.0)) ∙ r.1) e c));
       }
 
+  -- given that the first d processes are settled, and one more is ready
   module _ (d : ℕ) (ready : List ℕ) (are : AreSettled g d waiting ready) (more : d < length ready) where
+    -- when the next process is settled, each process waits for fewer inputs, by its edges from this one
     fewer : (q : ℕ) →
         waits g (take d ready) q
         ≡ waits g (take (d + 1) ready) q + passing (λ e. target g e == q) (outputs g (get_or ready d 0))
@@ -289,6 +304,7 @@ module _ (g : Graph) (waiting : List ℕ) where
         ∙ ap (λ xs. waits g xs q + passing (λ e. target g e == q) (outputs g (get_or ready d 0)))
         (sym (take_more ready d 0 more))
 
+    -- no process has more inputs from the next settled process than it waits for
     pub enough : ((e : ℕ) → e < edge_count g → target g e < process_count g) → (q : ℕ) →
         passing (λ e. target g e == q) (outputs g (get_or ready d 0)) ≤ get_or waiting q 0
     enough ends q = elim (cases_lt q (process_count g)) [
@@ -302,6 +318,7 @@ module _ (g : Graph) (waiting : List ℕ) where
       ]
     ]
 
+    -- one more process is settled when its outputs no longer count as waited for
     pub settled_more : (waiting' new rest : List ℕ) → new ≡ ready ++ rest → length waiting' ≡ length waiting →
         AreReady waiting' new
         → ((q : ℕ) → get_or waiting' q 0 + passing (λ e. target g e == q) (outputs g (get_or ready d 0))
@@ -339,10 +356,11 @@ module _ (g : Graph) (waiting ready : List ℕ) (are : AreSettled g (length read
   ready_below : (p : ℕ) → Contains ready p → p < process_count g
   ready_below p c = subst (λ n. p < n) are.long (are.listed.free p c).0
 
+  -- if as many processes are settled as there are, they are all processes, each once
   pub settled_all : process_count g ≤ length ready → IsPermutation (numbers_below (process_count g)) ready
   settled_all long = permutation_of_all (process_count g) ready are.listed.apart ready_below long
 
-  -- each edge leads to a later place
+  -- if all processes are settled, they stand in a topological order
   pub settled_topological : ((e : ℕ) → e < edge_count g → target g e < process_count g) →
       process_count g ≤ length ready →
       IsTopological g ready
@@ -361,6 +379,7 @@ module _ (g : Graph) (waiting ready : List ℕ) (are : AreSettled g (length read
   waits_for : (p : ℕ) → p < process_count g → get_or waiting p 0 ≡ waits g ready p
   waits_for p l = are.counts p l ∙ ap (λ xs. waits g xs p) (take_all (length ready) ready (omega arith))
 
+  -- a process that isn't ready waits for some input
   still_waits : (p : ℕ) → p < process_count g → is_in ready p ≡ false → 0 < get_or waiting p 0
   still_waits p l out = elim (cases_eq (get_or waiting p 0) 0) [
     | inl e ↦ absurd
@@ -368,7 +387,7 @@ module _ (g : Graph) (waiting ready : List ℕ) (are : AreSettled g (length read
     | inr n ↦ omega arith
   ]
 
-  -- if some are left, each of them waits for another
+  -- if some processes are left, each of them waits for another one of them
   pub settled_stuck : ((e : ℕ) → e < edge_count g → source g e < process_count g) → length ready < process_count g →
       AreStuck g waiting
   settled_stuck ends short = record {
@@ -405,16 +424,19 @@ passing-take-le p xs i =
     let e : passing p xs ≡ passing p (take i xs ++ drop i xs) = ap (passing p) (sym (take-append-drop i xs)) in
     omega (arith, passing-append p (take i xs) (drop i xs))
 
+-- before a place that passes, fewer pass than in the whole list
 pub passing_next : (p : ℕ → Bool) (xs : List ℕ) (i : ℕ) → i < length xs → p (get_or xs i 0) ≡ true →
     passing p (take i xs) + 1 ≤ passing p xs
 passing_next p xs i l t =
     let one : cond {A = ℕ} (p (get_or xs i 0)) 1 0 ≡ 1 = ap {B = ℕ} (λ b. cond b 1 0) t in
     omega (arith, passing-take-le p xs (i + 1), length-filter_more p xs i 0 l)
 
+-- a process that waits is in the list
 pub within_waiting : (waiting : List ℕ) (p : ℕ) → 0 < get_or waiting p 0 → p < length waiting
 within_waiting waiting p h =
     elim (cases_lt p (length waiting)) [ inl l ↦ l | inr l ↦ absurd (omega (arith, get_or_past waiting p 0 l)) ]
 
+-- after one more edge its target waits for one input less, and the sums with the edges done stay the same
 pub left_next : (f : ℕ → ℕ) (xs waiting next : List ℕ) (old : ℕ → ℕ) (i t : ℕ) → i < length xs → t ≡ f (get_or xs i 0) →
     0 < get_or waiting t 0 →
     next ≡ set waiting t (get_or waiting t 0 - 1)
@@ -439,11 +461,13 @@ left_next f xs waiting next old i t l at some is left p =
           omega (arith, left p)
     ]
 
+-- no more processes are ready than there are
 pub ready-le : (g : Graph) (waiting ready : List ℕ) (d : ℕ) → AreSettled g d waiting ready →
     length ready ≤ process_count g
 ready-le g waiting ready d are = length-le_below (process_count g) ready are.listed.apart
     (λ p c. subst (λ n. p < n) are.long (are.listed.free p c).0)
 
+-- each ready process is a process of the graph
 pub ready_within : (g : Graph) (waiting ready : List ℕ) (d k : ℕ) → AreSettled g d waiting ready → k < length ready →
     get_or ready k 0 < process_count g
 ready_within g waiting ready d k are l =

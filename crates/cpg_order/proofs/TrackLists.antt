@@ -23,18 +23,20 @@ use Rattle.cpg_order.proofs.ScenariosApart.{outcomes_apart, length-outcomes}
 use Rattle.cpg_order.specs.Track.{is_track, is_outcome_before, AreTracks}
 
 module _ (g : Graph) where
+  -- a condition with a more urgent process is an earlier condition
   pub Contains-earlier : (c d : ℕ) → d < condition_count g → is_more_urgent g (process_of g d) (process_of g c) ≡ true →
       Contains (earlier_conditions g c) d
   Contains-earlier c d l m = Contains-filter (λ d. is_more_urgent g (process_of g d) (process_of g c))
       (numbers_below (condition_count g)) d m (Contains-numbers (condition_count g) d l)
 
+  -- an earlier condition is one of the graph, with a more urgent process
   pub earlier_parts : (c d : ℕ) → Contains (earlier_conditions g c) d →
       (d < condition_count g) × (is_more_urgent g (process_of g d) (process_of g c) ≡ true)
   earlier_parts c d k = let r = Contains-filter_parts (λ d. is_more_urgent g (process_of g d) (process_of g c))
       (numbers_below (condition_count g)) d k in
       (numbers-Contains (condition_count g) d r.0, r.1)
 
-  -- two conditions are of different processes
+  -- different conditions are of different processes
   pub conditions_apart : (c d : ℕ) → c < condition_count g → d < condition_count g → c ≢ d →
       process_of g c ≢ process_of g d
   conditions_apart c d l m ne e = ne (same_condition g c d l m e)
@@ -46,6 +48,7 @@ module _ (g : Graph) where
     pub other : get_or p c false ≡ true
     pub same : agree_on (earlier_conditions g c) o p ≡ true
 
+  -- an outcome that comes before another is false at the first condition at which they differ
   pub before_parts : (o p : List Bool) → is_outcome_before g o p ≡ true → (c : ℕ) × FirstDiffers o p c
   before_parts o p e =
       let r = list_any_parts (λ c. not (get_or o c false) && get_or p c false && agree_on (earlier_conditions g c) o p)
@@ -62,6 +65,7 @@ module _ (g : Graph) where
         },
       )
 
+  -- an outcome that is false at the first condition at which it differs from another comes before it
   pub before_from : (o p : List Bool) (c : ℕ) → FirstDiffers o p c → is_outcome_before g o p ≡ true
   before_from o p c h =
       list_any_true (λ c. not (get_or o c false) && get_or p c false && agree_on (earlier_conditions g c) o p)
@@ -70,6 +74,7 @@ module _ (g : Graph) where
       (and_from (not (get_or o c false) && get_or p c false) (agree_on (earlier_conditions g c) o p)
       (and_from (not (get_or o c false)) (get_or p c false) (not_from_false (get_or o c false) h.one) h.other) h.same)
 
+  -- of two outcomes at most one comes before the other
   pub before_one_way : (o p : List Bool) → is_outcome_before g o p ≡ true → is_outcome_before g p o ≡ true → ⊥
   before_one_way o p h k = go (before_parts o p h) (before_parts p o k)
     where
@@ -85,10 +90,12 @@ module _ (g : Graph) where
           ne : a.0 ≢ b.0
           ne e = true≢false (sym (b.1).other ∙ ap (λ c. get_or o c false) (sym e) ∙ (a.1).one)
 
+  -- if one outcome comes before another and that before a third, the first comes before the third
   pub before_chain : (o p q : List Bool) → is_outcome_before g o p ≡ true → is_outcome_before g p q ≡ true →
       is_outcome_before g o q ≡ true
   before_chain o p q h k = go (before_parts o p h) (before_parts p q k)
     where
+      -- o and p first differ at `a`, and p and q at `b`; o and q first differ at the more urgent of the two
       go : (c : ℕ) × FirstDiffers o p c → (d : ℕ) × FirstDiffers p q d → is_outcome_before g o q ≡ true
       go a b = elim (urgent_total g (process_of g a.0) (process_of g b.0)
           (conditions_apart a.0 b.0 (a.1).within (b.1).within ne)) [
@@ -131,7 +138,9 @@ module _ (g : Graph) where
   abbrev sooner : ℕ → ℕ → Bool
   sooner c d = is_more_urgent g (process_of g c) (process_of g d)
 
+  -- given two different outcomes
   module _ (o p : List Bool) (lo : length o ≡ condition_count g) (lp : length p ≡ condition_count g) (ne : o ≢ p) where
+    -- two different outcomes differ in some condition
     some_differ : filter (differ o p) (numbers_below (condition_count g)) ≡ [] → ⊥
     some_differ e = ne (ext_get_or false o p (lo ∙ sym lp)
         (λ c l. elim (cases_Bool (same_bool (get_or o c false) (get_or p c false))) [
@@ -151,6 +160,7 @@ module _ (g : Graph) where
     in_order : List ℕ
     in_order = sorted sooner (filter (differ o p) (numbers_below (condition_count g)))
 
+    -- the conditions in which o and p differ are listed, no others are, and they stand by urgency
     listed : Listed in_order
     unfolding in_order
     listed =
@@ -194,6 +204,7 @@ module _ (g : Graph) where
         within : c < condition_count g
         within = (here.0 c (Contains-first c cs)).0
 
+        -- a condition more urgent than c has the same value in both, else it would be listed before c
         same : (d : ℕ) → Contains (earlier_conditions g c) d → get_or o d false ≡ get_or p d false
         same d k = let r = earlier_parts c d k in elim (cases_Bool (same_bool (get_or o d false) (get_or p d false))) [
           | inl t ↦ same_bool_is (get_or o d false) (get_or p d false) t
@@ -210,6 +221,7 @@ module _ (g : Graph) where
         differs : same_bool (get_or o c false) (get_or p c false) ≡ false
         differs = not-true (same_bool (get_or o c false) (get_or p c false)) (here.0 c (Contains-first c cs)).1
 
+        -- the outcome that has c false comes first
         go : (a b : Bool) → get_or o c false ≡ a → get_or p c false ≡ b →
             (is_outcome_before g o p ≡ true) ⊎ (is_outcome_before g p o ≡ true)
         go true true x y = absurd (both_ways (same_bool (get_or o c false) (get_or p c false)) differs
@@ -221,21 +233,25 @@ module _ (g : Graph) where
         go true false x y = inr (before_from p o c
             (record { within = within; one = y; other = x; same = agree_from (earlier_conditions g c) p o (λ d k. sym (same d k)) }))
 
+    -- of two different outcomes one comes before the other
     pub before_total : (is_outcome_before g o p ≡ true) ⊎ (is_outcome_before g p o ≡ true)
     before_total = first_of in_order refl
 
   -- ---- the list of tracks
 
+  -- a graph has only one list of tracks
   pub one_list_of_tracks : (a b : List (List Bool)) → AreTracks g a → AreTracks g b → a ≡ b
   one_list_of_tracks a b h k = one_order (λ o p. is_outcome_before g o p ≡ true) before_one_way
       (filter (is_track g) (outcomes (condition_count g))) a b h.all k.all h.in_order k.in_order
 
+  -- the list of tracks is as long as there are tracks among the outcomes
   pub count_of_tracks : (tracks : List (List Bool)) → AreTracks g tracks →
       length tracks ≡ length (filter (is_track g) (outcomes (condition_count g)))
   count_of_tracks tracks h = length_permutation (filter (is_track g) (outcomes (condition_count g))) tracks h.all
 
 -- ---- there is one
 
+-- each graph has a list of tracks
 pub tracks_exist : (g : Graph) → (tracks : List (List Bool)) × AreTracks g tracks
 tracks_exist g = let all : List (List Bool) = filter (is_track g) (outcomes (condition_count g)) in (
   sorted (is_outcome_before g) all,
@@ -257,6 +273,7 @@ filter_all : {X : Type 0} (p : X → Bool) (xs : List X) → ((x : X) → p x �
 filter_all p [] h = refl
 filter_all p (x ∷ xs) h = ap (λ b. cond b (x ∷ filter p xs) (filter p xs)) (h x) ∙ ap (λ ys. x ∷ ys) (filter_all p xs h)
 
+-- a process without inputs is active in each outcome
 pub first_active : (g : Graph) (o : List Bool) (n p : ℕ) → inputs g p ≡ [] →
     is_active (activation_within (suc n) g o p) ≡ true
 first_active g o n p e = ap (λ es. is_active (activation_by (process_at g p).join es
@@ -274,6 +291,7 @@ module _ (g : Graph) (free : (c : ℕ) → c < condition_count g → inputs g (p
       there c l zero e = absurd (omega (arith, process_of_below g c l))
       there c l (suc n) e = first_active g o n (process_of g c) (free c l)
 
+  -- if no process of a condition has inputs, every outcome is a track
   pub count_of_free_tracks : (tracks : List (List Bool)) → AreTracks g tracks → length tracks ≡ 2 ^ condition_count g
   count_of_free_tracks tracks h =
       count_of_tracks g tracks h ∙ ap length (filter_all (is_track g) (outcomes (condition_count g)) always_track)

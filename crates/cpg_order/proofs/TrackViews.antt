@@ -21,6 +21,7 @@ use Rattle.cpg_order.proofs.Ways.{ways_small}
 use Rattle.cpg_order.specs.Track.{is_track, AreTracks}
 
 module _ (g : Graph) where
+  -- a quiet outcome is a track, as only values of active processes are free
   pub track_of_quiet : (reached : List ℕ) (o : List Bool) → is_quiet g reached o ≡ true → is_track g o ≡ true
   track_of_quiet reached o t =
       all_from (λ (c : ℕ). not (get_or o c false) || active g o (process_of g c)) (numbers_below (condition_count g))
@@ -36,6 +37,7 @@ module _ (g : Graph) where
   abbrev if_quiet : List ℕ → List Bool → ℕ
   if_quiet reached o = cond (is_quiet g reached o) (views_of_outcome g reached o) 0
 
+  -- an outcome that is no track has no views, as it isn't quiet
   none_but_tracks : (reached : List ℕ) (o : List Bool) → if_quiet reached o ≡ cond (is_track g o) (if_quiet reached o) 0
   none_but_tracks reached o = ⊎_elim
       (λ (t : is_quiet g reached o ≡ true). ap (λ b. cond b (if_quiet reached o) 0) (sym (track_of_quiet reached o t)))
@@ -49,7 +51,7 @@ module _ (g : Graph) where
       stays true n = refl
       stays false n = refl
 
-  -- if the tracks are listed, those of them that are quiet give all views
+  -- the views of a reach are the sum of the views of the tracks that are quiet
   pub views_of_tracks : (reached : List ℕ) (tracks : List (List Bool)) → process_count g ≤ 128 → AreTracks g tracks →
       views g reached ≡ sum_by (views_of_outcome g reached) (filter (is_quiet g reached) tracks)
   views_of_tracks reached tracks few are =
@@ -71,7 +73,7 @@ module _ (g : Graph) where
       let b = length-range_with_len 0 (process_count g) in omega arith)
       g.faults faults
 
-  -- with 16,384 tracks at most
+  -- with at most 16,384 tracks a reach has at most 2^56 views
   pub views_small : process_count g ≤ 128 → g.faults ≤ 8 → (reached : List ℕ) (tracks : List (List Bool)) →
       AreTracks g tracks → length tracks ≤ 16384 →
       views g reached ≤ 2 ^ 56

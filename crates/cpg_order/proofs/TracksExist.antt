@@ -26,6 +26,7 @@ use Rattle.cpg_order.proofs.QuietOutcomes.{from_quiet_outcomes, Contains-quiet_o
 use Rattle.cpg_order.specs.Track.{is_track, is_outcome_before, AreTracks}
 
 module _ (g : Graph) where
+  -- choosing some conditions changes no other
   agree_chosen : (reached cs : List ℕ) (o q : List Bool) → Contains (chosen g reached cs o) q → (d : ℕ) →
       (Contains cs d → ⊥) →
       get_or o d false ≡ get_or q d false
@@ -51,6 +52,7 @@ module _ (g : Graph) where
   abbrev Before : List Bool → List Bool → Type 0
   Before o q = IsTrue (is_outcome_before g o q)
 
+  -- no outcome is before itself, as c would have to be both false and true in it
   before_itself : (o : List Bool) → Before o o → ⊥
   before_itself o t =
       let r = list_any_parts (λ c. not (get_or o c false) && get_or o c false && agree_on (earlier_conditions g c) o o)
@@ -65,7 +67,7 @@ module _ (g : Graph) where
     abbrev at : ℕ → ℕ
     at c = place order (process_of g c)
 
-    -- false at c comes before true at c, if they agree on what is earlier
+    -- an outcome that is false at c comes before one that is true at c, if both agree on the earlier conditions
     false_first : (c : ℕ) (q r : List Bool) → c < condition_count g → get_or q c false ≡ false →
         get_or r c false ≡ true → ((e : ℕ) → at e < at c → get_or q e false ≡ get_or r e false) → Before q r
     false_first c q r h x y agree =
@@ -80,6 +82,7 @@ module _ (g : Graph) where
         agree e (urgent_first g order urgency (process_of g e) (process_of g c) (process_of_below g e l)
         (process_of_below g c h) i.1))))
 
+    -- the outcomes that are chosen along rising conditions are in order
     chosen_in_order : (cs : List ℕ) (o : List Bool) → length o ≡ condition_count g →
         ((c : ℕ) → Contains cs c → c < condition_count g) →
         ((c : ℕ) → Contains cs c → get_or o c false ≡ false) →
@@ -121,6 +124,7 @@ module _ (g : Graph) where
 
   -- ---- the tracks
 
+  -- the outcomes chosen along an urgency order that is topological are the tracks, in order
   pub tracks_are : (order : List ℕ) → IsUrgencyOrder g order → IsTopological g order →
       AreTracks g (tracks_along g order)
   tracks_are order urgency topological =

@@ -15,6 +15,6 @@ pub record IsCycle (g : Graph) (walk : List ℕ) : Type 0 where
   pub next : (k : ℕ) → k + 1 < length walk → IsTrue (has_edge g (get_or walk k 0) (get_or walk (k + 1) 0))
   pub back : IsTrue (has_edge g (get_or walk (length walk - 1) 0) (get_or walk 0 0))
 
--- whether there is one
+-- the graph has a cycle
 abbrev pub HasCycle : Graph → Type 0
 HasCycle g = (walk : List ℕ) × IsCycle g walk

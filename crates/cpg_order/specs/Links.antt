@@ -1,4 +1,4 @@
--- The edges of each process, as they are found once.
+-- The edges of each process, found once.
 use Rattle.std.specs.Prelude.{ℕ, List, map}
 use Rattle.cpg_base.specs.Numbers.{numbers_below}
 use Rattle.cpg_base.specs.Graph.{Graph, process_count, inputs, outputs}

@@ -1,4 +1,4 @@
--- What a fault of `urgency` tells.
+-- What a fault of `urgency` shows.
 use Rattle.std.specs.Prelude.{⊤}
 use Rattle.cpg_base.specs.Graph.{Graph}
 use Rattle.cpg_order.specs.declared.fault.OrderFault.{OrderFault}

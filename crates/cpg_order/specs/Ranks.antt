@@ -1,4 +1,4 @@
--- What is sorted: a process with the length of its way.
+-- The ranks that are sorted: a process with the length of its way.
 use Rattle.std.specs.Prelude.{ℕ, List, get_or}
 use Rattle.cpg_order.specs.declared.urgency_order.UrgencyRank.{UrgencyRank}
 

@@ -9,7 +9,7 @@ use crate::Links;
 use cpg_base::{OutOfMemory, Problem};
 use std::alloc::Global;
 
-/// A process that waits.
+/// Some process that waits for an input.
 fn waiting_process(problem: &Problem, waiting: &[u32]) -> u32
     requires { AreStuck problem.now waiting.now }
     ensures within { result < process_count problem.now }
@@ -23,7 +23,7 @@ fn waiting_process(problem: &Problem, waiting: &[u32]) -> u32
     unreachable!()
 }
 
-/// A process that waits, with an edge to this one, which waits too.
+/// A waiting process with an edge to this waiting process.
 fn waiting_source(problem: &Problem, links: &Links, waiting: &[u32], process: u32) -> u32
     requires links { links.now ≡ links_of problem.now }
     requires stuck { AreStuck problem.now waiting.now }
@@ -42,16 +42,19 @@ fn waiting_source(problem: &Problem, links: &Links, waiting: &[u32], process: u3
     unreachable!()
 }
 
+/// The place of a process in a walk, if it is there.
 fn place_in(walk: &[u32], process: u32) -> Option<usize>
     ensures { result ≡ position (λ p. p == process) walk.now }
 {
     walk.iter().position(|p| *p == process)
 }
 
-/// A walk against the edges, and the place of the process in it that the next step would lead to.
+/// A walk against the edges, and the place in it that the next step would lead back to.
 #[derive(Drop)]
 struct WalkBack {
+    /// The processes of the walk, each with an edge from the next.
     walk: Vec<u32>,
+    /// The place in the walk that the next step would lead back to.
     from: usize,
 }
 
@@ -71,6 +74,7 @@ fn walk_back(
     walk.reserve(waiting.len())?;
     let mut process = waiting_process(problem, waiting);
     loop {
+        // the walk has met itself
         if let Some(from) = place_in(walk.as_slice(), process) {
             return Ok(WalkBack { walk, from });
         }
@@ -104,6 +108,7 @@ fn forwards(alloc: Global, back: &[u32]) -> Result<Vec<u32>, OutOfMemory>
     let mut place = least_place(back);
     for _ in 0..back.len() {
         walk.push(back[place])?;
+        // one step down, and from the start around to the end
         place = if place == 0 {
             back.len() - 1
         } else {
@@ -113,7 +118,7 @@ fn forwards(alloc: Global, back: &[u32]) -> Result<Vec<u32>, OutOfMemory>
     Ok(walk)
 }
 
-/// A cycle of edges.
+/// A cycle of edges of a graph in which some processes wait for each other.
 pub(crate) fn cycle(
     alloc: Global,
     problem: &Problem,

@@ -23,6 +23,7 @@ impl Model for EdgeList {
 }
 
 impl EdgeList {
+    /// An empty list.
     fn empty(alloc: Global) -> EdgeList
         ensures { result ≡ [] }
     {
@@ -31,6 +32,7 @@ impl EdgeList {
         }
     }
 
+    /// Adds an edge at the end.
     fn push(&mut self, edge: u32) -> Result<(), OutOfMemory>
         ensures { OnOk result (self.new ≡ self.old ++ edge ∷ []) }
     {
@@ -38,6 +40,7 @@ impl EdgeList {
         Ok(())
     }
 
+    /// The edges, as a slice.
     fn as_slice(&self) -> &[u32]
         ensures { result.now ≡ self.now }
     {
@@ -45,6 +48,7 @@ impl EdgeList {
     }
 }
 
+/// Empty lists, one for each of `count` processes.
 fn empty_lists(alloc: Global, count: usize) -> Result<Vec<EdgeList>, OutOfMemory>
     ensures { IfOk result (λ lists. lists.items ≡ map (λ _. []) (numbers_below count)) }
 {

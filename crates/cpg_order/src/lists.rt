@@ -40,6 +40,7 @@ fn is_forward(problem: &Problem, order: &Order) -> bool
     true
 }
 
+/// A copy of a list.
 fn copied(alloc: Global, list: &[u32]) -> Result<Vec<u32>, OutOfMemory>
     ensures { IfOk result (λ copy. copy.items ≡ list.now) }
 {
@@ -48,7 +49,7 @@ fn copied(alloc: Global, list: &[u32]) -> Result<Vec<u32>, OutOfMemory>
     Ok(copy)
 }
 
-/// The order of a list of process numbers, and `None` exactly if it isn't a topological order of all processes.
+/// The order of a list of process numbers, or `None` exactly if it isn't a topological order of all processes.
 pub fn ordered(alloc: Global, problem: &Problem, list: &[u32]) -> Result<Option<Order>, OutOfMemory>
     ensures order { IfOk result (λ found. IfSome found (λ order. order ≡ list.now)) }
     ensures topological { IfOk result (λ found. IfSome found (IsTopological problem.now)) }

@@ -10,10 +10,12 @@ use crate::Links;
 use cpg_base::{OutOfMemory, Problem};
 use std::alloc::Global;
 
-/// The processes whose inputs' sources all come before them, and how many inputs of each process have other sources.
+/// The settled processes in order, and for each process how many of its inputs have other sources.
 #[derive(Drop)]
 pub(crate) struct Settled {
+    /// The settled processes, in order.
     pub(crate) ready: Vec<u32>,
+    /// How many inputs of each process have a source that isn't settled.
     pub(crate) waiting: Vec<u32>,
 }
 
@@ -47,7 +49,7 @@ fn ready(alloc: Global, waiting: &[u32]) -> Result<Vec<u32>, OutOfMemory>
     Ok(ready)
 }
 
-/// Takes one input of a process as settled: with the last one the process is ready.
+/// Counts one input of a process as settled. With its last input the process becomes ready.
 fn release(process: u32, waiting: &mut Vec<u32>, ready: &mut Vec<u32>) -> Result<(), OutOfMemory>
     requires waits { 0 < get_or waiting.old.items process 0 }
     requires ready { AreReady waiting.old.items ready.old.items }
@@ -63,7 +65,7 @@ fn release(process: u32, waiting: &mut Vec<u32>, ready: &mut Vec<u32>) -> Result
     Ok(())
 }
 
-/// Takes these edges as settled.
+/// Counts these edges as settled inputs of their targets.
 fn release_all(
     problem: &Problem,
     edges: &[u32],
@@ -85,7 +87,7 @@ fn release_all(
     Ok(())
 }
 
-/// Settles as many processes as there are whose inputs' sources can be settled before them.
+/// Settles all processes that can be settled: each after the sources of its inputs.
 pub(crate) fn settle(
     alloc: Global,
     problem: &Problem,
@@ -97,6 +99,7 @@ pub(crate) fn settle(
     let mut waiting = input_counts(alloc, problem, links)?;
     let mut ready = ready(alloc, waiting.as_slice())?;
     let mut settled = 0;
+    // each turn settles the next ready process, which may make others ready
     while settled < ready.len() {
         let process = ready[settled];
         release_all(problem, links.outputs(process), &mut waiting, &mut ready)?;

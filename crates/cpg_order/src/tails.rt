@@ -52,6 +52,7 @@ pub(crate) fn tails(
     let count = problem.processes().len();
     let turn = problem.round();
     let mut tails = vec![in alloc; 0u64; count]?;
+    // from the last process of the order back, so that the tails of all targets are known
     for done in 0..count {
         let process = order.at((count - 1 - done) as u32);
         let way = longest(problem, turn, links.outputs(process), tails.as_slice());

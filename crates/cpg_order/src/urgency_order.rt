@@ -24,6 +24,7 @@ struct UrgencyRank {
     process: u32,
 }
 
+/// The rank of each process.
 fn ranks(alloc: Global, tails: &[u64]) -> Result<Vec<UrgencyRank>, OutOfMemory>
     requires { length tails.now ≤ 128 }
     ensures { IfOk result (λ ranks. ranks.items ≡ map (rank_of tails.now) (numbers_below (length tails.now))) }
@@ -39,6 +40,7 @@ fn ranks(alloc: Global, tails: &[u64]) -> Result<Vec<UrgencyRank>, OutOfMemory>
     Ok(ranks)
 }
 
+/// The processes of the ranks, in the same order.
 fn processes(alloc: Global, ranks: &[UrgencyRank]) -> Result<Vec<u32>, OutOfMemory>
     ensures { IfOk result (λ processes. processes.items ≡ map (λ r. r.process) ranks.now) }
 {
@@ -80,7 +82,7 @@ fn topological(alloc: Global, problem: &Problem, links: &Links) -> Result<Order,
 /// The urgency order: by falling length of the longest way to an end, then by number. A way takes the executions without
 /// faults of its processes, and a round of the bus for each of its messages.
 ///
-/// `Cycle` comes exactly if the graph has a cycle of edges, and shows one.
+/// The fault `Cycle` comes exactly if the graph has a cycle of edges. It shows one.
 pub fn urgency(alloc: Global, problem: &Problem) -> Result<Order, OrderFault>
     ensures urgent { IfOk result (IsUrgencyOrder problem.now) }
     ensures topological { IfOk result (IsTopological problem.now) }

@@ -1,4 +1,4 @@
--- What the fetch of a stream gave.
+-- The fetch of a stream, by what was followed of it.
 use Rattle.std.proofs.Common.{ℕ, ◌≡◌, List, ◌∷◌}
 use Rattle.std.specs.Prelude.{Result, Ok, Err, MatchResult}
 use Rattle.cpg_history.specs.Fetch.{Fetch}

@@ -9,6 +9,7 @@ parts_done (p ∷ ps) [] e = refl
 parts_done (p ∷ ps) (n ∷ parts) (inl e) = absurd (let l = ap length e in omega (arith, l))
 parts_done (p ∷ ps) (n ∷ parts) (inr e) = absurd (let l = ap length e in omega (arith, l))
 
+-- once the processes or the counts are used up, the lines so far are all
 pub parts_whole : (ps : List Process) (parts whole now : List ℕ) → whole ≡ now ++ parts_lines ps parts →
     (ps ≡ []) ⊎ (parts ≡ []) → now ≡ whole
 parts_whole ps parts whole now h e = sym (h ∙ (ap (λ rest. now ++ rest) (parts_done ps parts e) ∙ append-nil now))

@@ -7,12 +7,14 @@ use Rattle.cpg_codec.specs.declared.fault.WriteFault.{WriteFault}
 
 -- what a run sees of a sink: its count of faults and its bytes, before and after
 pub record SinkSeen : Type 0 where
+  -- the count of faults before the run, and after
   pub before : ℕ
   pub now : ℕ
+  -- the bytes that it had taken before the run, and after
   pub old : List ℕ
   pub new : List ℕ
 
--- the same, from the sink's states before and after
+-- what a run sees of a sink, from the sink's states before and after
 abbrev pub sent : SinkState → SinkState → SinkSeen
 sent old new = record { before = old.faults; now = new.faults; old = old.taken; new = new.taken }
 

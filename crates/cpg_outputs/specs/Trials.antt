@@ -19,10 +19,11 @@ tables_text t = codes "columns " ++ decimal t.columns ++ codes "\nworst " ++ dec
 abbrev pub ending_line : Ending → Text
 ending_line e = codes "finish " ++ decimal e.finish ++ codes " waits " ++ decimal e.waits ++ codes "\n"
 
+-- the lines of the three plays
 abbrev pub endings_text : Endings → Text
 endings_text e = ending_line e.fault_free ++ ending_line e.worst_case ++ ending_line e.all_true
 
--- all lines
+-- all lines of a trial's text
 abbrev pub trial_text : ℕ → Trial → Text
 trial_text number t =
     codes "trial " ++ decimal number ++ codes "\n" ++ sizes_text t ++ tables_text t ++ endings_text t.endings

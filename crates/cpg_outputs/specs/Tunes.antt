@@ -25,6 +25,7 @@ judged_text g (Worst finish) = codes "worst " ++ decimal finish
 judged_text g (Late finish) = codes "late " ++ decimal finish
 judged_text g (Wide item) = codes "wide " ++ item_text g item
 
+-- the line of one fault number
 abbrev pub row_line : Graph → ℕ → Judged → Text
 row_line g faults judged = codes "k " ++ decimal faults ++ codes " " ++ judged_text g judged ++ codes "\n"
 
@@ -33,14 +34,16 @@ abbrev pub row_lines : Graph → ℕ → List Judged → Text
 row_lines g faults [] = []
 row_lines g faults (judged ∷ rows) = row_line g faults judged ++ row_lines g (faults + 1) rows
 
--- how many faults are tolerated
+-- how many faults are tolerated, or `none`
 abbrev pub number_or_none : Option ℕ → Text
 number_or_none None = codes "none"
 number_or_none (Some faults) = decimal faults
 
+-- the line of how many faults are tolerated
 abbrev pub tolerates_line : Option ℕ → Text
 tolerates_line faults = codes "tolerates " ++ number_or_none faults ++ codes "\n"
 
+-- the parts of all processes, the answers for all fault numbers, and how many faults are tolerated
 abbrev pub tuning_text : Graph → Tuning → Text
 tuning_text g t = parts_lines g.processes t.parts ++ row_lines g 0 t.rows ++ tolerates_line t.tolerates
 

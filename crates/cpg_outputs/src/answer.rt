@@ -57,14 +57,14 @@ pub(crate) fn miss<E: Sink>(err: &mut E) -> u8
     send_line(Halt::Read.status(), b"cpgc: read fault\n", err)
 }
 
-/// Writes the line of out of memory.
+/// Writes the line which says that memory ran out.
 fn want<E: Sink>(err: &mut E) -> u8
     ensures { Sent (sent (E.state err.old) (E.state err.new)) result (status_of Halt.Memory) (line_of Halt.Memory) }
 {
     send_line(Halt::Memory.status(), b"cpgc: memory\n", err)
 }
 
-/// Makes the line of a run that stops and writes it, or that of out of memory if there is none for the line.
+/// Makes the line of a run that stops and writes it, or the one for lack of memory if there is none for the line.
 fn tell<E: Sink>(alloc: Global, halt: &Halt, err: &mut E) -> u8
     requires { IsNamed halt.now }
     ensures { Sent (sent (E.state err.old) (E.state err.new)) result (status_of halt.now) (line_of halt.now) ⊎
@@ -76,7 +76,7 @@ fn tell<E: Sink>(alloc: Global, halt: &Halt, err: &mut E) -> u8
     }
 }
 
-/// Writes the line of a run that stops, or that of out of memory if there is none for the line. Lines that are constants need none.
+/// Writes the line of a run that stops, or the one for lack of memory if there is none for the line. Constant lines need none.
 pub fn stop<E: Sink>(alloc: Global, halt: &Halt, err: &mut E) -> u8
     requires { IsNamed halt.now }
     ensures { IsStopped halt.now (sent (E.state err.old) (E.state err.new)) result }

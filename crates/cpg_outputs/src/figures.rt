@@ -29,7 +29,7 @@ pub struct Trial {
     pub edges: u32,
     /// How many conditions.
     pub conditions: u32,
-    /// How many columns all tables have, with those for what is heard.
+    /// How many columns all tables have, with those of hear rows.
     pub columns: u64,
     /// The greatest finish in any scenario, in time units.
     pub worst: u64,

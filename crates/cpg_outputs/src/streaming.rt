@@ -43,7 +43,7 @@ fn follow_pieces<S: Shelf, O: Sink>(
     }
 }
 
-/// Follows what is left of a stream to its close.
+/// Follows the rest of a stream to its close.
 fn follow_rest<S: Shelf, O: Sink>(
     follower: &mut Follower,
     shelf: &mut S,

@@ -5,6 +5,7 @@ ghost use Rattle.cpg_outputs.specs.Trials.{ending_line, endings_text, sizes_text
 use crate::figures::{Ending, Endings, Trial};
 use std::alloc::{AllocError, Global};
 
+/// Writes how many processes, edges and conditions there are.
 fn write_sizes(out: &mut String, trial: &Trial) -> Result<(), AllocError>
     ensures { OnOk result (string_bytes out.new ≡ string_bytes out.old ++ sizes_text trial.now) }
 {
@@ -17,6 +18,7 @@ fn write_sizes(out: &mut String, trial: &Trial) -> Result<(), AllocError>
     )
 }
 
+/// Writes how many columns the tables have, and the greatest finish.
 fn write_tables(out: &mut String, trial: &Trial) -> Result<(), AllocError>
     ensures { OnOk result (string_bytes out.new ≡ string_bytes out.old ++ tables_text trial.now) }
 {
@@ -25,6 +27,7 @@ fn write_tables(out: &mut String, trial: &Trial) -> Result<(), AllocError>
     write!(out, "columns {columns}\nworst {worst}\nsafe\n")
 }
 
+/// Writes the result of a play.
 fn write_ending(out: &mut String, ending: Ending) -> Result<(), AllocError>
     ensures { OnOk result (string_bytes out.new ≡ string_bytes out.old ++ ending_line ending) }
 {
@@ -33,6 +36,7 @@ fn write_ending(out: &mut String, ending: Ending) -> Result<(), AllocError>
     write!(out, "finish {finish} waits {waits}\n")
 }
 
+/// Writes the results of the three plays.
 fn write_endings(out: &mut String, endings: &Endings) -> Result<(), AllocError>
     ensures { OnOk result (string_bytes out.new ≡ string_bytes out.old ++ endings_text endings.now) }
 {

@@ -9,6 +9,7 @@ use cpg_label::write_item;
 use cpg_tune::{Judged, Tuned};
 use std::alloc::{AllocError, Global};
 
+/// Writes the best number of parts of one process.
 fn write_part(out: &mut String, process: &Process, parts: u32) -> Result<(), AllocError>
     ensures { OnOk result (string_bytes out.new ≡ string_bytes out.old ++ parts_line process.now parts) }
 {
@@ -26,6 +27,7 @@ fn write_parts(out: &mut String, problem: &Problem, parts: &[u32]) -> Result<(),
     Ok(())
 }
 
+/// Writes that an item is too wide.
 fn write_wide(out: &mut String, problem: &Problem, item: u32) -> Result<(), AllocError>
     requires { item < item_count problem.now }
     ensures { OnOk result (string_bytes out.new ≡ string_bytes out.old ++ (codes "wide " ++ item_text problem.now item)) }
@@ -34,6 +36,7 @@ fn write_wide(out: &mut String, problem: &Problem, item: u32) -> Result<(), Allo
     write_item(out, problem, item)
 }
 
+/// Writes the answer of a compile.
 fn write_judged(out: &mut String, problem: &Problem, judged: Judged) -> Result<(), AllocError>
     requires { IsNamedRow problem.now judged }
     ensures { OnOk result (string_bytes out.new ≡ string_bytes out.old ++ judged_text problem.now judged) }
@@ -45,6 +48,7 @@ fn write_judged(out: &mut String, problem: &Problem, judged: Judged) -> Result<(
     }
 }
 
+/// Writes the answer for one fault number.
 fn write_row(
     out: &mut String,
     problem: &Problem,

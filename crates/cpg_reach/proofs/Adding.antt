@@ -31,20 +31,24 @@ or_commutes true false = refl
 or_commutes false true = refl
 or_commutes false false = refl
 
+-- a number is in two lists together if it is in either
 pub in_append : (xs ys : List ℕ) (v : ℕ) → is_in (xs ++ ys) v ≡ (is_in xs v || is_in ys v)
 in_append xs ys v = list_any-append (λ u. u == v) xs ys
 
+-- nothing is added by no numbers
 pub adds_nothing : (a : List ℕ) → Adds a [] a
 adds_nothing a v = or_none (is_in a v)
 
+-- adding two lists in turn adds them together
 pub adds_two : (a xs b ys c : List ℕ) → Adds a xs b → Adds b ys c → Adds a (xs ++ ys) c
 adds_two a xs b ys c h k v = k v ∙ ap (λ t. t || is_in ys v) (h v) ∙ or_assoc (is_in a v) (is_in xs v) (is_in ys v)
     ∙ ap (λ t. is_in a v || t) (sym (in_append xs ys v))
 
+-- adding the same numbers in another order adds the same
 pub adds_same : (a xs ys b : List ℕ) → SameElements xs ys → Adds a xs b → Adds a ys b
 adds_same a xs ys b s h v = h v ∙ ap (λ t. is_in a v || t) (s v)
 
--- what was there before goes first, or last
+-- the set after has what was there before and what is added, in either order
 pub same_after : (a b xs c : List ℕ) → SameElements a b → Adds a xs c → SameElements c (b ++ xs)
 same_after a b xs c s h v = h v ∙ ap (λ t. t || is_in xs v) (s v) ∙ sym (in_append b xs v)
 
@@ -54,6 +58,7 @@ same_before a b xs c s h v =
 
 -- ---- a loop over the numbers that pass a test
 
+-- given: what is added for all numbers below n that pass a test
 module _ (F : ℕ → List ℕ) (T : ℕ → Bool) (n : ℕ) (a b : List ℕ)
     (so_far : Adds a (flat_map F (filter T (numbers_below n))) b) where
   next_is : (t : Bool) → T n ≡ t →
@@ -62,11 +67,13 @@ module _ (F : ℕ → List ℕ) (T : ℕ → Bool) (n : ℕ) (a b : List ℕ)
   next_is t e = ap (flat_map F) (filter_below_push T n ∙ ap (λ s. filter T (numbers_below n) ++ cond s (n ∷ []) []) e)
       ∙ flat_map-append F (filter T (numbers_below n)) (cond t (n ∷ []) [])
 
+  -- if n passes, what is added for it is added for all numbers up to it
   pub loop_takes : (c : List ℕ) → T n ≡ true → Adds b (F n) c → Adds a (flat_map F (filter T (numbers_below (n + 1)))) c
   loop_takes c e h = subst (λ xs. Adds a xs c)
       (ap (λ ys. flat_map F (filter T (numbers_below n)) ++ ys) (sym (append-nil (F n))) ∙ sym (next_is true e))
       (adds_two a (flat_map F (filter T (numbers_below n))) b (F n) c so_far h)
 
+  -- if n does not pass, nothing more is added
   pub loop_skips : T n ≡ false → Adds a (flat_map F (filter T (numbers_below (n + 1)))) b
   loop_skips e = subst (λ xs. Adds a xs b)
       (sym (append-nil (flat_map F (filter T (numbers_below n)))) ∙ sym (next_is false e)) so_far
@@ -91,6 +98,7 @@ module _ (g : Graph) (deciding : List (List ℕ)) (are : AreDecidingValues g dec
       (Contains-filter (λ d. list_any (λ o. decides g o p d) (outcomes (condition_count g)))
       (numbers_below (condition_count g)) c t (Contains-numbers (condition_count g) c h))))
 
+  -- the conditions whose values are found to decide a process are those that decide it in some scenario
   pub deciding_filter : filter (λ c. is_in (get_or deciding p []) (value_variable c))
       (numbers_below (condition_count g)) ≡ conditions_of g p
   deciding_filter = same_filter (λ c. is_in (get_or deciding p []) (value_variable c))
@@ -99,6 +107,7 @@ module _ (g : Graph) (deciding : List (List ℕ)) (are : AreDecidingValues g dec
 
 -- ---- the value of an edge's source
 
+-- the source value of a conditional edge is the value of its source's condition
 pub source_value_there : (g : Graph) (e c : ℕ) → is_some (edge_at g e).when ≡ true →
     condition_of g (source g e) ≡ Some c →
     source_value g e ≡ value_variable c ∷ []
@@ -108,5 +117,6 @@ source_value_there g e c t is =
 
 -- ---- an element of a list of sets, whatever stands past the end
 
+-- an element within a list is the same, whatever stands past the end
 pub set_at : (xs : List (List ℕ)) (i : ℕ) (x : List ℕ) → i < length xs → x ≡ get_or xs i x → x ≡ get_or xs i []
 set_at xs i x l e = e ∙ get_or_default xs i x [] l

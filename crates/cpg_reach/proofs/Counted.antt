@@ -19,17 +19,20 @@ use Rattle.cpg_order.proofs.Chosen.{views_chosen}
 
 -- ---- how many numbers below n pass a test
 
+-- one number more adds one to the count if it passes the test
 pub count_next : (p : ℕ → Bool) (n : ℕ) (b : Bool) → p n ≡ b →
     count_by p (numbers_below (n + 1)) ≡ count_by p (numbers_below n) + cond b 1 0
 count_next p n b e = ap (count_by p) (below_push n) ∙ sum_by-append (λ x. cond (p x) 1 0) (numbers_below n) (n ∷ [])
     ∙ ap (λ m. count_by p (numbers_below n) + m) (sum_by-cons (λ x. cond (p x) 1 0) n [] ∙ ap (λ c. cond c 1 0 + 0) e
     ∙ (let z : cond b 1 0 + 0 ≡ cond b 1 0 = omega arith in z))
 
+-- no more than n numbers below n pass
 pub count-le : (p : ℕ → Bool) (n : ℕ) → count_by p (numbers_below n) ≤ n
 count-le p n = let a = count_by-le-length p (numbers_below n) in let b = length-range_with_len 0 n in omega arith
 
 -- ---- the conditions along an order
 
+-- one process more adds its condition, if it has one
 pub along_next : (g : Graph) (order : List ℕ) (i : ℕ) → i < length order →
     conditions_along g (take (i + 1) order) ≡ conditions_along g (take i order) ++ option_to_list
     (condition_of g (get_or order i 0))
@@ -38,6 +41,7 @@ along_next g order i l = ap (conditions_along g) (take_more order i 0 l)
     ∙ ap (λ xs. conditions_along g (take i order) ++ xs)
     (append-nil (option_to_list (condition_of g (get_or order i 0))))
 
+-- a list with the condition of the next process is that of one process more
 pub along_takes : (g : Graph) (order : List ℕ) (i c : ℕ) (xs ys : List ℕ) → i < length order →
     xs ≡ conditions_along g (take i order) →
     condition_of g (get_or order i 0) ≡ Some c →
@@ -45,6 +49,7 @@ pub along_takes : (g : Graph) (order : List ℕ) (i c : ℕ) (xs ys : List ℕ) 
 along_takes g order i c xs ys l h e k = k ∙ ap (λ zs. zs ++ c ∷ []) h
     ∙ ap (λ o. conditions_along g (take i order) ++ option_to_list o) (sym e) ∙ sym (along_next g order i l)
 
+-- if the next process has no condition, the list stays
 pub along_skips : (g : Graph) (order : List ℕ) (i : ℕ) (xs : List ℕ) → i < length order →
     xs ≡ conditions_along g (take i order) →
     condition_of g (get_or order i 0) ≡ None →
@@ -55,15 +60,15 @@ along_skips g order i xs l h e = h ∙ sym (append-nil (conditions_along g (take
 -- ---- choosing the conditions
 
 module _ (g : Graph) (reached : List ℕ) where
-  -- the views with these conditions to choose
+  -- the number of views if these conditions are still to be chosen
   abbrev pub views_with : List ℕ → List Bool → ℕ
   views_with cs o = sum_by (views_of_outcome g reached) (chosen g reached cs o)
 
--- a value that is set and then as it was
+-- a value that is set and set back leaves the outcome as it was
 pub set_back : (o : List Bool) (c : ℕ) (a b : Bool) → b ≡ get_or o c false → set (set o c a) c b ≡ o
 set_back o c a b e = set-set o c a b ∙ ap (set o c) e ∙ set-get_or o c false
 
--- a scenario whose value is set, and then as it was
+-- a scenario whose value is set and set back is as it was
 pub scenario_back : (s a b d e : Scenario) (c : ℕ) (on was : Bool) → a ≡ s →
     b ≡ record a { values = set a.values c on } → d ≡ b →
     was ≡ get_or a.values c false →
@@ -75,12 +80,14 @@ scenario_back s a b d e c on was first set_on stays old last = last
 
 -- ---- all conditions
 
+-- the conditions along an order are conditions of the graph
 pub along_within : (g : Graph) (order : List ℕ) (cs : List ℕ) → cs ≡ conditions_along g order →
     All (λ c. c < condition_count g) cs
 along_within g order cs is = subst (All (λ c. c < condition_count g)) (sym is)
     (λ i d l. (from_along g order (get_or (conditions_along g order) i d)
     (Contains-get_or (conditions_along g order) i d l)).0)
 
+-- choosing all conditions along an order from no value true counts all views
 pub all_views : (g : Graph) (order : List ℕ) → IsTopological g order → process_count g ≤ 128 →
     (reached cs : List ℕ) (o : List Bool) → cs ≡ conditions_along g order →
     o ≡ all_false g →
@@ -88,6 +95,7 @@ pub all_views : (g : Graph) (order : List ℕ) → IsTopological g order → pro
 all_views g order top few reached cs o is none =
     ap₂ (views_with g reached) is none ∙ sym (views_chosen g order top reached few)
 
+-- an option with no value is None
 pub none_if : (o : Option ℕ) → ((x : ℕ) → o ≡ Some x → ⊥) → o ≡ None
 none_if None h = refl
 none_if (Some x) h = absurd (h x refl)

@@ -7,6 +7,7 @@ use Rattle.std.proofs.Math.Seq.{get_or-append_seam}
 use Rattle.cpg_order.specs.Reach.{is_in}
 use Rattle.cpg_reach.specs.Walked.{AreEmpty}
 
+-- one empty set more makes a list of one set more, all empty
 pub empty_next : (n : ℕ) (sets : List (List ℕ)) (x : List ℕ) → AreEmpty n sets → ((v : ℕ) → is_in x v ≡ false) →
     AreEmpty (n + 1) (sets ++ x ∷ [])
 empty_next n sets x h none = record {

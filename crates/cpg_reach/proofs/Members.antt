@@ -10,13 +10,14 @@ use Rattle.cpg_order.specs.Reach.{is_in}
 use Rattle.cpg_order.proofs.Along.{is_in_from, from_is_in}
 use Rattle.cpg_reach.specs.Variables.{members, Adds}
 
--- only what is there is marked
+-- only a number within the list is marked
 marked_within : (marks : List Bool) (v : ℕ) → get_or marks v false ≡ true → v < length marks
 marked_within marks v t = ⊎_elim
     (λ (l : v < length marks). l)
     (λ (l : length marks ≤ v). absurd (both_ways _ (get_or_past marks v false l) t))
     (cases_lt v (length marks))
 
+-- a number is among the members exactly if it is marked
 pub is_in_members : (marks : List Bool) (v : ℕ) → is_in (members marks) v ≡ get_or marks v false
 is_in_members marks v = same_truth (is_in (members marks) v) (get_or marks v false)
     (λ t. (Contains-filter_parts (λ u. get_or marks u false) (numbers_below (length marks)) v
@@ -41,11 +42,13 @@ set_marks marks v u l = elim (eqb_tells v u) [
       ∙ or_of_false (get_or marks u false) ∙ ap (λ b. get_or marks u false || (b || false)) (sym other.0)
 ]
 
+-- setting a mark adds its number
 pub set_adds : (marks : List Bool) (v : ℕ) → v < length marks →
     Adds (members marks) (v ∷ []) (members (set marks v true))
 set_adds marks v l u = is_in_members (set marks v true) u ∙ set_marks marks v u l
     ∙ ap (λ b. b || ((v == u) || false)) (sym (is_in_members marks u))
 
+-- marks that are set where either list has one add the others to the old
 pub unite_adds : (old others new : List Bool) →
     ((v : ℕ) → get_or new v false ≡ (get_or old v false || get_or others v false)) →
     Adds (members old) (members others) (members new)
@@ -54,17 +57,19 @@ unite_adds old others new h v =
 
 -- ---- the loop that unites
 
--- below v the marks of both, and from v on the old ones
+-- the marks below v are those of both lists, and those from v on are the old ones
 pub record United (old others marks : List Bool) (v : ℕ) : Type 0 where
   pub done : (u : ℕ) → u < v → get_or marks u false ≡ (get_or old u false || get_or others u false)
   pub left : (u : ℕ) → v ≤ u → get_or marks u false ≡ get_or old u false
 
+-- before the first mark all are the old ones
 pub united_first : (old others : List Bool) → United old others old 0
 united_first old others = record { done = λ u l. absurd (omega arith); left = λ u l. refl }
 
 below_next : (v u : ℕ) → u < v + 1 → (u < v) ⊎ (u ≡ v)
 below_next v u l = ⊎_elim (λ (k : u < v). inl k) (λ (k : v ≤ u). inr (omega arith)) (cases_lt u v)
 
+-- one mark more is united
 pub united_next : (old others marks : List Bool) (v : ℕ) (mark : Bool) → v < length marks →
     mark ≡ (get_or marks v false || get_or others v false) →
     United old others marks v → United old others (set marks v mark) (v + 1)
@@ -82,6 +87,7 @@ or_nothing : (a b : Bool) → b ≡ false → (a || b) ≡ a
 or_nothing true b e = refl
 or_nothing false b e = e
 
+-- once all marks of the others are gone over, each mark is that of either list
 pub united_all : (old others marks : List Bool) (v : ℕ) → length others ≤ v → United old others marks v → (u : ℕ) →
     get_or marks u false ≡ (get_or old u false || get_or others u false)
 united_all old others marks v l h u = ⊎_elim

@@ -5,6 +5,7 @@ use Rattle.cpg_base.specs.Graph.{Graph, item_count}
 use Rattle.cpg_order.specs.Reach.{Reach, IsReach, is_too_wide}
 use Rattle.cpg_reach.specs.Wide.{IsNarrow}
 
+-- under an order without wide items, no item is too wide by its reach
 pub none_too_wide : (g : Graph) (order : List ℕ) → IsNarrow g order → (r : Reach) → IsReach g order r → (x : ℕ) →
     x < item_count g →
     is_too_wide g r x ≡ false

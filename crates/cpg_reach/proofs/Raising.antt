@@ -7,12 +7,13 @@ use Rattle.cpg_order.specs.Counting.{ways}
 use Rattle.cpg_order.proofs.Ways.{ways_of_none, ways_more, ways_small}
 use Rattle.cpg_reach.specs.WaysTable.{AreWays}
 
--- below m the ways for k + 1, and from m on those for k
+-- the table has the ways for k + 1 below m, and those for k from m on
 pub record Raised (k : ℕ) (table : List ℕ) (m : ℕ) : Type 0 where
   pub long : length table ≡ 129
   pub made : (n : ℕ) → n < m → get_or table n 0 ≡ ways n (k + 1)
   pub kept : (n : ℕ) → m ≤ n → n ≤ 128 → get_or table n 0 ≡ ways n k
 
+-- before any count is gone over, the table is that for k
 pub raised_first : (k : ℕ) (table : List ℕ) → AreWays k table → Raised k table 1
 raised_first k table h = record {
   long = h.long;
@@ -21,7 +22,7 @@ raised_first k table h = record {
   kept = λ n l u. h.each n u;
 }
 
--- the number that is written
+-- the sum that is written is the number of ways for k + 1
 next_sum : (k : ℕ) (table : List ℕ) (m : ℕ) → 1 ≤ m → m ≤ 128 → Raised k table m →
     get_or table m 0 + get_or table (m - 1) 0 ≡ ways m (k + 1)
 next_sum k table m s l h =
@@ -31,12 +32,14 @@ next_sum k table m s l h =
     ∙ sym (ways_more (m - 1) k)
     ∙ ap (λ j. ways j (k + 1)) e
 
+-- the sum that is written has room in the table
 pub sum_fits : (k : ℕ) (table : List ℕ) (m : ℕ) → k < 8 → 1 ≤ m → m ≤ 128 → Raised k table m →
     get_or table m 0 + get_or table (m - 1) 0 < 2 ^ 42
 sum_fits k table m f s l h = let e = next_sum k table m s l h in
     let b = ways_small m l (k + 1) (omega arith) in
     omega arith
 
+-- one sum more is that for k + 1
 pub raised_next : (k : ℕ) (table : List ℕ) (m : ℕ) → 1 ≤ m → m ≤ 128 → Raised k table m →
     Raised k (set table m (get_or table m 0 + get_or table (m - 1) 0)) (m + 1)
 raised_next k table m s l h = record {
@@ -51,6 +54,7 @@ raised_next k table m s l h = record {
   kept = λ n u b. get_or-set_other table m n _ 0 (λ e. omega arith) ∙ h.kept n (omega arith) b;
 }
 
+-- once all are gone over, the table is that for k + 1
 pub raised_all : (k : ℕ) (table : List ℕ) (m : ℕ) → 129 ≤ m → Raised k table m → AreWays (k + 1) table
 raised_all k table m l h = record { long = h.long; each = λ n u. h.made n (omega arith) }
 

@@ -27,6 +27,7 @@ use Rattle.cpg_reach.proofs.Adding.{in_append}
 
 -- ---- lists with the same in them
 
+-- lists made of parts with the same in them have the same in them
 pub same_append : (xs ys zs ws : List ℕ) → SameElements xs zs → SameElements ys ws → SameElements (xs ++ ys) (zs ++ ws)
 same_append xs ys zs ws h k v = in_append xs ys v ∙ ap₂ ◌||◌ (h v) (k v) ∙ sym (in_append zs ws v)
 
@@ -36,6 +37,7 @@ same_flat_map f h [] e = λ v. refl
 same_flat_map f h (x ∷ xs) e = same_append (f x) (flat_map f xs) (h x) (flat_map h xs) (e x (Contains-first x xs))
     (same_flat_map f h xs (λ y k. e y (Contains-rest x xs y k)))
 
+-- so it is with either side of a test
 pub same_cond : (b : Bool) (xs ys zs ws : List ℕ) → (b ≡ true → SameElements xs zs) → (b ≡ false → SameElements ys ws) →
     SameElements (cond b xs ys) (cond b zs ws)
 same_cond true xs ys zs ws h k = h refl
@@ -51,7 +53,9 @@ apart_products a b f h m l k e = elim (cases_order a b) [
 ]
 
 module _ (g : Graph) (order : List ℕ) (top : IsTopological g order) where
-  -- one moment has one item
+  -- Two items of one moment are the same.
+  -- A moment is a place and a phase, so both items have one producer and one phase. The phase says whether they are
+  -- starts, messages of one number, or broadcasts, and a process has one start and one condition.
   pub same_moment : (x y : ℕ) → x < item_count g → y < item_count g → moment g order x ≡ moment g order y → x ≡ y
   same_moment x y l m e =
       let r = apart_products (place order (producer g x)) (place order (producer g y)) (phase (item_at g x))
@@ -91,7 +95,7 @@ module _ (g : Graph) (order : List ℕ) (top : IsTopological g order) where
         r.1,
       )
 
-  -- nothing happens between a start and the broadcast
+  -- no item has the moment between a start and the broadcast
   pub nothing_at_end : (p x : ℕ) → p < process_count g → x < item_count g →
       moment g order x ≡ place order p * phases g + 1 → ⊥
   nothing_at_end p x n l e =
@@ -102,7 +106,7 @@ module _ (g : Graph) (order : List ℕ) (top : IsTopological g order) where
         | inr (inr c) ↦ omega (arith, r.1, ap phase c.3)
       ]
 
-  -- only a process with a condition has a broadcast
+  -- an item at the moment of a process's broadcast is that of a condition of the process
   pub broadcast_at : (p x : ℕ) → p < process_count g → x < item_count g →
       moment g order x ≡ place order p * phases g + 2 →
       (c : ℕ) × (c < condition_count g) × (process_of g c ≡ p)
@@ -114,7 +118,7 @@ module _ (g : Graph) (order : List ℕ) (top : IsTopological g order) where
         | inr (inr c) ↦ (c.0, c.1, sym (ap (producer_of_item g) c.3) ∙ r.0)
       ]
 
-  -- a message comes of its edge
+  -- if an item has the moment of an edge's message of a process, that process is the edge's source
   pub message_at : (p e x : ℕ) → p < process_count g → e < edge_count g → x < item_count g →
       moment g order x ≡ place order p * phases g + (e + 3) → source g e ≡ p
   message_at p e x n h l is =
@@ -128,7 +132,7 @@ module _ (g : Graph) (order : List ℕ) (top : IsTopological g order) where
 
   -- ---- what has been sent before a moment
 
-  -- if nothing is sent at the moment, as much before the next
+  -- if nothing is sent at a moment, the node has sent the same before the next one
   pub sent_kept : (m node : ℕ) → ((y : ℕ) → y < item_count g → is_sent g y ≡ true → moment g order y ≡ m → ⊥) →
       sent_before g order (m + 1) node ≡ sent_before g order m node
   sent_kept m node none = same_filter _ _ (numbers_below (item_count g))
@@ -176,7 +180,7 @@ module _ (g : Graph) (order : List ℕ) (top : IsTopological g order) where
         Contains-flat_map_parts (reach_of r) (sent_before g order m node) v (from_is_in (sent_reach m node) v t) in
         (a.0, a.1, is_in_from (reach_of r a.0) v a.2)
 
-    -- with the item that is sent at the moment
+    -- if an item is sent at a moment, its reach is added to what the node has sent
     sent_next : (x m node : ℕ) → x < item_count g → is_sent g x ≡ true → moment g order x ≡ m → home g x ≡ node →
         (v : ℕ) →
         is_in (sent_reach (m + 1) node) v ≡ (is_in (sent_reach m node) v || is_in (reach_of r x) v)
@@ -210,7 +214,7 @@ module _ (g : Graph) (order : List ℕ) (top : IsTopological g order) where
     -- ---- one moment after another
 
     module _ (k m : ℕ) (rs known sent : List (List ℕ)) (agrees : AgreesUntil g order r k m rs known sent) where
-      -- a moment without an item
+      -- a moment without an item changes nothing
       pub skipped : ((y : ℕ) → y < item_count g → moment g order y ≡ m → ⊥) →
           AgreesUntil g order r k (m + 1) rs known sent
       skipped none = record {
@@ -255,7 +259,7 @@ module _ (g : Graph) (order : List ℕ) (top : IsTopological g order) where
               or_nothing true = refl
               or_nothing false = refl
 
-          -- the moment of what may be sent
+          -- at the moment of an item that may be sent its reach is set
           pub settled : AgreesUntil g order r k (m + 1) (set rs x reach) known (set sent (home g x) b)
           settled = record {
             items = length-set rs x reach ∙ agrees.items;

@@ -11,6 +11,7 @@ use Rattle.cpg_reach.specs.Variables.{Adds}
 use Rattle.cpg_reach.specs.Walked.{heard_by, start_by}
 use Rattle.cpg_reach.proofs.Adding.{same_after}
 
+-- a process that is read from the graph is frozen as the graph says
 pub frozen_at : (g : Graph) (p : ℕ) (ps : List Process) (q : Process) (b : Bool) → ps ≡ g.processes →
     p < process_count g → (get_or ps p q).frozen ≡ b →
     (process_at g p).frozen ≡ b
@@ -22,11 +23,13 @@ module _ (g : Graph) (r : Reach) (known : List (List ℕ)) (p : ℕ) where
   by_test b = cond b (map value_variable (conditions_of g p)) (get_or known (node_of g p) []
       ++ heard_by g r (node_of g p) (conditions_of g p) ++ flat_map (input_reach g r) (inputs g p))
 
+  -- a frozen start depends on the values of the conditions that decide the process
   pub start_frozen : (xs : List ℕ) → (process_at g p).frozen ≡ true →
       SameElements xs (map value_variable (conditions_of g p)) →
       SameElements xs (start_by g r known p)
   start_frozen xs e h v = h v ∙ ap (λ b. is_in (by_test b) v) (sym e)
 
+  -- any other start depends on what its node waited for, on what it hears, and on its inputs
   pub start_plain : (a b c : List ℕ) (node : ℕ) → (process_at g p).frozen ≡ false → node ≡ node_of g p →
       a ≡ get_or known node [] →
       Adds a (heard_by g r node (conditions_of g p)) b →

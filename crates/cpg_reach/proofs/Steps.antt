@@ -39,7 +39,7 @@ use Rattle.cpg_reach.specs.Walked.{AreEmpty}
 use Rattle.cpg_reach.proofs.Adding.{in_append}
 use Rattle.cpg_reach.proofs.Settling.{same_append, same_flat_map, same_cond, same_moment, sent_kept, nothing_at_end}
 
--- the parts of a start's reach in the order of the rules
+-- the parts of a start's reach stand in the order of the rules
 start_parts : (a e b i : Bool) → (((a || e) || b) || i) ≡ (((a || b) || e) || i)
 start_parts true e b i = refl
 start_parts false true true i = refl
@@ -72,6 +72,7 @@ module _ (g : Graph) (order : List ℕ) (top : IsTopological g order) (r : Reach
     end_right q l h = same_append (reach_of rs q) (q ∷ []) (reach_of r q) (q ∷ [])
         (agrees.reached q (omega arith) (let e = moment_of_start g order top q l in omega arith)) (λ v. refl)
 
+    -- what hearing a condition from before the place depends on is right
     hearing_right : (p c node : ℕ) → place order p * phases g ≤ m → c < condition_count g →
         place order (process_of g c) < place order p →
         SameElements (hearing_reach g rs node c) (hearing_reach g r node c)
@@ -98,6 +99,7 @@ module _ (g : Graph) (order : List ℕ) (top : IsTopological g order) (r : Reach
 
   -- ---- a start
 
+  -- given: reaches that are right before a start
   module _ (p : ℕ) (within : p < process_count g) (rs known sent : List (List ℕ))
       (agrees : AgreesUntil g order r (place order p) (place order p * phases g) rs known sent)
       (there : node_of g p < length g.nodes) where
@@ -129,7 +131,7 @@ module _ (g : Graph) (order : List ℕ) (top : IsTopological g order) (r : Reach
     ins_right = same_flat_map (input_reach g rs) (input_reach g r) (inputs g p)
         (λ e i. input_right (place order p) (place order p * phases g) rs known sent agrees p e (omega arith) i)
 
-    -- what the processes up to this one let hear
+    -- what hearing the conditions of the processes up to this one depends on
     heard_up_to : heard_by g r (node_of g p) (flat_map (conditions_of g) (earlier ++ p ∷ []))
         ≡ heard_earlier ++ heard_own r
     heard_up_to = ap (heard_by g r (node_of g p)) (flat_map-append (conditions_of g) earlier (p ∷ [])
@@ -137,6 +139,7 @@ module _ (g : Graph) (order : List ℕ) (top : IsTopological g order) (r : Reach
         ∙ flat_map-append (λ c. value_variable c ∷ hearing_reach g r (node_of g p) c)
         (flat_map (conditions_of g) earlier) (conditions_of g p)
 
+    -- what a start that is not frozen depends on is right
     plain_right : SameElements (get_or known (node_of g p) [] ++ heard_own rs ++ ins rs)
         (heard_by g r (node_of g p) (flat_map (conditions_of g) (earlier ++ p ∷ [])) ++ ends_earlier ++ ins r)
     plain_right v =
@@ -154,6 +157,7 @@ module _ (g : Graph) (order : List ℕ) (top : IsTopological g order) (r : Reach
     start_is v =
         sym (is.each p v (omega arith) ∙ ap (λ i. is_in (reach_by_item g order r p i) v) (item_at-start g p within))
 
+    -- the reach that is found for the start is right
     pub start_right : (reach : List ℕ) → SameElements reach (start_by g rs known p) → SameElements reach (reach_of r p)
     start_right reach h v = h v
         ∙ same_cond (process_at g p).frozen (map value_variable (conditions_of g p))
@@ -171,6 +175,7 @@ module _ (g : Graph) (order : List ℕ) (top : IsTopological g order) (r : Reach
         ∙ ap (λ q. take (place order p) order ++ q ∷ []) (get_or-place order p p c))
         ∙ filter-append (λ q. node_of g q == node) (take (place order p) order) (p ∷ [])
 
+    -- given: the reach of the start, and what the node has made wait for with it
     module _ (reach a b d : List ℕ) (right : SameElements reach (reach_of r p))
         (heard : Adds (get_or known (node_of g p) []) (heard_own rs) a) (started : Adds a reach b)
         (ended : Adds b (p ∷ []) d) where
@@ -190,6 +195,8 @@ module _ (g : Graph) (order : List ℕ) (top : IsTopological g order) (r : Reach
           ∙ sym (in_append (heard_earlier ++ heard_own r) (ends_earlier ++ end_reach r p) v)
           ∙ ap (λ xs. is_in xs v) (sym known_after_here)
 
+      -- What each node has made wait for is right at the next place.
+      -- For the process's node this is `here`, and another node has the same processes before the next place.
       knows_next : (node : ℕ) → node < length g.nodes →
           SameElements (get_or (set known (node_of g p) d) node [])
           (known_after g r node (on_node g order (place order p + 1) node))
@@ -210,6 +217,7 @@ module _ (g : Graph) (order : List ℕ) (top : IsTopological g order) (r : Reach
             ∙ sym (on_node_next node))
       ]
 
+      -- the reaches up to this moment are right: that of the process is the new one, and the others were found before
       reached_start : (y : ℕ) → y < item_count g → moment g order y < place order p * phases g + 2 →
           SameElements (reach_of (set rs p reach) y) (reach_of r y)
       reached_start y l h v = ⊎_elim
@@ -220,6 +228,7 @@ module _ (g : Graph) (order : List ℕ) (top : IsTopological g order) (r : Reach
           ∙ agrees.reached y l (sooner_than e) v)
           (cases_eq y p)
         where
+          -- an item other than the start comes before it, as no item has the moment after it
           sooner_than : (y ≡ p → ⊥) → moment g order y < place order p * phases g
           sooner_than e = ⊎_elim
               (λ (d : moment g order y < place order p * phases g). d)
@@ -241,6 +250,7 @@ module _ (g : Graph) (order : List ℕ) (top : IsTopological g order) (r : Reach
           (subst (λ z. is_sent g z ≡ true) (same_moment g order top y p l (omega arith)
           (let n = moment_of_start g order top p within in omega arith)) t))
 
+      -- with both set, all is right before the next moment
       pub started_next : AgreesUntil g order r (place order p + 1) (place order p * phases g + 2) (set rs p reach)
           (set known (node_of g p) d) sent
       started_next = record {
@@ -264,11 +274,13 @@ module _ (g : Graph) (order : List ℕ) (top : IsTopological g order) (r : Reach
       (λ y k. same_truth _ _ (to_before y (numbers-Contains (item_count g) y k))
       (from_before y (numbers-Contains (item_count g) y k)))
     where
+      -- an item that is queued before this one was sent by the same node before its moment
       to_before : (y : ℕ) → y < item_count g → is_queued_before g order y x ≡ true →
           (is_sent g y && (home g y == home g x) && nat_lt (moment g order y) (moment g order x)) ≡ true
       to_before y m q = and_from _ _ (and_parts _ _ q).0
           (lt-ltb _ _ (queued_sooner g order top y x m (phase_is_rank g (item_at g x) t) q))
 
+      -- an item that was sent by the same node before the moment is queued before this one
       from_before : (y : ℕ) → y < item_count g →
           (is_sent g y && (home g y == home g x) && nat_lt (moment g order y) (moment g order x)) ≡ true →
           is_queued_before g order y x ≡ true
@@ -287,11 +299,13 @@ module _ (g : Graph) (order : List ℕ) (top : IsTopological g order) (r : Reach
                 (phase (item_at g x)) (phases g) k (phase_below g x l) in omega arith)
           ])
 
+  -- given: reaches that are right before an item that may be sent
   module _ (k : ℕ) (x : ℕ) (within : x < item_count g) (rs known sent : List (List ℕ))
       (agrees : AgreesUntil g order r k (moment g order x) rs known sent) (there : home g x < length g.nodes) where
     abbrev values : List ℕ
     values = map value_variable (conditions_of g (producer g x))
 
+    -- what an item that is sent depends on is right
     sent_right : is_sent g x ≡ true →
         SameElements ((cond (is_frozen g x) values (end_reach rs (producer g x) ++ get_or sent (home g x) []))
         ++ sent_value g (item_at g x)) (send_reach g order r x)
@@ -310,7 +324,7 @@ module _ (g : Graph) (order : List ℕ) (top : IsTopological g order) (r : Reach
         ∙ ap (λ ys. is_in (flat_map (reach_of r) ys) v) (sym (queue_is x within t)))))
         (λ v. refl)
 
-    -- by whether it is sent
+    -- what an item depends on if it is sent, and nothing otherwise
     abbrev if_sent : Item → List ℕ
     if_sent i = cond (is_sent_item g i) (send_reach g order r x) []
 
@@ -321,12 +335,14 @@ module _ (g : Graph) (order : List ℕ) (top : IsTopological g order) (r : Reach
         (send_reach g order r x) [] sent_right (λ e v. refl)
 
     module _ (i : Item) (at : item_at g x ≡ i) (rule : reach_by_item g order r x i ≡ if_sent i) where
+      -- the reach that is found for the item is right
       pub send_right : (reach : List ℕ) → SameElements reach (send_by g rs sent i) → SameElements reach (reach_of r x)
       send_right reach h v = h v
           ∙ subst (λ j. SameElements (send_by g rs sent j) (if_sent j)) at any_right v
           ∙ ap (λ xs. is_in xs v) (sym rule)
           ∙ sym (is.each x v within ∙ ap (λ j. is_in (reach_by_item g order r x j) v) at)
 
+      -- an item that is not sent depends on nothing
       pub unsent_empty : is_sent g x ≡ false → (v : ℕ) → is_in (reach_of r x) v ≡ false
       unsent_empty e v =
           is.each x v within ∙ ap (λ j. is_in (reach_by_item g order r x j) v) at ∙ ap (λ xs. is_in xs v) rule
@@ -334,6 +350,7 @@ module _ (g : Graph) (order : List ℕ) (top : IsTopological g order) (r : Reach
 
 -- ---- at first
 
+-- with empty reaches, nothing known and nothing sent, all is right at first
 pub walk_begins : (g : Graph) (order : List ℕ) (r : Reach) (rs known sent : List (List ℕ)) →
     AreEmpty (item_count g) rs → AreEmpty (length g.nodes) known →
     AreEmpty (length g.nodes) sent →
@@ -353,7 +370,7 @@ walk_begins g order r rs known sent a b c = record {
         (λ y k. and_right (is_sent g y && (home g y == node)) (nat_lt (moment g order y) 0)
         (le-ltb (moment g order y) 0 (omega arith)))
 
--- what every walk keeps, whatever the reach
+-- the lists of a walk keep their lengths
 pub walked_some : (g : Graph) (order : List ℕ) (top : IsTopological g order) (k m : ℕ) (rs known sent : List (List ℕ)) →
     ((r : Reach) → IsReach g order r → AgreesUntil g order r k m rs known sent)
     → (length rs ≡ item_count g) × (length known ≡ length g.nodes) × (length sent ≡ length g.nodes)

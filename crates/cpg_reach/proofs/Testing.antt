@@ -27,7 +27,7 @@ use Rattle.cpg_reach.specs.Variables.{Adds}
 use Rattle.cpg_rules.specs.Trees.{TestsBelow}
 use Rattle.cpg_reach.specs.Tested.{tested, tested_values, AreDecidingUntil}
 
--- a way has tests of the tree
+-- each test on a way is a test of the tree
 way_is_tested : (t : Guard) (o : List Bool) (c : ℕ) → Contains (way t o) c → Contains (tested t) c
 way_is_tested (Leaf a) o c k = k
 way_is_tested (Test d off on) o c k = ⊎_elim
@@ -56,7 +56,7 @@ module _ (g : Graph) (order : List ℕ) where
       way (Test d off on) o ≡ d ∷ (if v then way on o else way off o)
   way_at d off on o v e = ap (λ w. d ∷ (if w then way on o else way off o)) e
 
-  -- through one arm of a test
+  -- an outcome that passes a test of one side passes it through the whole test
   through : (k d : ℕ) (b : List Bool) (off on : Guard) (v : Bool) (c : ℕ) → d < condition_count g → k ≤ rank d →
       length b ≡ condition_count g
       → Passes (rank d + 1) (set b d v) (if v then on else off) c → Passes k b (Test d off on) c
@@ -134,19 +134,23 @@ module _ (g : Graph) (order : List ℕ) where
         is_in_from (map value_variable ys) v
         (subst (Contains (map value_variable ys)) r.2 (Contains-map value_variable ys r.0 (h r.0 r.1)))
 
+    -- the values that a process's tree tests are those of the conditions that decide it
     pub tests_are_deciding : SameElements (tested_values t) (map value_variable (conditions_of g p))
     tests_are_deciding v = same_truth _ _ (values_moved (tested t) (conditions_of g p) v from_tested)
         (values_moved (conditions_of g p) (tested t) v to_tested)
 
 -- ---- one process after another
 
+-- a tree that tests conditions below a number tests them below a greater one
 pub tests_below : (n m : ℕ) (t : Guard) → n ≤ m → TestsBelow n t → TestsBelow m t
 tests_below n m (Leaf a) l h = tt
 tests_below n m (Test c off on) l h = (omega (arith, h.0), tests_below n m off l h.1, tests_below n m on l h.2)
 
+-- of no processes nothing is known
 pub deciding_first : (g : Graph) → AreDecidingUntil g 0 []
 deciding_first g = record { count = refl; each = λ p l. absurd (omega arith) }
 
+-- one process more has the conditions that decide it
 pub deciding_next : (g : Graph) (n : ℕ) (values : List (List ℕ)) (more : List ℕ) →
     SameElements more (map value_variable (conditions_of g n)) →
     AreDecidingUntil g n values →
@@ -164,11 +168,13 @@ deciding_next g n values more same h = let c = h.count in record {
 -- ---- the trees of an admitted graph
 
 module _ (g : Graph) (order : List ℕ) (guards : Guards) (admitted : IsAdmitted g order guards) where
+  -- the trees of an admitted graph test at most 32 conditions
   pub tests_fit : (t : Guard) → TestsBelow guards.conditions t → TestsBelow 32 t
   tests_fit t h = let a = admitted.guards.conditions in
       let b = admitted.limits.few_conditions in
       tests_below guards.conditions 32 t (omega arith) h
 
+  -- what is found in the tree of a process is the values of the conditions that decide it
   pub tree_decides : (p : ℕ) → p < process_count g → (t : Guard) → t ≡ tree_of guards p → (found : List ℕ) →
       Adds [] (tested_values t) found →
       SameElements found (map value_variable (conditions_of g p))

@@ -19,10 +19,11 @@ use Rattle.cpg_reach.specs.Walked.{heard_by, start_by, send_by, AgreesUntil, Are
 use Rattle.cpg_reach.proofs.Settling.{skipped, settled, broadcast_at, message_at}
 use Rattle.cpg_reach.proofs.Steps.{start_right, started_next, send_right, unsent_empty, walk_begins, walked_some}
 
--- whatever the reach, it agrees so far
+-- the walk agrees with each reach of the order so far
 abbrev pub Agrees : Graph → List ℕ → ℕ → ℕ → (rs known sent : List (List ℕ)) → Type 0
 Agrees g order k m rs known sent = (r : Reach) → IsReach g order r → AgreesUntil g order r k m rs known sent
 
+-- what agrees for some lists agrees for equal ones
 agrees_as : (g : Graph) (order : List ℕ) (r : Reach) (k m n : ℕ) (rs us known knows sent sents : List (List ℕ)) →
     m ≡ n → rs ≡ us → known ≡ knows → sent ≡ sents →
     AgreesUntil g order r k m rs known sent → AgreesUntil g order r k n us knows sents
@@ -32,6 +33,9 @@ agrees_as g order r k m n rs us known knows sent sents e a b c h =
     (subst (λ x. AgreesUntil g order r k x rs known sent) e h)))
 
 module _ (g : Graph) (order : List ℕ) (top : IsTopological g order) where
+  -- After the reach of a start, and what its node makes wait for with it, all is right before what it sends.
+  -- `first`, `second`, `starts` are the reaches and sets as the code reads them. `b`, `c`, `d` are the node's set
+  -- with what is heard, with the reach, and with the process.
   pub start_settled : (p : ℕ) → p < process_count g → (rs first second known starts sent : List (List ℕ)) → first ≡ rs →
       second ≡ rs →
       starts ≡ known →
@@ -57,7 +61,9 @@ module _ (g : Graph) (order : List ℕ) (top : IsTopological g order) where
       (started_next g order top r is p within rs known sent
       (walked r is) n reach b c d reach_is heard_here started ended)
 
-  -- an item that may be sent
+  -- After the reach of an item that may be sent all is right before the next moment.
+  -- `first`, `sends` are the reaches and sets as the code reads them, and `us`, `knows`, `sents` those after the
+  -- item.
   pub send_settled : (k m x : ℕ) (rs first known sent sends us knows sents : List (List ℕ)) → first ≡ rs →
       sends ≡ sent → Agrees g order k m rs known sent → x < item_count g → (i : Item) →
       item_at g x ≡ i → moment g order x ≡ m
@@ -80,6 +86,7 @@ module _ (g : Graph) (order : List ℕ) (top : IsTopological g order) where
       (unsent_empty g order top r is k x within rs known sent now n i at (rule r)) b
       (subst (λ y. Adds (get_or sent y []) reach b) here adds) n)
 
+  -- after the reach of a broadcast all is right before the messages
   pub broadcast_settled : (p c : ℕ) (rs first known sent sends us knows sents : List (List ℕ)) → first ≡ rs →
       sends ≡ sent →
       condition_of g p ≡ Some c →
@@ -102,6 +109,7 @@ module _ (g : Graph) (order : List ℕ) (top : IsTopological g order) where
       (here ∙ ap (node_of g) (sym q) ∙ ap (λ i. node_of g (producer_of_item g i)) (sym (item_at-broadcast g c))) there
       reach b right us_is knows_is sents_is adds r is)
 
+  -- a process without a condition sends no broadcast, so all stays right
   pub no_broadcast : (p : ℕ) → p < process_count g → (rs known sent : List (List ℕ)) → condition_of g p ≡ None →
       Agrees g order (place order p + 1) (place order p * phases g + 2) rs known sent →
       Agrees g order (place order p + 1) (place order p * phases g + 3) rs known sent
@@ -112,9 +120,11 @@ module _ (g : Graph) (order : List ℕ) (top : IsTopological g order) where
       (λ y l e. let b = broadcast_at g order top p y within l e in
       none_is_some (sym none ∙ ap (condition_of g) (sym b.2) ∙ condition_of_process_of g b.0 b.1)))
     where
+      -- None is no number
       none_is_some : {c : ℕ} → None ≡ Some c → ⊥
       none_is_some e = cc
 
+  -- after the reach of a message all is right before the next edge
   pub message_settled : (p e : ℕ) (rs first known sent sends us knows sents : List (List ℕ)) → first ≡ rs →
       sends ≡ sent → e < edge_count g →
       source g e ≡ p →
@@ -137,6 +147,7 @@ module _ (g : Graph) (order : List ℕ) (top : IsTopological g order) where
       (here ∙ ap (node_of g) (sym q) ∙ ap (λ i. node_of g (producer_of_item g i)) (sym (item_at-message g e l))) there
       reach b right us_is knows_is sents_is adds r is)
 
+  -- an edge from another process carries no message of this one, so all stays right
   pub no_message : (p e : ℕ) → p < process_count g → e < edge_count g → (rs known sent : List (List ℕ)) →
       (source g e ≡ p → ⊥) →
       Agrees g order (place order p + 1) (place order p * phases g + 3 + e) rs known sent →
@@ -148,6 +159,7 @@ module _ (g : Graph) (order : List ℕ) (top : IsTopological g order) where
       (λ y i h. other (message_at g order top p e y within l i
       (h ∙ (let x : place order p * phases g + 3 + e ≡ place order p * phases g + (e + 3) = omega arith in x)))))
 
+  -- with empty reaches, nothing known and nothing sent, all is right before the first process
   pub walk_starts : (items nodes : ℕ) (rs known sent : List (List ℕ)) → items ≡ item_count g → nodes ≡ length g.nodes →
       AreEmpty items rs → AreEmpty nodes known →
       AreEmpty nodes sent →
@@ -157,17 +169,19 @@ module _ (g : Graph) (order : List ℕ) (top : IsTopological g order) where
       (walk_begins g order r rs known sent (subst (λ m. AreEmpty m rs) i a) (subst (λ m. AreEmpty m known) n b)
       (subst (λ m. AreEmpty m sent) n c))
 
-  -- the process at a place
+  -- given: the process at a place of the order, by another name of the graph
   module _ (h : Graph) (same : h ≡ g) (lawful : IsOrder order) (k p : ℕ) (within : k < length order)
       (at : p ≡ get_or order k 0) (rs known sent : List (List ℕ)) where
     stands : place order p ≡ k
     stands = ap (place order) at ∙ place_at order lawful k within
 
+    -- what is right before a place is right before the process there
     pub step_in : Agrees g order k (k * phases g) rs known sent →
         Agrees h order (place order p) (place order p * phases h) rs known sent
     step_in walked = subst (λ n. Agrees h order n (n * phases h) rs known sent) (sym stands)
         (subst (λ (x : Graph). Agrees x order k (k * phases x) rs known sent) (sym same) walked)
 
+    -- what is right behind the process is right before the next place
     pub step_out : Agrees h order (place order p + 1) ((place order p + 1) * phases h) rs known sent →
         Agrees g order (k + 1) ((k + 1) * phases g) rs known sent
     step_out walked = subst (λ (x : Graph). Agrees x order (k + 1) ((k + 1) * phases x) rs known sent) same

@@ -22,6 +22,7 @@ use Rattle.cpg_reach.specs.Walked.{AreReaches}
 use Rattle.cpg_reach.specs.Wide.{HasViews, IsLeastWide, IsNarrow, is_wide_by, HasLoads}
 use Rattle.cpg_reach.proofs.Adding.{set_at}
 
+-- sets with the same in them have the same views
 pub same_views : (g : Graph) (xs ys : List ℕ) → SameElements xs ys → views g xs ≡ views g ys
 same_views g xs ys h =
     let a = views_grow g xs ys (λ v t. sym (h v) ∙ t) in
@@ -38,6 +39,7 @@ views_whole g order guards admitted reached =
     let f = views_fit g admitted.limits.few_processes admitted.limits.faults reached t.0 t.1 (omega arith) in
     omega arith
 
+-- by whatever reach, an item has the views that are counted, as far as there are numbers
 pub has_views : (g : Graph) (order : List ℕ) (top : IsTopological g order) (guards : Guards) (urgency : List ℕ) →
     IsAdmitted g urgency guards → (rs : Reach) →
     AreReaches g order rs →
@@ -57,6 +59,7 @@ pub record AreLoads (g : Graph) (order : List ℕ) (x loads : ℕ) : Type 0 wher
   pub sum : (r : Reach) → IsReach g order r → loads ≡ sum_by (load g r) (numbers_below x)
   pub narrow : (r : Reach) → IsReach g order r → (y : ℕ) → y < x → is_too_wide g r y ≡ false
 
+-- before any item the loads are 0
 pub loads_first : (g : Graph) (order : List ℕ) → AreLoads g order 0 0
 loads_first g order = record { few = omega arith; sum = λ r is. refl; narrow = λ r is y l. absurd (omega arith) }
 
@@ -64,6 +67,7 @@ sum_next : (f : ℕ → ℕ) (x : ℕ) → sum_by f (numbers_below (x + 1)) ≡ 
 sum_next f x = ap (sum_by f) (below_push x) ∙ sum_by-append f (numbers_below x) (x ∷ [])
     ∙ (let e = sum_by-cons f x [] in omega arith)
 
+-- given: the loads of the items before one, and the reach of that one
 module _ (g : Graph) (order : List ℕ) (top : IsTopological g order) (rs : Reach) (are : AreReaches g order rs)
     (x loads : ℕ) (so_far : AreLoads g order x loads) (within : x < item_count g)
     (xs : List ℕ) (at : xs ≡ get_or rs x xs) where
@@ -77,6 +81,7 @@ module _ (g : Graph) (order : List ℕ) (top : IsTopological g order) (rs : Reac
       (ap₂ ◌+◌ (so_far.sum r is) (ap (λ n. n * rows_of_item g (item_at g x)) (views_are r is))
       ∙ sym (sum_next (load g r) x))
 
+  -- if the item is not too wide, its load makes the loads of one item more
   pub loads_next : (sum : ℕ) → HasLoads g xs x loads sum → AreLoads g order (x + 1) sum
   loads_next sum h = record {
     few = h.few;
@@ -88,6 +93,7 @@ module _ (g : Graph) (order : List ℕ) (top : IsTopological g order) (rs : Reac
         (cases_lt y x);
   }
 
+  -- if it is too wide, it is the first that is
   pub least_wide : is_wide_by g xs x loads ≡ true → IsLeastWide g order x
   least_wide t = record {
     wide = let s = some_reach g order top in
@@ -95,6 +101,7 @@ module _ (g : Graph) (order : List ℕ) (top : IsTopological g order) (rs : Reac
     least = λ y l w. both_ways _ (so_far.narrow w.reach w.reached y l) w.wide;
   }
 
+-- if no item is left, no item is too wide
 pub none_wide : (g : Graph) (order : List ℕ) (x loads : ℕ) → item_count g ≤ x → AreLoads g order x loads →
     IsNarrow g order
 none_wide g order x loads l h =

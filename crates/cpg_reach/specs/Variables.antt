@@ -7,6 +7,6 @@ use Rattle.cpg_order.specs.Reach.{is_in}
 abbrev pub members : List Bool → List ℕ
 members marks = filter (λ v. get_or marks v false) (numbers_below (length marks))
 
--- afterwards there is what was there before, and more, and nothing else
+-- the set after has the numbers of the set before, those that are added, and no others
 abbrev pub Adds : (before more after : List ℕ) → Type 0
 Adds before more after = (v : ℕ) → is_in after v ≡ (is_in before v || is_in more v)

@@ -66,7 +66,7 @@ pub record AreReaches (g : Graph) (order : List ℕ) (reaches : Reach) : Type 0 
   pub each : (r : Reach) → IsReach g order r → (x : ℕ) → x < item_count g →
       SameElements (reach_of reaches x) (reach_of r x)
 
--- as many sets, and nothing in any
+-- n sets, all of them empty
 pub record AreEmpty (n : ℕ) (sets : List (List ℕ)) : Type 0 where
   pub count : length sets ≡ n
   pub each : (i : ℕ) → SameElements (get_or sets i []) []

@@ -3,7 +3,7 @@ use Rattle.std.specs.Prelude.{ℕ, ◌+◌, ◌*◌, ◌≡◌, ◌<◌, ◌≤�
 use Rattle.cpg_base.specs.Graph.{Graph, item_count, item_at}
 use Rattle.cpg_order.specs.Reach.{Reach, IsReach, reach_of, views, rows_of_item, is_too_wide, most_views, most_loads}
 
--- by whatever reach, and there is one, the item has so many views
+-- the item has n views by each reach, and there is a reach
 pub record HasViews (g : Graph) (order : List ℕ) (x n : ℕ) : Type 0 where
   pub some : (r : Reach) × IsReach g order r
   pub each : (r : Reach) → IsReach g order r → n ≡ views g (reach_of r x)

@@ -16,7 +16,7 @@ use std::alloc::Global;
 /// What counting the views of any set of variables needs.
 #[derive(Drop)]
 pub struct Counter {
-    /// At each number of free counts their ways.
+    /// For each number of free counts, its ways.
     ways: WaysTable,
     /// The conditions by the order of their processes.
     conditions: Vec<u32>,
@@ -95,7 +95,7 @@ fn free_counts(admitted: &Admitted, reached: &Variables, scenario: &Scenario) ->
     counts
 }
 
-/// How many views an outcome has: without faults it is one itself.
+/// How many views an outcome has. Without faults it has one: itself.
 fn views_of_outcome(
     admitted: &Admitted,
     ways: &[u64],
@@ -112,7 +112,8 @@ fn views_of_outcome(
     ways[free_counts(admitted, reached, scenario)]
 }
 
-/// How many views there are with the values so far, where the conditions are still to choose; `most` if there are more.
+/// How many views there are with the values so far, if these conditions are still to be chosen; `most` if there are
+/// more.
 fn views_from(
     admitted: &Admitted,
     ways: &[u64],

@@ -1,4 +1,5 @@
-//! How many columns the rows of an item need: the variables that its time may depend on, and the ways that these have.
+//! How many columns the rows of an item need: which variables its time may depend on, and in how many ways these can
+//! be set.
 #![tactic(auto)]
 
 mod conditions;

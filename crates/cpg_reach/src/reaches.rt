@@ -63,6 +63,7 @@ fn settle_start(
         walk.known.as_slice(),
         process,
     );
+    // processes after this one on the node wait for what it hears, for its start, and for its end
     let mut known = walk.known[node as usize].copy();
     add_heard(
         problem,
@@ -99,6 +100,7 @@ fn settle_broadcast(problem: &Problem, order: &Order, process: u32, walk: &mut O
     requires walked { IsWalkedTo problem.now order.now (place order.now process + 1) (place order.now process * phases problem.now + 2) walk.old }
     ensures { IsWalkedTo problem.now order.now (place order.now process + 1) (place order.now process * phases problem.now + 3) walk.new }
 {
+    // the process computes no condition
     let Some(condition) = problem.condition_of(process) else {
         return;
     };
@@ -128,6 +130,7 @@ fn settle_message(
     requires walked { IsWalkedTo problem.now order.now (place order.now process + 1) (place order.now process * phases problem.now + 3 + edge) walk.old }
     ensures { IsWalkedTo problem.now order.now (place order.now process + 1) (place order.now process * phases problem.now + 3 + (edge + 1)) walk.new }
 {
+    // the edge comes from another process
     if problem.edges()[edge as usize].from != process {
         return;
     }

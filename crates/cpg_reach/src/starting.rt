@@ -50,6 +50,7 @@ fn add_hearing(
 {
     let process = problem.process_of(condition);
     let first_broadcast = problem.processes().len() + problem.edges().len();
+    // the node knows its own condition at the end of the process, and hears another one by its broadcast
     if problem.node_of(process) == node {
         add_end(reaches, process, reach);
     } else {
@@ -86,6 +87,7 @@ fn add_input(problem: &Problem, reaches: &[Variables], edge: u32, reach: &mut Va
     ensures { Adds reach.old (input_reach problem.now reaches.now edge) reach.new }
 {
     let ends = problem.edges()[edge as usize];
+    // on one node the input is there at the end of its source, and else when the message arrives
     if problem.node_of(ends.from) == problem.node_of(ends.to) {
         add_end(reaches, ends.from, reach);
     } else {
@@ -121,6 +123,7 @@ pub fn start_of(
     requires nodes { length known.now ≡ length problem.now.nodes }
     ensures { SameElements result (start_by problem.now reaches.now known.now process) }
 {
+    // a frozen process starts at one time, so just what decides it counts
     if problem.processes()[process as usize].frozen {
         return deciding[process as usize].copy();
     }

@@ -2,10 +2,10 @@
 ghost use Rattle.std.specs.Prelude.{◌≡◌, ◌<◌, ◌≤◌, ◌+◌, ℕ, length, get_or};
 ghost use Rattle.cpg_reach.specs.WaysTable.{AreWays};
 
-/// How many fault counts there may be, and none.
+/// How many numbers of fault counts there are, from none to 128.
 const MOST_COUNTS: usize = 129;
 
-/// At each number of counts the ways to add up to at most a number.
+/// For each number of counts, the ways to add up to at most a number.
 pub type WaysTable = [u64; MOST_COUNTS];
 
 /// From the ways to add up to at most a number, those to add up to at most one more. The contract alone names `faults`.
@@ -19,7 +19,7 @@ fn raise(table: &mut [u64], faults: u8)
     }
 }
 
-/// At each number of counts, up to 128, the ways to add up to at most the fault number.
+/// For each number of counts up to 128, the ways to add up to at most the fault number.
 pub fn ways_of(faults: u8) -> WaysTable
     requires { faults ≤ 8 }
     ensures { AreWays faults result }

@@ -13,7 +13,8 @@ use cpg_base::{Item, MOST_COLUMNS, MOST_LOAD, Order, OutOfMemory, Problem};
 use cpg_rules::Admitted;
 use std::alloc::Global;
 
-/// In how many rows an item stands: a start in one, and what is sent in one at its sender and one at each receiver.
+/// In how many rows an item stands. A start stands in one; an item that is sent stands in one at its sender and in
+/// one at each receiver.
 pub fn rows_of_item(problem: &Problem, item: u32) -> u64
     requires { item < item_count problem.now }
     ensures rows { result ≡ rows_of_item problem.now (item_at problem.now item) }
@@ -29,7 +30,7 @@ pub fn rows_of_item(problem: &Problem, item: u32) -> u64
     }
 }
 
-/// The loads with that of one more item; `None` if it has too many views, or the loads are then too many.
+/// The loads with that of one more item; `None` if the item has too many views, or the loads become too many.
 fn loads_with(
     admitted: &Admitted,
     order: &Order,
@@ -47,10 +48,12 @@ fn loads_with(
     ensures counter { IsCounterFor admitted.now.graph order.now counter.new }
 {
     let rows = rows_of_item(admitted.problem(), item);
+    // the item stands in no row
     if rows == 0 {
         return Some(loads);
     }
     let views = counter.views(admitted, order, reached, MOST_COLUMNS + 1);
+    // a row with a column for each view would be too long
     if views > MOST_COLUMNS {
         return None;
     }

@@ -9,6 +9,7 @@ use Rattle.cpg_reader.specs.declared.place.ReadFault.TheVariants.{OutOfMemory}
 use Rattle.cpg_reader.specs.Reading.{Reading, Gives}
 use Rattle.cpg_reader.specs.Document.{document_of, read_members, problem_of}
 
+-- bytes that are a document are read as its members
 pub problem_of-read : (bytes : List ℕ) (ms : Members) → IsUtf8 bytes → parse_document bytes ≡ Some ms →
     problem_of bytes ≡ read_members ms
 unfolding problem_of document_of
@@ -18,6 +19,7 @@ none_if : (b : Bool) (o : Option Members) → (b ≡ true → o ≡ None) → co
 none_if true o h = h refl
 none_if false o h = refl
 
+-- bytes that are no document are refused as no TOML
 pub problem_of-refused : (bytes : List ℕ) → (IsUtf8 bytes → parse_document bytes ≡ None) →
     problem_of bytes ≡ Err NotToml
 unfolding problem_of document_of

@@ -8,7 +8,7 @@ use Rattle.cpg_reader.specs.declared.place.ReadFault.TheVariants.{NotToml, BadFi
 use Rattle.cpg_reader.specs.declared.place.ReadFault.TheVariants.{OutOfMemory}
 use Rattle.cpg_reader.specs.Reading.{Reading, pure, ◌>>=◌, each, Refuses}
 
--- a refusal is passed on
+-- if one reading refuses as another does, code that refuses as the first refuses as the second
 pub Refuses-along : {T U : Type 0} (fault : ReadFault) (a : Reading T) (b : Reading U) →
     ((f : ReadFault) → a ≡ Err f → b ≡ Err f) → Refuses fault a → Refuses fault b
 Refuses-along NotToml a b h r = h NotToml r
@@ -18,22 +18,23 @@ Refuses-along (UnknownName place) a b h r = h (UnknownName place) r
 Refuses-along (OverLimit what) a b h r = h (OverLimit what) r
 Refuses-along OutOfMemory a b h r = tt
 
--- what was read before, and what is still read
+-- the elements read so far, and those still to be read
 abbrev pub after : {U : Type 0} → List U → Reading (List U) → Reading (List U)
 after ys rest = rest >>= (λ zs. pure (ys ++ zs))
 
+-- a step for each element of a mapped list is the mapped step for each element
 pub each-map : {S T U : Type 0} (f : S → T) (step : ℕ → T → Reading U) (i : ℕ) (xs : List S) →
     each step i (map f xs) ≡ each (λ i x. step i (f x)) i xs
 each-map f step i [] = refl
 each-map f step i (x ∷ xs) = rw (each-map f step (i + 1) xs) refl
 
--- the elements from here on
+-- the elements from a place on begin with the one at the place
 pub drop-here : {T : Type 0} (xs : List T) (i : ℕ) (x : T) → i < length xs → x ≡ get_or xs i x →
     drop i xs ≡ x ∷ drop (i + 1) xs
 drop-here xs i x h is = drop_more xs i x h ∙ ap (λ y. y ∷ drop (i + 1) xs) (sym is)
 
 module _ {T U : Type 0} (step : ℕ → T → Reading U) where
-  -- an element is refused
+  -- if an element is refused, the whole list is
   pub refused : (xs : List T) (i : ℕ) (x : T) (ys : List U) (fault : ReadFault) (whole : Reading (List U)) →
       i < length xs → x ≡ get_or xs i x →
       Refuses fault (step i x)
@@ -42,7 +43,7 @@ module _ {T U : Type 0} (step : ℕ → T → Reading U) where
       let here = rw (drop-here xs i x h is) at so_far in
       Refuses-along fault (step i x) whole (λ f e. sym here ∙ rw e refl) r
 
-  -- all are read
+  -- if all elements were read, the whole list was
   pub ends : (xs : List T) (i : ℕ) (ys : List U) (whole : Reading (List U)) → length xs ≤ i →
       after ys (each step i (drop i xs)) ≡ whole → whole ≡ Ok ys
   ends xs i ys whole h so_far =

@@ -43,6 +43,7 @@ in_range-within : (table : Table) (i : ℕ) (ns : List BoundedField) → AreWith
 in_range-within table i [] h = refl
 in_range-within table i (n ∷ ns) h = rw h.0 (in_range-within table i ns h.1)
 
+-- if the numbers of each element are in range, the check of all passes
 all_in_range-within : {S T : Type 0} (table : Table) (numbers_of : T → List BoundedField) (f : S → T) (i : ℕ)
     (xs : List S) →
     AllByRecursion (λ x. AreWithin (numbers_of (f x))) xs →
@@ -67,6 +68,7 @@ apart_if seen name false e h = all_pairs_push (λ a b. a ≢ b) seen name h
     Bool_apart : true ≡ false → ⊥
     Bool_apart e = cc
 
+-- the names that are kept as different ones differ
 different-apart : (seen names : List (List ℕ)) → AllPairs (λ a b. a ≢ b) seen →
     AllPairs (λ a b. a ≢ b) (different seen names)
 different-apart seen [] h = h
@@ -88,6 +90,7 @@ Contains-head x y xs e = (0, omega arith, e)
 Contains-tail : (x y : List ℕ) (xs : List (List ℕ)) → Contains xs y → Contains (x ∷ xs) y
 Contains-tail x y xs (k, l, e) = (suc k, omega (arith, l), e)
 
+-- each name that is kept as a different one is one of the names
 different-from : (seen names : List (List ℕ)) (x : List ℕ) → Contains (different seen names) x →
     Contains seen x ⊎ Contains names x
 different-from seen [] x c = inl c
@@ -139,15 +142,18 @@ module _ (g : Graph) (limited : IsWithinLimits g) where
       subst (λ n. n ≤ MOST_CONDITIONS) (sym (ap length (conditions_found g))) limited.few_conditions in
       omega (arith, all, found, length-map conditional name_of)
 
+-- a deadline within the limits, or none, is in range
 deadline_in : (own : Option ℕ) → IfSome own (λ d. d ≤ LONGEST) →
     is_within 0 LONGEST (unwrap_or (option_map pos own) (pos 0)) ≡ true
 deadline_in None h = refl
 deadline_in (Some d) h = within 0 LONGEST d (omega arith) h
 
+-- the numbers of a slot within the limits are in range
 slot_in : (nodes : List (List ℕ)) (s : Slot) → IsSlotWithin (length nodes) s →
     AreWithin (slot_numbers (raw_slot nodes s))
 slot_in nodes s h = (within 1 LONGEST s.length h.lasts h.length, (within 1 LARGEST s.bytes h.holds h.bytes, tt))
 
+-- the numbers of a process within the limits are in range
 process_in : (nodes : List (List ℕ)) (p : Process) → IsProcessWithin (length nodes) p →
     AreWithin (process_numbers (raw_process nodes p))
 process_in nodes p h = (
@@ -167,6 +173,7 @@ process_in nodes p h = (
   ),
 )
 
+-- the number of an edge within the limits is in range
 edge_in : (names : List (List ℕ)) (count : ℕ) (e : Edge) → IsEdgeWithin count e →
     AreWithin (edge_numbers (raw_edge names e))
 edge_in names count e h = (within 1 LARGEST e.size h.sized h.size, tt)
@@ -176,6 +183,7 @@ all_weaker : {X : Type 0} (P R : X → Type 0) → ((x : X) → P x → R x) →
 all_weaker P R f [] h = tt
 all_weaker P R f (x ∷ xs) h = (f x h.0, all_weaker P R f xs h.1)
 
+-- the document of a graph within its limits is within the limits
 pub raw_limited : (g : Graph) → IsWithinLimits g → limits (raw_of g) ≡ Ok tt
 unfolding limits
 raw_limited g h =

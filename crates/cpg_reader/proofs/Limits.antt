@@ -34,15 +34,18 @@ pub record AreLimits (g : RawGraph) : Type 0 where
   pub edge_ranges : All (λ e. AreIn (edge_numbers e)) g.edges
   pub conditions : length (different [] (sources g.edges)) ≤ 32
 
+-- a check that passed gives the next step
 passes : {T : Type 0} (b : Bool) (next : Reading T) (fault : ReadFault) (x : T) → cond b next (Err fault) ≡ Ok x →
     (b ≡ true) × (next ≡ Ok x)
 passes true next fault x h = (refl, h)
 passes false next fault x h = cc
 
+-- a list that passes its check is no longer than its limit
 at_most-le : {T : Type 0} (limit : ℕ) (what : What) (xs : List T) (x : Unit {0}) → at_most limit what xs ≡ Ok x →
     length xs ≤ limit
 at_most-le limit what xs x h = leb-true (length xs) limit (passes (nat_le (length xs) limit) done _ x h).0
 
+-- a number in its range is a natural number in this range
 natural-within : (low high : ℕ) (value : ℤ) → is_within low high value ≡ true →
     (low ≤ natural value) × (natural value ≤ high)
 natural-within low high (pos n) h =
@@ -50,6 +53,7 @@ natural-within low high (pos n) h =
     (leb-true low n above, leb-true n high below)
 natural-within low high (negsuc n) h = absurd (false≢true h)
 
+-- numbers that pass their checks are in range
 AreIn-from_in_range : (table : Table) (i : ℕ) (ns : List BoundedField) (x : Unit {0}) → in_range table i ns ≡ Ok x →
     AreIn ns
 AreIn-from_in_range table i [] x h = tt
@@ -58,6 +62,7 @@ AreIn-from_in_range table i (n ∷ ns) x h =
     let (low, high) = natural-within n.low n.high n.value here in
     (low, high, AreIn-from_in_range table i ns x rest)
 
+-- if the check of all elements passes, the numbers of each are in range
 all_in_range-at : {T : Type 0} (table : Table) (numbers_of : T → List BoundedField) (i : ℕ) (xs : List T)
     (x : Unit {0}) →
     all_in_range table numbers_of i xs ≡ Ok x →
@@ -70,6 +75,7 @@ all_in_range-at table numbers_of i (y ∷ ys) x h (suc k) d l =
     let (_, here, rest) = then-parts (in_range table i (numbers_of y)) (all_in_range table numbers_of (i + 1) ys) x h in
     all_in_range-at table numbers_of (i + 1) ys x rest k d (omega arith)
 
+-- a document that passes the checks has few enough of each, and its numbers are in range
 pub are_limits : (g : RawGraph) → limits g ≡ Ok tt → AreLimits g
 unfolding limits
 are_limits g h =
@@ -93,29 +99,34 @@ are_limits g h =
       conditions = at_most-le 32 Conditions (different [] (sources g.edges)) _ conditions;
     }
 
--- the numbers that code narrows are small
+-- the bytes of each slot fit 16 bits
 pub small_slots : (g : RawGraph) → limits g ≡ Ok tt → All (λ s. natural s.bytes ≤ 65535) g.slots
 small_slots g h k d l = ((are_limits g h).slot_ranges k d l).2.1
 
+-- the parts of each process fit 16 bits
 pub small_processes : (g : RawGraph) → limits g ≡ Ok tt → All (λ p. natural p.parts ≤ 65535) g.processes
 small_processes g h k d l = omega (arith, ((are_limits g h).process_ranges k d l).2.1)
 
+-- the bytes of each edge fit 16 bits
 pub small_edges : (g : RawGraph) → limits g ≡ Ok tt → All (λ e. natural e.bytes ≤ 65535) g.edges
 small_edges g h k d l = ((are_limits g h).edge_ranges k d l).1
 
+-- there are at most 128 names of nodes
 pub few_nodes : (g : RawGraph) (names : List (List ℕ)) → limits g ≡ Ok tt → names ≡ g.nodes → length names ≤ 128
 few_nodes g names h e = omega (arith, (are_limits g h).nodes, ap length e)
 
+-- there are at most 128 names of processes
 pub few_processes : (g : RawGraph) (names : List (List ℕ)) → limits g ≡ Ok tt → names ≡ process_names g.processes →
     length names ≤ 128
 few_processes g names h e = omega (arith, (are_limits g h).processes, ap length e, length-map g.processes (λ p. p.name))
 
--- what holds of all holds of the one at a place
+-- what holds of all elements holds of the one at a place
 pub all_at : {X : Type 0} (P : X → Type 0) (xs ys : List X) (i : ℕ) (x : X) → All P xs → ys ≡ xs → i < length ys →
     x ≡ get_or ys i x → P x
 all_at P xs ys i x h e l is =
     let there : get_or xs i x ≡ x = sym (is ∙ ap (λ zs. get_or zs i x) e) in
     subst P there (h i x (subst (λ zs. i < length zs) e l))
 
+-- there are at most 8 faults
 pub small_faults : (g : RawGraph) → limits g ≡ Ok tt → natural g.faults ≤ 8
 small_faults g h = (are_limits g h).top_range.1

@@ -18,6 +18,7 @@ match_members Less a b c = refl
 match_members Equal a b c = refl
 match_members Greater a b c = refl
 
+-- a map with one more entry is seen as its members with one more
 pub members_view-insert : (es : List Entry) (k : String Global) (v : Value) →
     members_view (insert_entry string_cmp es k v) ≡ with_member (string_bytes k) (view v) (members_view es)
 members_view-insert [] k v = refl

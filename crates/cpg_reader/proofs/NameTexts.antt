@@ -8,10 +8,12 @@ use Rattle.std.proofs.lemmas.List.Sums.{AllPass-from_list_all, list_all-from_All
 use Rattle.cpg_base.specs.Name.{IsName, is_name_byte}
 use Rattle.cpg_reader.specs.Rows.{is_name, name_if}
 
+-- a name passes the test
 pub is_name-from_IsName : (text : List ℕ) → IsName text → is_name text ≡ true
 is_name-from_IsName text h = rw (le-leb 1 (length text) h.some, le-leb (length text) 32 h.short)
     (list_all-from_AllPass is_name_byte text h.plain)
 
+-- a text that passes the test is a name
 pub IsName-from_is_name : (text : List ℕ) → is_name text ≡ true → IsName text
 IsName-from_is_name text h =
     let (sized, plain) = and_parts (nat_le 1 (length text) && nat_le (length text) 32) (list_all is_name_byte text) h in
@@ -29,13 +31,14 @@ not_name : (text : List ℕ) (b : Bool) → is_name text ≡ b → ¬ IsName tex
 not_name text true e h = absurd (h (IsName-from_is_name text e))
 not_name text false e h = if_name text false e
 
--- what `Name::new` says of its answer
+-- an answer that `Name::new` may give is the text if it is a name, or else none
 pub named : (found : Option (List ℕ)) (text : List ℕ) → IfSome found (λ name. name ≡ text) →
     IfSome found (λ _. IsName text) → IfNone found (¬ IsName text) →
     found ≡ name_if text
 named (Some name) text same taken refused = ap Some same ∙ sym (if_name text true (is_name-from_IsName text taken))
 named None text same taken refused = sym (not_name text (is_name text) refl refused)
 
+-- a text taken as a name is found exactly if it is a name
 pub named_ok : {E : Type 0} (r : Result (Option (List ℕ)) E) (text : List ℕ) →
     IfOk r (λ found. IfSome found (λ name. name ≡ text)) →
     IfOk r (λ found. IfSome found (λ _. IsName text)) →

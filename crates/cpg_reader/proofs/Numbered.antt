@@ -45,7 +45,7 @@ left_shorter : (xs ys : List (List ℕ)) (y : List ℕ) → length xs < length (
 left_shorter [] ys y = omega arith
 left_shorter (x ∷ xs) ys y = omega (arith, left_shorter xs ys y)
 
--- names that differ pass
+-- names that differ pass the check for double names
 apart_from-pairs : (table : Table) (key : Key) (i : ℕ) (earlier names : List (List ℕ)) → AreApart (earlier ++ names) →
     apart_from table key i earlier names ≡ Ok tt
 apart_from-pairs table key i earlier [] h = refl
@@ -74,6 +74,7 @@ number_at names place n h l =
     cond-true _ _ _ (lt-ltb (position_or_len passes names) (length names) (omega (arith, at, l))) ∙ ap Some at in
     rw found refl
 
+-- if a step gives each element back, the steps for all give the list back
 each_back : {S T : Type 0} (step : ℕ → T → Reading S) (f : S → T) (P : S → Type 0) →
     ((i : ℕ) (x : S) → P x → step i (f x) ≡ Ok x) → (i : ℕ) (xs : List S) →
     AllByRecursion P xs →
@@ -106,12 +107,14 @@ module _ (names : List (List ℕ)) (names_differ : AreApart names) where
       h.once i j 0 lt l' (only names names_differ (get_or o i 0) (get_or o j 0) (h.there i 0 i') (h.there j 0 l')
       (sym (get_or-map (name_in names) o i 0 d i') ∙ same ∙ get_or-map (name_in names) o j 0 d l'))
 
+  -- the names of an order within the limits differ
   order_differs : (order : Option (List ℕ)) → IfSome order (IsOrderWithin (length names)) →
       order_apart (option_map (map (name_in names)) order) ≡ Ok tt
   unfolding order_apart
   order_differs None h = refl
   order_differs (Some o) h = apart-names places.Top keys.Order (map (name_in names) o) (order_names_apart o h)
 
+  -- the names of an order stand for its numbers
   order_back : (order : Option (List ℕ)) → IfSome order (IsOrderWithin (length names)) →
       order_of names (option_map (map (name_in names)) order) ≡ Ok order
   unfolding order_of
@@ -125,6 +128,7 @@ module _ (g : Graph) (limited : IsWithinLimits g) where
   unfolding slot_of
   slot_back i s h = rw (number_at g.nodes _ s.node limited.node_names h.node) refl
 
+  -- the written process is read as the process
   process_by : (i : ℕ) (p : Process) (own : Option ℕ) → p.deadline ≡ own → IsProcessWithin (length g.nodes) p →
       process_of g.nodes i (raw_process g.nodes p) ≡ Ok (record p { deadline = own })
   unfolding process_of
@@ -148,6 +152,7 @@ module _ (g : Graph) (limited : IsWithinLimits g) where
       let ni = (limited.slots j none l').node in
       limited.own_slots i j none lt l' (only g.nodes limited.node_names m n mi ni equal)
 
+  -- the written edge is read as the edge
   edge_back : (i : ℕ) (e : Edge) → IsEdgeWithin (process_count g) e →
       edge_of (names_of g.processes) i (raw_edge (names_of g.processes) e) ≡ Ok e
   unfolding edge_of
@@ -162,6 +167,7 @@ module _ (g : Graph) (limited : IsWithinLimits g) where
   order_within = subst (λ n. IfSome g.order (IsOrderWithin n))
       (sym (length-map g.processes (λ (p : Process). p.name))) limited.order
 
+  -- the document of a graph is resolved to the graph
   pub graph_back : graph_of (raw_of g) ≡ Ok g
   unfolding graph_of resolved
   graph_back =

@@ -37,6 +37,7 @@ goes_by : {T : Type 0} (b : Bool) (next : Reading T) (fault : ReadFault) (x : T)
 goes_by true next fault x h = cc
 goes_by false next fault x h = (refl, h)
 
+-- if no name stands among those before it, all names differ
 apart_from-pairs : (table : Table) (key : Key) (i : ℕ) (earlier names : List (List ℕ)) (x : Unit {0}) →
     AllPairs (λ a b. a ≢ b) earlier →
     apart_from table key i earlier names ≡ Ok x

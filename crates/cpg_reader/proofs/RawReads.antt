@@ -19,18 +19,22 @@ use Rattle.cpg_reader.proofs.NameTexts.{is_name-from_IsName}
 use Rattle.cpg_reader.specs.WrittenTree.{node_members, slot_members, process_members, edge_members, graph_members}
 use Rattle.cpg_reader.specs.RawOf.{raw_slot, raw_process, raw_edge, raw_of, name_in, names_of}
 
+-- what holds of all elements holds of them one by one
 pub all_by_recursion : {X : Type 0} (P : X → Type 0) (xs : List X) → All P xs → AllByRecursion P xs
 all_by_recursion P [] h = tt
 all_by_recursion P (x ∷ xs) h = (h 0 x (omega arith), all_by_recursion P xs (λ k d l. h (suc k) d (omega (arith, l))))
 
+-- a name is read as itself
 pub name_read : (text : List ℕ) → IsName text → name_if text ≡ Some text
 name_read text h = rw (is_name-from_IsName text h) refl
 
+-- the written table of a node is read as its name
 node_read : (i : ℕ) (name : List ℕ) → IsName name →
     read_node (record { table = places.Node; index = i; members = node_members name }) ≡ Ok name
 unfolding read_node read_name optional only
 node_read i name h = rw (name_read name h) refl
 
+-- the written table of a slot is read as the slot
 slot_read : (nodes : List (List ℕ)) (i : ℕ) (s : Slot) → IsName (get_or nodes s.node []) →
     read_slot (record { table = places.Slot; index = i; members = slot_members nodes s }) ≡ Ok (raw_slot nodes s)
 unfolding read_slot read_name read_integer optional only
@@ -40,6 +44,7 @@ pub record IsCalled (nodes : List (List ℕ)) (p : Process) : Type 0 where
   pub name : IsName p.name
   pub node : IsName (get_or nodes p.node [])
 
+-- the written table of a process is read as the process
 process_by : (nodes : List (List ℕ)) (i : ℕ) (p : Process) (own : Option ℕ) → p.deadline ≡ own → IsCalled nodes p
     → read_process (record { table = places.Process; index = i; members = process_members nodes p })
     ≡ Ok (raw_process nodes p)
@@ -51,6 +56,7 @@ pub record IsJoined (names : List (List ℕ)) (e : Edge) : Type 0 where
   pub from : IsName (get_or names e.from [])
   pub to : IsName (get_or names e.to [])
 
+-- the written table of an edge is read as the edge
 edge_by : (processes : List Process) (i : ℕ) (e : Edge) (when : Option Bool) → e.when ≡ when →
     IsJoined (names_of processes) e
     → read_edge (record { table = places.Edge; index = i; members = edge_members processes e })
@@ -67,6 +73,7 @@ edge_by processes i e (Some value) is h = rw (
   name_read (get_or (names_of processes) e.to []) h.to,
 ) refl
 
+-- if each element is read as its value, the list is read as the values
 each_read : {S T U : Type 0} (step : ℕ → T → Reading U) (f : S → T) (r : S → U) (P : S → Type 0) →
     ((i : ℕ) (x : S) → P x → step i (f x) ≡ Ok (r x)) → (i : ℕ) (xs : List S) →
     AllByRecursion P xs
@@ -74,11 +81,13 @@ each_read : {S T U : Type 0} (step : ℕ → T → Reading U) (f : S → T) (r :
 each_read step f r P h i [] a = refl
 each_read step f r P h i (x ∷ xs) a = rw (h i x a.0, each_read step f r P h (i + 1) xs a.1) refl
 
+-- the written tables of a list are read as tables
 tables_read : {T : Type 0} (f : T → Members) (xs : List T) →
     items_as as_table (items_of (map (λ x. table (f x)) xs)) ≡ Some (map f xs)
 tables_read f [] = refl
 tables_read f (x ∷ xs) = rw (tables_read f xs) refl
 
+-- the written names of an order are read as names
 names_read : (names : List (List ℕ)) (order : List ℕ) → AllByRecursion (λ p. IsName (name_in names p)) order →
     items_as as_name (items_of (map (λ p. string (name_in names p)) order)) ≡ Some (map (name_in names) order)
 names_read names [] h = refl
@@ -100,11 +109,13 @@ nodes_read : (g : Graph) → AreNames g → read_rows places.Node read_node (map
 nodes_read g h = each_read (λ i ms. read_node (record { table = places.Node; index = i; members = ms })) node_members
     (λ n. n) IsName node_read 0 g.nodes h.nodes ∙ ap (λ l. Ok l) (map_same g.nodes)
 
+-- the written slots are read as the slots
 slots_read : (g : Graph) → AreNames g →
     read_rows places.Slot read_slot (map (slot_members g.nodes) g.slots) ≡ Ok (map (raw_slot g.nodes) g.slots)
 slots_read g h = each_read (λ i ms. read_slot (record { table = places.Slot; index = i; members = ms }))
     (slot_members g.nodes) (raw_slot g.nodes) _ (slot_read g.nodes) 0 g.slots h.slots
 
+-- the written processes are read as the processes
 processes_read : (g : Graph) → AreNames g →
     read_rows places.Process read_process (map (process_members g.nodes) g.processes)
     ≡ Ok (map (raw_process g.nodes) g.processes)
@@ -112,6 +123,7 @@ processes_read g h = each_read (λ i ms. read_process (record { table = places.P
     (process_members g.nodes) (raw_process g.nodes) (IsCalled g.nodes)
     (λ i p c. process_by g.nodes i p p.deadline refl c) 0 g.processes h.processes
 
+-- the written edges are read as the edges
 edges_read : (g : Graph) → AreNames g →
     read_rows places.Edge read_edge (map (edge_members g.processes) g.edges)
     ≡ Ok (map (raw_edge (names_of g.processes)) g.edges)
@@ -150,5 +162,6 @@ raw_by g (Some order) is h named =
       edges_read g h,
     ) refl
 
+-- the written members of a graph are read as its document
 pub raw_read : (g : Graph) → AreNames g → read_raw (graph_members g) ≡ Ok (raw_of g)
 raw_read g h = raw_by g g.order refl h h.order

@@ -27,6 +27,7 @@ tables_flat : {T : Type 0} (f : T → Members) → ((x : T) → members_depth (f
 tables_flat f h [] = omega arith
 tables_flat f h (x ∷ xs) = omega (arith, h x, tables_flat f h xs)
 
+-- the table of a process has no table in it
 process_flat : (nodes : List (List ℕ)) (p : Process) (own : Option ℕ) → p.deadline ≡ own →
     members_depth (process_members nodes p) ≤ 0
 process_flat nodes p None e = rw e (omega arith)
@@ -36,6 +37,7 @@ edge_flat : (ps : List Process) (e : Edge) (when : Option Bool) → e.when ≡ w
 edge_flat ps e None is = rw is (omega arith)
 edge_flat ps e (Some value) is = rw is (omega arith)
 
+-- the names of an order have no table in them
 names_flat : (names : List (List ℕ)) (order : List ℕ) →
     items_depth (items_of (map (λ p. string (name_in names p)) order)) ≤ 0
 names_flat names [] = omega arith
@@ -55,9 +57,11 @@ shallow_by g (Some order) is = rw is (
     let edges = tables_flat (edge_members g.processes) (λ e. edge_flat g.processes e e.when refl) g.edges in
     omega (arith, nodes, slots, processes, edges, names_flat (names_of g.processes) order))
 
+-- the written members of a graph are nested at most 80 deep
 pub graph_shallow : (g : Graph) → members_depth (graph_members g) ≤ 80
 graph_shallow g = shallow_by g g.order refl
 
+-- given a graph within the limits, with well-formed names
 module _ (g : Graph) (limited : IsWithinLimits g) (nodes : All IsName g.nodes)
     (processes : All (λ p. IsName p.name) g.processes) where
   node_named : (n : ℕ) → n < length g.nodes → IsName (get_or g.nodes n [])
@@ -80,6 +84,7 @@ module _ (g : Graph) (limited : IsWithinLimits g) (nodes : All IsName g.nodes)
       } in
       subst IsName (sym (get_or-map (λ (p : Process). p.name) g.processes n none [] l)) (processes n none l)
 
+  -- the names of an order within the limits are names
   order_named : (order : Option (List ℕ)) → IfSome order (IsOrderWithin (length g.processes)) →
       IfSome order (AllByRecursion (λ p. IsName (name_in (names_of g.processes) p)))
   order_named None h = tt
@@ -106,5 +111,6 @@ module _ (g : Graph) (limited : IsWithinLimits g) (nodes : All IsName g.nodes)
   unfolding read_members
   members_back = rw (raw_read g are_names, raw_limited g limited) (graph_back g limited)
 
+  -- a text that is parsed as the members of a graph is read as the graph
   pub text_back : (text : List ℕ) → IsUtf8 text → parse_document text ≡ Some (graph_members g) → problem_of text ≡ Ok g
   text_back text utf8 parsed = problem_of-read text (graph_members g) utf8 parsed ∙ members_back

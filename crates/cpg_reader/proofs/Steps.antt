@@ -3,11 +3,13 @@ use Rattle.std.proofs.Common.{◌≡◌, ℕ, zero, suc, ◌+◌, ◌<◌, List,
 use Rattle.std.proofs.Common.{arith}
 use Rattle.cpg_reader.specs.Reading.{Reading, pure, ◌>>=◌, ◌>>◌, each}
 
+-- if two steps in a row gave something, each of them did
 pub then-parts : {T U : Type 0} (a : Reading T) (b : Reading U) (y : U) → (a >> b) ≡ Ok y →
     (x : T) × (a ≡ Ok x) × (b ≡ Ok y)
 then-parts (Ok x) b y h = (x, refl, h)
 then-parts (Err fault) b y h = cc
 
+-- if a step and the step on its value gave something, each of them did
 pub bind-parts : {T U : Type 0} (a : Reading T) (next : T → Reading U) (y : U) → (a >>= next) ≡ Ok y →
     (x : T) × (a ≡ Ok x) × (next x ≡ Ok y)
 bind-parts (Ok x) next y h = (x, refl, h)
@@ -17,11 +19,13 @@ ok_value : {T : Type 0} → T → Reading T → T
 ok_value d (Ok x) = x
 ok_value d (Err fault) = d
 
+-- equal readings have equal values
 pub same_ok : {T : Type 0} (x y : T) → pure x ≡ pure y → x ≡ y
 unfolding ok_value
 same_ok x y h = ap (ok_value x) h
 
 module _ {T U : Type 0} (step : ℕ → T → Reading U) where
+  -- if all elements gave something, the first did, and so did the others
   pub each-parts : (i : ℕ) (x : T) (xs : List T) (ys : List U) → each step i (x ∷ xs) ≡ Ok ys →
       (y : U) × (zs : List U) × (ys ≡ y ∷ zs) × (step i x ≡ Ok y) × (each step (i + 1) xs ≡ Ok zs)
   each-parts i x xs ys h =
@@ -29,13 +33,14 @@ module _ {T U : Type 0} (step : ℕ → T → Reading U) where
       let (zs, rest, last) = bind-parts (each step (i + 1) xs) (λ ys. pure (y ∷ ys)) ys more in
       (y, zs, sym (same_ok (y ∷ zs) ys last), first, rest)
 
+  -- there are as many values as elements
   pub each-length : (i : ℕ) (xs : List T) (ys : List U) → each step i xs ≡ Ok ys → length ys ≡ length xs
   each-length i [] ys h = sym (ap length (same_ok [] ys h))
   each-length i (x ∷ xs) ys h =
       let (y, zs, is, first, rest) = each-parts i x xs ys h in
       ap length is ∙ ap suc (each-length (i + 1) xs zs rest)
 
-  -- each element gives the one at its place
+  -- each element gives the value at its place
   pub each-at : (i : ℕ) (xs : List T) (ys : List U) → each step i xs ≡ Ok ys → (k j : ℕ) (d : T) (e : U) → i + k ≡ j →
       k < length xs →
       step j (get_or xs k d) ≡ Ok (get_or ys k e)

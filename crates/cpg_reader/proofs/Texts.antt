@@ -29,6 +29,7 @@ first-texts : (name : List ℕ) (ks : Texts) →
 first-texts name [] = refl
 first-texts name (k ∷ ks) = rw (first-texts name ks) refl
 
+-- a name has the same place among borrowed texts as among the texts
 pub position-texts : (name : List ℕ) (ks : Texts) →
     position (λ k. bytes_eq name k.now) ks ≡ position (bytes_eq name) (texts ks)
 position-texts name ks = rw (first-texts name ks, length-map ks (λ k. k.now)) refl
@@ -36,6 +37,7 @@ position-texts name ks = rw (first-texts name ks, length-map ks (λ k. k.now)) r
 abbrev pub same_text : Bor (List ℕ) → Bor (List ℕ) → Bool
 same_text a b = bytes_eq a.now b.now
 
+-- the texts with one more, if it is new
 inserted_if : (ks : Texts) (k : Bor (List ℕ)) (b : Bool) →
     texts (cond b ks (ks ++ k ∷ [])) ≡ cond b (texts ks) (texts ks ++ k.now ∷ [])
 inserted_if ks k true = refl
@@ -60,7 +62,7 @@ simple_edge : (e : RawEdge) (es : List RawEdge) (seen : List (List ℕ)) → is_
 simple_edge e es seen simple = rw simple refl
 
 module _ (es : List RawEdge) (i : ℕ) (e : RawEdge) (whole : List (List ℕ)) (ks : Texts) where
-  -- one more edge that is conditional
+  -- a conditional edge notes its source
   pub more_sources : i < length es → e ≡ get_or es i e → (new : Texts) (k : Bor (List ℕ)) → is_some e.when ≡ true →
       k.now ≡ e.from →
       new ≡ insert_key same_text ks k
@@ -68,16 +70,18 @@ module _ (es : List RawEdge) (i : ℕ) (e : RawEdge) (whole : List (List ℕ)) (
   more_sources h is new k conditional named keys so_far =
       so_far ∙ rw (drop-here es i e h is) (source_noted e (drop (i + 1) es) ks new k conditional named keys)
 
-  -- one more edge that is simple
+  -- a simple edge notes nothing, as one step of the loop
   pub same_sources : i < length es → e ≡ get_or es i e → is_some e.when ≡ false
       → whole ≡ different (texts ks) (sources (drop i es)) → whole ≡ different (texts ks) (sources (drop (i + 1) es))
   same_sources h is simple so_far =
       so_far ∙ rw (drop-here es i e h is) (simple_edge e (drop (i + 1) es) (texts ks) simple)
 
+-- a name that wasn't added was there
 pub was_there : (b : Bool) → false ≡ not b → b ≡ true
 was_there true e = refl
 was_there false e = cc
 
+-- a name that was added wasn't there
 pub was_new : (b : Bool) → true ≡ not b → b ≡ false
 was_new false e = refl
 was_new true e = cc
@@ -87,7 +91,7 @@ module _ (ks : Texts) (k : Bor (List ℕ)) (new : Texts) (keys : new ≡ insert_
   noted : texts new ≡ texts ks ++ k.now ∷ []
   noted = ap texts (rw e at keys) ∙ map_push (λ n. n.now) ks k
 
-  -- the names that were seen are those of the elements
+  -- with one more name, the names that were seen are those of the elements so far
   pub seen_more : {T : Type 0} (named : T → List ℕ) (xs : List T) (i : ℕ) (x : T) → i < length xs → x ≡ get_or xs i x →
       k.now ≡ named x
       → texts ks ≡ map named (take i xs) → texts new ≡ map named (take (i + 1) xs)
@@ -96,22 +100,25 @@ module _ (ks : Texts) (k : Bor (List ℕ)) (new : Texts) (keys : new ≡ insert_
       noted ∙ rw (front, map_push named (take i xs) x, ← seen, ← name) refl
 
 module _ (table : Table) (key : Key) where
+  -- a name that was seen is refused, and any other is added to those that were seen
   apart-test : (i : ℕ) (seen : List (List ℕ)) (name : List ℕ) (names : List (List ℕ)) (b : Bool) →
       list_any (bytes_eq name) seen ≡ b
       → apart_from table key i seen (name ∷ names)
       ≡ cond b (Err (DoubleName (name_place table i key))) (apart_from table key (i + 1) (seen ++ name ∷ []) names)
   apart-test i seen name names b e = rw e refl
 
+  -- `named`, `xs`, `i`, `x`: the elements with their names, and the one at place i; `ks`, `k`: the names seen, and
+  -- its name
   module _ {T : Type 0} (named : T → List ℕ) (xs : List T) (i : ℕ) (x : T) (ks : Texts) (k : Bor (List ℕ))
       (whole : Reading (Unit {0})) where
-    -- a name that stands earlier
+    -- a name that was seen already is double
     pub is_double : i < length xs → x ≡ get_or xs i x → k.now ≡ named x → list_any (same_text k) ks ≡ true
         → whole ≡ apart_from table key i (texts ks) (map named (drop i xs)) →
         whole ≡ Err (DoubleName (name_place table i key))
     is_double h is name e so_far = so_far ∙ rw (drop-here xs i x h is, ← name)
         (apart-test i (texts ks) k.now (map named (drop (i + 1) xs)) true (sym (any-texts k.now ks) ∙ e))
 
-    -- a name that is new
+    -- a name that is new is added to those that were seen
     pub is_new : i < length xs → x ≡ get_or xs i x → k.now ≡ named x → list_any (same_text k) ks ≡ false →
         (new : Texts) →
         new ≡ insert_key same_text ks k

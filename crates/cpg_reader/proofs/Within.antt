@@ -33,12 +33,13 @@ use Rattle.cpg_reader.proofs.Steps.{then-parts, bind-parts, same_ok, each-length
 use Rattle.cpg_reader.proofs.Limits.{AreLimits, are_limits}
 use Rattle.cpg_reader.proofs.Numbering.{number-is, apart-pairs, different-Contains}
 
--- what a document says and what its graph has of it
+-- what a slot, a process or an edge of a document says, and what the graph has of it
 record ShowsSlot (nodes : List (List ℕ)) (i : ℕ) (raw : RawSlot) (s : Slot) : Type 0 where
   pub node : number_of nodes (place tables.Slot i Node) raw.node ≡ Ok s.node
   pub length : natural raw.length ≡ s.length
   pub bytes : natural raw.bytes ≡ s.bytes
 
+-- a slot that was read is what the document says of it
 shows_slot : (nodes : List (List ℕ)) (i : ℕ) (raw : RawSlot) (s : Slot) → slot_of nodes i raw ≡ Ok s →
     ShowsSlot nodes i raw s
 unfolding slot_of
@@ -62,6 +63,7 @@ record ShowsProcess (nodes : List (List ℕ)) (i : ℕ) (raw : RawProcess) (p : 
   pub release : natural raw.release ≡ p.release
   pub deadline : option_map natural raw.deadline ≡ p.deadline
 
+-- a process that was read is what the document says of it
 shows_process : (nodes : List (List ℕ)) (i : ℕ) (raw : RawProcess) (p : Process) → process_of nodes i raw ≡ Ok p →
     ShowsProcess nodes i raw p
 unfolding process_of
@@ -86,6 +88,7 @@ record ShowsEdge (processes : List (List ℕ)) (i : ℕ) (raw : RawEdge) (e : Ed
   pub size : natural raw.bytes ≡ e.size
   pub when : raw.when ≡ e.when
 
+-- an edge that was read is what the document says of it
 shows_edge : (processes : List (List ℕ)) (i : ℕ) (raw : RawEdge) (e : Edge) → edge_of processes i raw ≡ Ok e →
     ShowsEdge processes i raw e
 unfolding edge_of
@@ -161,6 +164,8 @@ some_process = record {
 some_edge : RawEdge
 some_edge = record { from = []; to = []; bytes = pos 0; when = None; frozen = false }
 
+-- given a document within the limits, and the parts of its graph
+-- `ss`, `ps`, `es`, `order`, `parts`: the slots, processes, edges and the order that are built of the document g
 module _ (g : RawGraph) (ss : List Slot) (ps : List Process) (es : List Edge) (order : Option (List ℕ))
     (limited : AreLimits g) (parts : AreParts g ss ps es order) where
   slot_count : length ss ≡ length g.slots
@@ -179,11 +184,13 @@ module _ (g : RawGraph) (ss : List Slot) (ps : List Process) (es : List Edge) (o
   slot_there k d l = shows_slot g.nodes k _ _
       (each-at (slot_of g.nodes) 0 g.slots ss parts.slots k k some_slot d (zero-add k) (omega (arith, l, slot_count)))
 
+  -- each process of the graph is what the document says of it
   process_there : (k : ℕ) (d : Process) → k < length ps →
       ShowsProcess g.nodes k (get_or g.processes k some_process) (get_or ps k d)
   process_there k d l = shows_process g.nodes k _ _ (each-at (process_of g.nodes) 0 g.processes ps parts.processes k k
       some_process d (zero-add k) (omega (arith, l, process_count)))
 
+  -- each edge of the graph is what the document says of it
   edge_there : (k : ℕ) (d : Edge) → k < length es →
       ShowsEdge (process_names g.processes) k (get_or g.edges k some_edge) (get_or es k d)
   edge_there k d l = shows_edge (process_names g.processes) k _ _ (each-at (edge_of (process_names g.processes)) 0
@@ -201,6 +208,7 @@ module _ (g : RawGraph) (ss : List Slot) (ps : List Process) (es : List Edge) (o
         bytes = rw (← shown.bytes) ranges.2.1;
       }
 
+  -- each process is within the limits, as its numbers are in the ranges of its row
   processes_within : All (IsProcessWithin (length g.nodes)) ps
   processes_within k d l =
       let shown = process_there k d l in
@@ -230,7 +238,7 @@ module _ (g : RawGraph) (ss : List Slot) (ps : List Process) (es : List Edge) (o
         size = rw (← shown.size) ranges.1;
       }
 
-  -- the name of a process
+  -- the name of a process in the document is its name in the graph
   named : (k : ℕ) (d : Process) → k < length ps → get_or (process_names g.processes) k [] ≡ (get_or ps k d).name
   named k d l =
       get_or-map _ g.processes k some_process [] (omega (arith, l, process_count)) ∙ (process_there k d l).name
@@ -309,6 +317,7 @@ module _ (g : RawGraph) (ss : List Slot) (ps : List Process) (es : List Edge) (o
   order_there None h = tt
   order_there (Some o) h = h (length ps) name_count
 
+  -- each limit of the graph is a limit of the document, read off its parts
   all_within : IsWithinLimits (graph_with g ss ps es order)
   all_within = record {
     faults = limited.top_range.1;
@@ -327,6 +336,7 @@ module _ (g : RawGraph) (ss : List Slot) (ps : List Process) (es : List Edge) (o
     order = order_there order (order_within (process_names g.processes) g.order order parts.order_apart parts.order);
   }
 
+-- the graph of a document within the limits is within the limits
 pub graph-within : (g : RawGraph) (graph : Graph) → limits g ≡ Ok tt → graph_of g ≡ Ok graph → IsWithinLimits graph
 unfolding graph_of resolved
 graph-within g graph limited h =
@@ -351,7 +361,7 @@ graph-within g graph limited h =
     subst IsWithinLimits (same_ok (graph_with g ss ps es order) graph h8)
     (all_within g ss ps es order (are_limits g limited) parts)
 
--- it is within them without its order, too
+-- a graph within the limits is so without its order, too
 pub unordered-within : (graph : Graph) → IsWithinLimits graph → IsWithinLimits (record graph { order = None })
 unordered-within graph h = record {
   faults = h.faults;
@@ -370,7 +380,7 @@ unordered-within graph h = record {
   order = tt;
 }
 
--- what holds of what a value is made into
+-- what holds of the result of a function on an optional value holds by the function
 pub of_mapped : {S T : Type 0} (f : S → T) (P : T → Type 0) (o : Option S) → IfSome (option_map f o) P →
     IfSome o (λ x. P (f x))
 of_mapped f P None h = tt

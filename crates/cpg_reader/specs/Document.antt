@@ -10,6 +10,7 @@ use Rattle.cpg_reader.specs.Shape.{read_raw}
 use Rattle.cpg_reader.specs.Ranges.{limits}
 use Rattle.cpg_reader.specs.Names.{graph_of}
 
+-- the members of a document, or the refusal of bytes that are no document
 abbrev pub members_if : Option Members → Reading Members
 members_if None = Err NotToml
 members_if (Some ms) = pure ms

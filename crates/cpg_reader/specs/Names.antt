@@ -19,6 +19,7 @@ use Rattle.cpg_reader.specs.declared.shape.RawEdge.{RawEdge}
 use Rattle.cpg_reader.specs.Reading.{Reading, pure, done, ◌>>=◌, ◌>>◌, each}
 use Rattle.cpg_reader.specs.Shape.{RawGraph}
 
+-- a place in the document
 abbrev pub place : Table → ℕ → Key → Place
 place table index key = record { table = table; index = index; key = key }
 
@@ -34,9 +35,11 @@ apart_from table key i earlier (name ∷ names) = if list_any (bytes_eq name) ea
     then Err (DoubleName (name_place table i key))
     else apart_from table key (i + 1) (earlier ++ name ∷ []) names
 
+-- no name of a list stands in it twice
 unfoldable pub apart : Table → Key → List (List ℕ) → Reading (Unit {0})
 apart table key names = apart_from table key 0 [] names
 
+-- a number that was found, or the refusal of an unknown name
 abbrev pub known : Place → Option ℕ → Reading ℕ
 known place (Some number) = pure number
 known place None = Err (UnknownName place)
@@ -45,11 +48,13 @@ known place None = Err (UnknownName place)
 unfoldable pub number_of : List (List ℕ) → Place → List ℕ → Reading ℕ
 number_of names place name = known place (position (bytes_eq name) names)
 
+-- a slot of the graph, with the number of its node
 unfoldable pub slot_of : List (List ℕ) → ℕ → RawSlot → Reading Slot
 slot_of nodes i s = do
   node ← number_of nodes (place tables.Slot i Node) s.node
   pure (record { node = node; length = natural s.length; bytes = natural s.bytes })
 
+-- a process of the graph, with the number of its node
 unfoldable pub process_of : List (List ℕ) → ℕ → RawProcess → Reading Process
 process_of nodes i p = do
   node ← number_of nodes (place tables.Process i Node) p.node
@@ -67,6 +72,7 @@ process_of nodes i p = do
     deadline = option_map natural p.deadline;
   })
 
+-- an edge of the graph, with the numbers of its ends
 unfoldable pub edge_of : List (List ℕ) → ℕ → RawEdge → Reading Edge
 edge_of processes i e = do
   from ← number_of processes (place tables.Edge i From) e.from
@@ -89,12 +95,15 @@ unfoldable pub order_apart : Option (List (List ℕ)) → Reading (Unit {0})
 order_apart None = done
 order_apart (Some names) = apart tables.Top Order names
 
+-- the names of the nodes that have slots
 abbrev pub slot_names : List RawSlot → List (List ℕ)
 slot_names slots = map (λ s. s.node) slots
 
+-- the names of the processes
 abbrev pub process_names : List RawProcess → List (List ℕ)
 process_names processes = map (λ p. p.name) processes
 
+-- the graph of a document with these parts
 abbrev pub graph_with : RawGraph → List Slot → List Process → List Edge → Option (List ℕ) → Graph
 graph_with g slots processes edges order = record {
   faults = natural g.faults;
@@ -115,7 +124,7 @@ resolved g = do
   order ← order_of (process_names g.processes) g.order
   pure (graph_with g slots processes edges order)
 
--- the graph of a document; the names of processes and of the order are looked at first
+-- the graph of a document; the names of processes and of the order are checked first
 unfoldable pub named : RawGraph → Reading Graph
 named g = do
   apart tables.Process Name (process_names g.processes)

@@ -25,6 +25,7 @@ top_numbers g =
     ∷ record { key = Deadline; value = g.deadline; low = 0; high = LONGEST }
     ∷ []
 
+-- the numbers of a slot, with their ranges
 abbrev pub slot_numbers : RawSlot → List BoundedField
 slot_numbers s =
     record { key = Length; value = s.length; low = 1; high = LONGEST }
@@ -43,9 +44,11 @@ process_numbers p =
     ∷ record { key = Deadline; value = unwrap_or p.deadline (pos 0); low = 0; high = LONGEST }
     ∷ []
 
+-- the numbers of an edge, with their ranges
 abbrev pub edge_numbers : RawEdge → List BoundedField
 edge_numbers e = record { key = Bytes; value = e.bytes; low = 1; high = LARGEST } ∷ []
 
+-- whether a number lies between the least and the greatest that it may be
 abbrev pub is_within : ℕ → ℕ → ℤ → Bool
 is_within low high (pos n) = nat_le low n && nat_le n high
 is_within low high (negsuc n) = false
@@ -64,7 +67,7 @@ all_in_range table numbers_of i (x ∷ xs) = do
   in_range table i (numbers_of x)
   all_in_range table numbers_of (i + 1) xs
 
--- there are no more than so many
+-- a list has no more elements than its limit
 abbrev pub at_most : {T : Type 0} → ℕ → What → List T → Reading (Unit {0})
 at_most limit what xs = if nat_le (length xs) limit then done else Err (OverLimit what)
 

@@ -9,9 +9,11 @@ use Rattle.cpg_reader.specs.declared.shape.RawProcess.{RawProcess}
 use Rattle.cpg_reader.specs.declared.shape.RawEdge.{RawEdge}
 use Rattle.cpg_reader.specs.Shape.{RawGraph}
 
+-- what a document says of a slot
 abbrev pub raw_slot : List (List ℕ) → Slot → RawSlot
 raw_slot nodes s = record { node = get_or nodes s.node []; length = pos s.length; bytes = pos s.bytes }
 
+-- what a document says of a process
 abbrev pub raw_process : List (List ℕ) → Process → RawProcess
 raw_process nodes p = record {
   name = p.name;
@@ -27,6 +29,7 @@ raw_process nodes p = record {
   deadline = option_map pos p.deadline;
 }
 
+-- what a document says of an edge
 abbrev pub raw_edge : List (List ℕ) → Edge → RawEdge
 raw_edge names e = record {
   from = get_or names e.from [];
@@ -44,6 +47,7 @@ name_in names p = get_or names p []
 abbrev pub names_of : List Process → List (List ℕ)
 names_of processes = map (λ p. p.name) processes
 
+-- what a document says of a graph
 abbrev pub raw_of : Graph → RawGraph
 raw_of g = record {
   faults = pos g.faults;

@@ -4,12 +4,15 @@ use Rattle.cpg_reader.specs.declared.place.ReadFault.{ReadFault}
 use Rattle.cpg_reader.specs.declared.place.ReadFault.TheVariants.{NotToml, BadField, DoubleName, UnknownName, OverLimit}
 use Rattle.cpg_reader.specs.declared.place.ReadFault.TheVariants.{OutOfMemory}
 
+-- the value that a step gives, or its refusal
 abbrev pub Reading : Type 0 → Type 0
 Reading T = Result T ReadFault
 
+-- a step that gives a value
 abbrev pub pure : {T : Type 0} → T → Reading T
 pure x = Ok x
 
+-- a step that gives nothing but its success
 abbrev pub done : Reading (Unit {0})
 done = Ok tt
 
@@ -41,6 +44,7 @@ Refuses (UnknownName place) reading = reading ≡ Err (UnknownName place)
 Refuses (OverLimit what) reading = reading ≡ Err (OverLimit what)
 Refuses OutOfMemory reading = Unit {0}
 
+-- the answer of code that gives what reading gives, or refuses as it does
 abbrev pub Gives : {S T : Type 0} → (S → T) → Reading S → Reading T → Type 0
 Gives view (Ok x) reading = reading ≡ Ok (view x)
 Gives view (Err fault) reading = Refuses fault reading

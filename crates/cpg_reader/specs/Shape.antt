@@ -1,4 +1,4 @@
--- What a document says, as far as its keys and types go: the refusals of a bad field.
+-- What a document says by its keys and types: the refusals of a bad field.
 use Rattle.std.specs.Prelude.{ℕ, ℤ, pos, false, List, [], ◌∷◌, Option, option_map, map}
 use Rattle.toml.specs.Data.{Members, as_integer, as_bool}
 use Rattle.toml.specs.View.{table_view}
@@ -18,12 +18,14 @@ use Rattle.cpg_reader.specs.Reading.{Reading, pure, ◌>>=◌, ◌>>◌, each}
 use Rattle.cpg_reader.specs.Rows.{DocumentRow, read_name, read_integer, integer_or, flag_or, optional, as_names}
 use Rattle.cpg_reader.specs.Rows.{read_array, only}
 
+-- the name of a node
 unfoldable pub read_node : DocumentRow → Reading (List ℕ)
 read_node row = do
   name ← read_name row Name
   only (Name ∷ []) row
   pure name
 
+-- a slot as the document has it
 unfoldable pub read_slot : DocumentRow → Reading RawSlot
 read_slot row = do
   node ← read_name row Node
@@ -32,6 +34,7 @@ read_slot row = do
   only (Node ∷ Length ∷ Bytes ∷ []) row
   pure (record { node = node; length = length; bytes = bytes })
 
+-- a process as the document has it
 unfoldable pub read_process : DocumentRow → Reading RawProcess
 read_process row = do
   name ← read_name row Name
@@ -60,7 +63,7 @@ read_process row = do
     deadline = deadline;
   })
 
--- what a process has beside its names, and the end of its table
+-- the fields of a process besides its names; its table has no other key
 unfoldable pub read_work : DocumentRow → Reading RawWork
 read_work row = do
   wcet ← read_integer row Wcet
@@ -91,6 +94,7 @@ process_with name node w = record {
   deadline = w.deadline;
 }
 
+-- an edge as the document has it
 unfoldable pub read_edge : DocumentRow → Reading RawEdge
 read_edge row = do
   from ← read_name row From
@@ -101,7 +105,7 @@ read_edge row = do
   only (From ∷ To ∷ Bytes ∷ When ∷ Frozen ∷ []) row
   pure (record { from = from; to = to; bytes = bytes; when = when; frozen = frozen })
 
--- what an edge has beside its ends, and the end of its table
+-- the fields of an edge besides its ends; its table has no other key
 unfoldable pub read_link : DocumentRow → Reading RawLink
 read_link row = do
   bytes ← integer_or (pos 1) row Bytes
@@ -129,6 +133,7 @@ pub record RawGraph : Type 0 where
   pub edges : List RawEdge
   pub order : Option (List (List ℕ))
 
+-- what a document says, as specifications see it
 abbrev pub raw_view : RawProblem → RawGraph
 raw_view p = record {
   faults = p.faults;
@@ -168,6 +173,7 @@ pub record Tops : Type 0 where
   pub edges : List Members
   pub order : Option (List (List ℕ))
 
+-- what stands at the keys of the top, as specifications see it
 abbrev pub tops_view : TopsOfCode → Tops
 tops_view t = record {
   faults = t.faults;

@@ -1,4 +1,4 @@
--- The document that is written of a graph: its tables, each with its keys in the order of their bytes.
+-- The document that is written for a graph: its tables, each with its keys in the order of their bytes.
 use Rattle.std.specs.Prelude.{ℕ, pos, Bool, List, [], Option, Some, None, codes, map, get_or}
 use Rattle.std.specs.Ordering.{nat_cmp, match_ordering}
 use Rattle.std.specs.Cmp.Lexicographic.{slice_cmp}
@@ -15,7 +15,7 @@ with_member k d no_members = member k d no_members
 with_member k d (member l e ms) = match_ordering (slice_cmp nat_cmp k l) (member k d (member l e ms)) (member l d ms)
     (member l e (with_member k d ms))
 
--- a whole number, a name, and a flag
+-- a whole number as a value of the document
 abbrev pub number : ℕ → Data
 number n = integer (pos n)
 
@@ -23,9 +23,11 @@ number n = integer (pos n)
 abbrev pub tables : {T : Type 0} → (T → Members) → List T → Data
 tables members_of xs = array (items_of (map (λ x. table (members_of x)) xs))
 
+-- the table of a node
 abbrev pub node_members : List ℕ → Members
 node_members name = member (codes "name") (string name) no_members
 
+-- the table of a slot
 abbrev pub slot_members : List (List ℕ) → Slot → Members
 slot_members nodes s =
     member (codes "bytes") (number s.bytes)
@@ -38,6 +40,7 @@ process_low nodes p =
     (member (codes "parts") (number p.parts)
     (member (codes "release") (number p.release) (member (codes "wcet") (number p.wcet) no_members)))
 
+-- the middle of a process's table
 abbrev pub process_middle : List (List ℕ) → Process → Members
 process_middle nodes p =
     member (codes "frozen") (boolean p.frozen)
@@ -49,6 +52,7 @@ abbrev pub with_deadline : Option ℕ → Members → Members
 with_deadline None ms = ms
 with_deadline (Some d) ms = member (codes "deadline") (number d) ms
 
+-- the table of a process
 abbrev pub process_members : List (List ℕ) → Process → Members
 process_members nodes p = member (codes "alpha") (number p.alpha)
     (member (codes "chi") (number p.chi) (with_deadline p.deadline (process_middle nodes p)))
@@ -58,6 +62,7 @@ abbrev pub when_members : Option Bool → Members
 when_members None = no_members
 when_members (Some value) = member (codes "when") (boolean value) no_members
 
+-- the table of an edge
 abbrev pub edge_members : List Process → Edge → Members
 edge_members processes e =
     member (codes "bytes") (number e.size)

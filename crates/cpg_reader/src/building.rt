@@ -1,4 +1,4 @@
-//! Building of a graph from what a document says.
+//! Building a graph from what a document says.
 ghost use Rattle.std.specs.Prelude.{◌≡◌, ◌≤◌, length, Ok, IfOk, option_map};
 ghost use Rattle.cpg_reader.specs.Reading.{Gives, each};
 ghost use Rattle.cpg_reader.specs.Shape.{raw_view};
@@ -12,12 +12,15 @@ use crate::shape::{RawEdge, RawProblem, RawProcess, RawSlot};
 use cpg_base::{Edge, Name, Problem, Process, Slot};
 use std::alloc::Global;
 
+/// A number, or 0 if it is negative.
 fn natural(number: i64) -> u64
     ensures { result ≡ natural number }
 {
+    // a document within the limits has no negative number, but the conversion is total
     if number < 0 { 0 } else { number as u64 }
 }
 
+/// A number of at most 16 bits, or 0 if it is negative.
 fn small(number: i64) -> u32
     requires { natural number ≤ 65535 }
     ensures { result ≡ natural number }
@@ -30,6 +33,7 @@ fn numbers_of(alloc: Global, order: &[Name], processes: &Names<'_>) -> Result<Ve
     requires few { length processes.now ≤ 128 }
     ensures { Gives (λ v. v.items) result (each (ordered processes.now) 0 order.now) }
 {
+    // an unknown name of the order is shown by the key of the order
     let place = Place::of_name(Table::Top, 0, Key::Order);
     let mut numbers = Vec::with_capacity(alloc, order.len())?;
     for name in order {
@@ -38,6 +42,7 @@ fn numbers_of(alloc: Global, order: &[Name], processes: &Names<'_>) -> Result<Ve
     Ok(numbers)
 }
 
+/// A number that may be absent, or 0 if it is negative.
 fn optional_natural(number: Option<i64>) -> Option<u64>
     ensures { result ≡ option_map natural number }
 {
@@ -47,12 +52,14 @@ fn optional_natural(number: Option<i64>) -> Option<u64>
     }
 }
 
+/// A slot, with the number of its node.
 #[tactic(auto, unfolding(crate::specs::Names::slot_of))]
 fn slot_of(raw: &RawSlot, index: u64, nodes: &Names<'_>) -> Result<Slot, ReadFault>
     requires few { length nodes.now ≤ 128 }
     requires bytes { natural raw.now.bytes ≤ 65535 }
     ensures { Gives (λ s. s) result (slot_of nodes.now index raw.now) }
 {
+    // where the name of the node stands, if it is unknown
     let place = Place {
         table: Table::Slot,
         index,
@@ -66,12 +73,14 @@ fn slot_of(raw: &RawSlot, index: u64, nodes: &Names<'_>) -> Result<Slot, ReadFau
     })
 }
 
+/// A process, with the number of its node.
 #[tactic(auto, unfolding(crate::specs::Names::process_of))]
 fn process_of(raw: &RawProcess, index: u64, nodes: &Names<'_>) -> Result<Process, ReadFault>
     requires few { length nodes.now ≤ 128 }
     requires parts { natural raw.now.parts ≤ 65535 }
     ensures { Gives (λ p. p) result (process_of nodes.now index raw.now) }
 {
+    // where the name of the node stands, if it is unknown
     let place = Place {
         table: Table::Process,
         index,
@@ -93,12 +102,14 @@ fn process_of(raw: &RawProcess, index: u64, nodes: &Names<'_>) -> Result<Process
     })
 }
 
+/// An edge, with the numbers of its ends.
 #[tactic(auto, unfolding(crate::specs::Names::edge_of))]
 fn edge_of(raw: &RawEdge, index: u64, processes: &Names<'_>) -> Result<Edge, ReadFault>
     requires few { length processes.now ≤ 128 }
     requires bytes { natural raw.now.bytes ≤ 65535 }
     ensures { Gives (λ e. e) result (edge_of processes.now index raw.now) }
 {
+    // where the names of the two ends stand, if they are unknown
     let place = Place {
         table: Table::Edge,
         index,
@@ -120,6 +131,7 @@ fn edge_of(raw: &RawEdge, index: u64, processes: &Names<'_>) -> Result<Edge, Rea
     })
 }
 
+/// The slots of a document.
 fn slots_of(alloc: Global, raw: &RawProblem, nodes: &Names<'_>) -> Result<Vec<Slot>, ReadFault>
     requires limits { limits (raw_view raw.now) ≡ Ok tt }
     requires nodes { nodes.now ≡ (raw_view raw.now).nodes }
@@ -132,6 +144,7 @@ fn slots_of(alloc: Global, raw: &RawProblem, nodes: &Names<'_>) -> Result<Vec<Sl
     Ok(slots)
 }
 
+/// The processes of a document.
 fn processes_of(
     alloc: Global,
     raw: &RawProblem,
@@ -148,6 +161,7 @@ fn processes_of(
     Ok(processes)
 }
 
+/// The edges of a document.
 fn edges_of(alloc: Global, raw: &RawProblem, processes: &Names<'_>) -> Result<Vec<Edge>, ReadFault>
     requires limits { limits (raw_view raw.now) ≡ Ok tt }
     requires processes { processes.now ≡ process_names (raw_view raw.now).processes }
@@ -186,6 +200,7 @@ struct NumberedParts {
     order: Option<Vec<u32>>,
 }
 
+/// The parts of a graph, by the names of its nodes and processes.
 #[tactic(auto, unfolding(crate::specs::Names::resolved))]
 fn resolved(
     alloc: Global,
@@ -198,6 +213,7 @@ fn resolved(
     requires names { names.now ≡ process_names (raw_view raw.now).processes }
     ensures { Gives (λ p. graph_with (raw_view raw.now) p.slots.items p.processes.items p.edges.items (option_map (λ v. v.items) p.order)) result (resolved (raw_view raw.now)) }
 {
+    // unknown names are refused in this order
     let slots = slots_of(alloc, raw, nodes)?;
     let processes = processes_of(alloc, raw, nodes)?;
     let edges = edges_of(alloc, raw, names)?;
@@ -210,6 +226,7 @@ fn resolved(
     })
 }
 
+/// The names of the nodes, if they differ.
 fn node_names<'a>(alloc: Global, raw: &'a RawProblem) -> Result<Names<'a>, ReadFault>
     ensures apart { Gives (λ _. tt) result (apart Table.Node Key.Name (raw_view raw.now).nodes) }
     ensures names { IfOk result (λ names. names ≡ (raw_view raw.now).nodes) }
@@ -217,6 +234,7 @@ fn node_names<'a>(alloc: Global, raw: &'a RawProblem) -> Result<Names<'a>, ReadF
     Names::of(alloc, Table::Node, Key::Name, raw.nodes.as_slice())
 }
 
+/// Checks that no node has two slots.
 fn slots_differ(alloc: Global, raw: &RawProblem) -> Result<(), ReadFault>
     ensures { Gives (λ _. tt) result (apart Table.Slot Key.Node (slot_names (raw_view raw.now).slots)) }
 {
@@ -224,6 +242,7 @@ fn slots_differ(alloc: Global, raw: &RawProblem) -> Result<(), ReadFault>
     Ok(())
 }
 
+/// The names of the processes, if they differ.
 fn process_names<'a>(alloc: Global, raw: &'a RawProblem) -> Result<Names<'a>, ReadFault>
     ensures apart { Gives (λ _. tt) result (apart Table.Process Key.Name (process_names (raw_view raw.now).processes)) }
     ensures names { IfOk result (λ names. names ≡ process_names (raw_view raw.now).processes) }
@@ -249,21 +268,25 @@ fn parts_on(alloc: Global, raw: &RawProblem, nodes: &Names<'_>) -> Result<Number
     requires nodes { nodes.now ≡ (raw_view raw.now).nodes }
     ensures { Gives (λ p. graph_with (raw_view raw.now) p.slots.items p.processes.items p.edges.items (option_map (λ v. v.items) p.order)) result (named (raw_view raw.now)) }
 {
+    // double names of processes are refused before those of the order
     let names = process_names(alloc, raw)?;
     order_differs(alloc, raw)?;
     resolved(alloc, raw, nodes, &names)
 }
 
+/// The parts of the graph of a document.
 #[tactic(auto, unfolding(crate::specs::Names::graph_of, crate::specs::Names::named))]
 fn parts_of(alloc: Global, raw: &RawProblem) -> Result<NumberedParts, ReadFault>
     requires { limits (raw_view raw.now) ≡ Ok tt }
     ensures { Gives (λ p. graph_with (raw_view raw.now) p.slots.items p.processes.items p.edges.items (option_map (λ v. v.items) p.order)) result (graph_of (raw_view raw.now)) }
 {
+    // double names are refused in this order: nodes, slots, then processes and the order
     let nodes = node_names(alloc, raw)?;
     slots_differ(alloc, raw)?;
     parts_on(alloc, raw, &nodes)
 }
 
+/// How many faults the graph may have.
 fn faults_of(raw: &RawProblem) -> u8
     requires { limits (raw_view raw.now) ≡ Ok tt }
     ensures { result ≡ natural raw.now.faults }

@@ -14,6 +14,7 @@ use std::marker::Model;
 pub trait Named {
     ghost named: { Self → List ℕ };
 
+    /// The name of the element.
     fn name(&self) -> &str
         ensures { result.now ≡ named self.now };
 }
@@ -70,6 +71,7 @@ impl<'a> Names<'a> {
     {
         let mut names = IndexSet::new(alloc);
         for (index, element) in elements.iter().enumerate() {
+            // the name stands among the earlier ones
             if !names.insert(element.name())? {
                 return Err(ReadFault::DoubleName(Place::of_name(table, index as u64, key)));
             }

@@ -58,6 +58,7 @@ impl Place {
         ensures { result ≡ name_place table index key }
     {
         let index = match table {
+            // a name of the order has the place of the order's key
             Table::Top => 0,
             _ => index,
         };

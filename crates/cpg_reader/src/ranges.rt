@@ -32,17 +32,21 @@ pub trait Numbered {
 
     ghost numbers: { Self → List BoundedNumber };
 
+    /// Checks that the numbers of the element are in range.
     fn in_range(&self, table: Table, index: u64) -> Result<(), ReadFault>
         ensures { Gives (λ _. tt) result (in_range table index (numbers self.now)) };
 }
 
+/// Whether a number lies between the least and the greatest that it may be.
 fn is_within(value: i64, low: u64, high: u64) -> bool
     ensures { result ≡ is_within low high value }
 {
+    // a negative number is never within, so the conversion that follows is exact
     value >= 0 && low <= value as u64 && value as u64 <= high
 }
 
 impl BoundedField {
+    /// The number of a key, with its least and greatest values.
     fn new(key: Key, value: i64, low: u64, high: u64) -> BoundedField
         ensures { result ≡ record { key = key; value = value; low = low; high = high } }
     {
@@ -55,6 +59,7 @@ impl BoundedField {
     }
 }
 
+/// Checks that numbers are in range. The first one that isn't is named in the fault.
 fn in_range(table: Table, index: u64, numbers: &[BoundedField]) -> Result<(), ReadFault>
     ensures { Gives (λ _. tt) result (in_range table index numbers.now) }
 {
@@ -99,6 +104,7 @@ impl Numbered for RawProcess {
                 BoundedField::new(Key::Chi, self.chi, 0, LONGEST),
                 BoundedField::new(Key::Mu, self.mu, 0, LONGEST),
                 BoundedField::new(Key::Release, self.release, 0, LONGEST),
+                // an absent deadline is in range, as 0 is
                 BoundedField::new(Key::Deadline, self.deadline.unwrap_or(0), 0, LONGEST),
             ],
         )
@@ -117,6 +123,7 @@ impl Numbered for RawEdge {
     }
 }
 
+/// Checks that the numbers of all elements are in range.
 fn all_in_range<T: Numbered>(table: Table, elements: &[T]) -> Result<(), ReadFault>
     ensures { Gives (λ _. tt) result (all_in_range table T.numbers 0 elements.now) }
 {
@@ -126,6 +133,7 @@ fn all_in_range<T: Numbered>(table: Table, elements: &[T]) -> Result<(), ReadFau
     Ok(())
 }
 
+/// Checks that the numbers at the top of the document are in range.
 fn top_in_range(raw: &RawProblem) -> Result<(), ReadFault>
     ensures { Gives (λ _. tt) result (in_range Table.Top 0 (top_numbers (raw_view raw.now))) }
 {
@@ -163,11 +171,12 @@ fn at_most(limit: usize, what: What, count: usize) -> Result<(), ReadFault>
     }
 }
 
-/// Refuses what is beyond its limit.
+/// Refuses a document in which something is beyond its limit.
 #[tactic(auto, unfolding(crate::specs::Ranges::limits))]
 pub fn limits(alloc: Global, raw: &RawProblem) -> Result<(), ReadFault>
     ensures { Gives (λ _. tt) result (limits (raw_view raw.now)) }
 {
+    // counts first, then numbers by their places, then conditions
     at_most(MOST_NODES, What::Nodes, raw.nodes.len())?;
     at_most(MOST_NODES, What::Slots, raw.slots.len())?;
     at_most(MOST_PROCESSES, What::Processes, raw.processes.len())?;

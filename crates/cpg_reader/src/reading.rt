@@ -1,4 +1,4 @@
-//! Reading of a graph file.
+//! Reading a graph file.
 ghost use Rattle.std.specs.Prelude.{◌≡◌, ◌≢◌, Err};
 ghost use Rattle.toml.specs.View.{table_view};
 ghost use Rattle.cpg_reader.specs.Reading.{Gives};
@@ -11,6 +11,7 @@ use crate::shape::raw_problem;
 use cpg_base::Problem;
 use std::alloc::Global;
 
+/// The graph that the table of a document says.
 #[tactic(auto, unfolding(crate::specs::Document::read_members))]
 fn read_members(alloc: Global, members: &toml::Table) -> Result<Problem, ReadFault>
     ensures { Gives (λ p. p) result (read_members (table_view members.now)) }
@@ -31,6 +32,7 @@ pub fn read_problem(alloc: Global, bytes: &[u8]) -> Result<Problem, ReadFault>
     match toml::table_from_slice(alloc, bytes) {
         Ok(table) => read_members(alloc, &table),
         Err(error) => {
+            // the parser gave up: memory ran out, or the bytes are no document
             if error.is_memory() {
                 Err(ReadFault::OutOfMemory)
             } else {

@@ -21,6 +21,7 @@ pub struct DocumentRow<'a> {
 }
 
 impl<'a> DocumentRow<'a> {
+    /// The fault of a bad field at a key.
     fn bad(&self, key: Key) -> ReadFault
         ensures { result ≡ ReadFault.BadField (place_in (row_view self.now) key) }
     {
@@ -31,6 +32,7 @@ impl<'a> DocumentRow<'a> {
         })
     }
 
+    /// The value at a key, if there is one.
     fn value(&self, key: Key) -> Option<&'a Value>
         ensures { option_map (λ v. view v.now) result ≡ value_at (row_view self.now) key }
     {
@@ -42,6 +44,7 @@ impl<'a> DocumentRow<'a> {
     pub fn optional_integer(&self, key: Key) -> Result<Option<i64>, ReadFault>
         ensures { Gives (λ n. n) result (optional as_integer (row_view self.now) key) }
     {
+        // nothing stands there
         let Some(value) = self.value(key) else {
             return Ok(None);
         };
@@ -56,6 +59,7 @@ impl<'a> DocumentRow<'a> {
     pub fn optional_flag(&self, key: Key) -> Result<Option<bool>, ReadFault>
         ensures { Gives (λ b. b) result (optional as_bool (row_view self.now) key) }
     {
+        // nothing stands there
         let Some(value) = self.value(key) else {
             return Ok(None);
         };
@@ -99,6 +103,7 @@ impl<'a> DocumentRow<'a> {
     pub fn name(&self, alloc: Global, key: Key) -> Result<Name, ReadFault>
         ensures { Gives (λ n. n) result (read_name (row_view self.now) key) }
     {
+        // nothing stands there, but the name is required
         let Some(value) = self.value(key) else {
             return Err(self.bad(key));
         };
@@ -113,6 +118,7 @@ impl<'a> DocumentRow<'a> {
     pub fn tables(&self, alloc: Global, key: Key) -> Result<Vec<&'a toml::Table>, ReadFault>
         ensures { Gives (λ v. map (λ t. table_view t.now) v.items) result (read_array (row_view self.now) key) }
     {
+        // nothing stands there, so the list is empty
         let Some(value) = self.value(key) else {
             return Ok(Vec::new(alloc));
         };
@@ -127,6 +133,7 @@ impl<'a> DocumentRow<'a> {
     pub fn optional_names(&self, alloc: Global, key: Key) -> Result<Option<Vec<Name>>, ReadFault>
         ensures { Gives (λ names. option_map (λ v. v.items) names) result (optional as_names (row_view self.now) key) }
     {
+        // nothing stands there
         let Some(value) = self.value(key) else {
             return Ok(None);
         };
@@ -148,12 +155,14 @@ impl<'a> DocumentRow<'a> {
     }
 }
 
+/// Whether a text is one of these keys.
 fn is_listed(keys: &[Key], text: &str) -> bool
     ensures { result ≡ list_any (λ key. bytes_eq (text_of key) text.now) keys.now }
 {
     keys.iter().any(|key| key.text() == text)
 }
 
+/// Whether all keys of a table are among these.
 fn are_listed(keys: &[Key], members: &toml::Table) -> bool
     ensures { result ≡ are_listed keys.now (table_view members.now) }
 {
@@ -165,6 +174,7 @@ fn are_listed(keys: &[Key], members: &toml::Table) -> bool
     true
 }
 
+/// A name, if the value is a text that is one.
 fn as_name(alloc: Global, value: &Value) -> Result<Option<Name>, OutOfMemory>
     ensures { IfOk result (λ name. name ≡ as_name (view value.now)) }
 {
@@ -174,6 +184,7 @@ fn as_name(alloc: Global, value: &Value) -> Result<Option<Name>, OutOfMemory>
     }
 }
 
+/// The tables of an array, if the value is an array of tables.
 fn as_tables<'a>(
     alloc: Global,
     value: &'a Value,
@@ -186,7 +197,7 @@ fn as_tables<'a>(
     }
 }
 
-/// The elements of an array, and `None` if one isn't a table.
+/// The elements of an array, or `None` if one isn't a table.
 fn tables_in<'a>(
     alloc: Global,
     array: &'a Array,
@@ -203,6 +214,7 @@ fn tables_in<'a>(
     Ok(Some(tables))
 }
 
+/// The names of an array, if the value is an array of names.
 fn as_names(alloc: Global, value: &Value) -> Result<Option<Vec<Name>>, OutOfMemory>
     ensures { IfOk result (λ names. option_map (λ v. v.items) names ≡ as_names (view value.now)) }
 {
@@ -212,7 +224,7 @@ fn as_names(alloc: Global, value: &Value) -> Result<Option<Vec<Name>>, OutOfMemo
     }
 }
 
-/// The elements of an array, and `None` if one isn't a name.
+/// The elements of an array, or `None` if one isn't a name.
 fn names_in(alloc: Global, array: &Array) -> Result<Option<Vec<Name>>, OutOfMemory>
     ensures { IfOk result (λ names. option_map (λ v. v.items) names ≡ items_as as_name (array_view array.now)) }
 {

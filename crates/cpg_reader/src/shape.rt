@@ -1,4 +1,4 @@
-//! Reading of what a document says, as far as its keys and types go.
+//! Reading what a document says, by its keys and types.
 ghost use Rattle.std.specs.Prelude.{◌≡◌, map};
 ghost use Rattle.toml.specs.View.{table_view};
 ghost use Rattle.cpg_reader.specs.Reading.{Reading, Gives, each};
@@ -14,6 +14,7 @@ use std::alloc::Global;
 pub trait Element {
     ghost reads: { RowOfDocument → Reading Self };
 
+    /// Reads an element from its table.
     fn read(alloc: Global, row: &DocumentRow<'_>) -> Result<Self, ReadFault>
         ensures { Gives (λ x. x) result (reads (row_view row.now)) };
 }
@@ -92,7 +93,7 @@ impl Element for RawSlot {
     }
 }
 
-/// What a process has beside its names, as the document has it.
+/// The fields of a process besides its names, as the document has them.
 #[derive(Clone, Copy)]
 struct RawWork {
     wcet: i64,
@@ -106,12 +107,13 @@ struct RawWork {
     deadline: Option<i64>,
 }
 
-/// What a process has beside its names, if its table has no other key.
+/// The fields of a process besides its names, if its table has no other key.
 #[tactic(auto, unfolding(crate::specs::Shape::read_work))]
 fn read_work(row: &DocumentRow<'_>) -> Result<RawWork, ReadFault>
     ensures { Gives (λ x. x) result (read_work (row_view row.now)) }
 {
     let wcet = row.integer(Key::Wcet)?;
+    // these have defaults: one part, and no cost beyond the execution
     let parts = row.integer_or(Key::Parts, 1)?;
     let alpha = row.integer_or(Key::Alpha, 0)?;
     let chi = row.integer_or(Key::Chi, 0)?;
@@ -120,6 +122,7 @@ fn read_work(row: &DocumentRow<'_>) -> Result<RawWork, ReadFault>
     let frozen = row.flag(Key::Frozen)?;
     let release = row.integer_or(Key::Release, 0)?;
     let deadline = row.optional_integer(Key::Deadline)?;
+    // a key besides these is refused
     row.only(&[
         Key::Name,
         Key::Node,
@@ -170,7 +173,7 @@ impl Element for RawProcess {
     }
 }
 
-/// What an edge has beside its ends, as the document has it.
+/// The fields of an edge besides its ends, as the document has them.
 #[derive(Clone, Copy)]
 struct RawLink {
     bytes: i64,
@@ -178,7 +181,7 @@ struct RawLink {
     frozen: bool,
 }
 
-/// What an edge has beside its ends, if its table has no other key.
+/// The fields of an edge besides its ends, if its table has no other key.
 #[tactic(auto, unfolding(crate::specs::Shape::read_link))]
 fn read_link(row: &DocumentRow<'_>) -> Result<RawLink, ReadFault>
     ensures { Gives (λ x. x) result (read_link (row_view row.now)) }

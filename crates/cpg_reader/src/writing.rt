@@ -1,4 +1,4 @@
-//! Writing of a graph file.
+//! Writing a graph file.
 ghost use Rattle.std.specs.Prelude.{◌≡◌, ◌<◌, IfOk, Ok, All, map, length, get_or, [], string_bytes};
 ghost use Rattle.toml.specs.Data.{string, table};
 ghost use Rattle.toml.specs.View.{view, table_view};
@@ -13,6 +13,7 @@ use std::alloc::Global;
 use toml::value::Array;
 use toml::{Table, Value};
 
+/// The tables of the nodes.
 fn node_tables(alloc: Global, problem: &Problem) -> Result<Array, OutOfMemory>
     ensures tables { IfOk result (λ a. map view a.items ≡ map (λ n. table (node_members n)) problem.now.nodes) }
     ensures named { IfOk result (λ _. All IsName problem.now.nodes) }
@@ -24,6 +25,7 @@ fn node_tables(alloc: Global, problem: &Problem) -> Result<Array, OutOfMemory>
     Ok(made)
 }
 
+/// The tables of the slots.
 fn slot_tables(alloc: Global, problem: &Problem) -> Result<Array, OutOfMemory>
     ensures { IfOk result (λ a. map view a.items ≡ map (λ s. table (slot_members problem.now.nodes s)) problem.now.slots) }
 {
@@ -34,6 +36,7 @@ fn slot_tables(alloc: Global, problem: &Problem) -> Result<Array, OutOfMemory>
     Ok(made)
 }
 
+/// The tables of the processes.
 fn process_tables(alloc: Global, problem: &Problem) -> Result<Array, OutOfMemory>
     ensures tables { IfOk result (λ a. map view a.items ≡ map (λ p. table (process_members problem.now.nodes p)) problem.now.processes) }
     ensures named { IfOk result (λ _. All (λ p. IsName p.name) problem.now.processes) }
@@ -45,6 +48,7 @@ fn process_tables(alloc: Global, problem: &Problem) -> Result<Array, OutOfMemory
     Ok(made)
 }
 
+/// The tables of the edges.
 fn edge_tables(alloc: Global, problem: &Problem) -> Result<Array, OutOfMemory>
     ensures { IfOk result (λ a. map view a.items ≡ map (λ e. table (edge_members problem.now.processes e)) problem.now.edges) }
 {
@@ -105,6 +109,7 @@ fn lists(alloc: Global, problem: &Problem) -> Result<Table, OutOfMemory>
     with_array(alloc, table, "node", nodes)
 }
 
+/// The whole document of a graph.
 fn document(alloc: Global, problem: &Problem) -> Result<Table, OutOfMemory>
     ensures table { IfOk result (λ t. table_view t ≡ graph_members problem.now) }
     ensures nodes { IfOk result (λ _. All IsName problem.now.nodes) }

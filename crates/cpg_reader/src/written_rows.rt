@@ -10,6 +10,7 @@ use cpg_base::{Edge, Name, OutOfMemory, Process, Slot};
 use std::alloc::Global;
 use toml::Table;
 
+/// The table of a node.
 pub fn node_table(alloc: Global, name: &Name) -> Result<Table, OutOfMemory>
     ensures table { IfOk result (λ t. table_view t ≡ node_members name.now) }
     ensures named { IfOk result (λ _. IsName name.now) }
@@ -17,6 +18,7 @@ pub fn node_table(alloc: Global, name: &Name) -> Result<Table, OutOfMemory>
     with_name(alloc, Table::new(alloc), "name", name)
 }
 
+/// The table of a slot.
 pub fn slot_table(alloc: Global, slot: &Slot, nodes: &[Name]) -> Result<Table, OutOfMemory>
     requires { IsSlotWithin (length nodes.now) slot.now }
     ensures { IfOk result (λ t. table_view t ≡ slot_members nodes.now slot.now) }
@@ -26,6 +28,7 @@ pub fn slot_table(alloc: Global, slot: &Slot, nodes: &[Name]) -> Result<Table, O
     with_number(alloc, table, "bytes", u64::from(slot.bytes))
 }
 
+/// The end of a process's table.
 fn process_low(alloc: Global, process: &Process, nodes: &[Name]) -> Result<Table, OutOfMemory>
     requires { IsProcessWithin (length nodes.now) process.now }
     ensures { IfOk result (λ t. table_view t ≡ process_low nodes.now process.now) }
@@ -36,6 +39,7 @@ fn process_low(alloc: Global, process: &Process, nodes: &[Name]) -> Result<Table
     with_name(alloc, table, "node", &nodes[process.node as usize])
 }
 
+/// The table of a process from `frozen` on, without its own deadline.
 fn process_middle(alloc: Global, process: &Process, nodes: &[Name]) -> Result<Table, OutOfMemory>
     requires { IsProcessWithin (length nodes.now) process.now }
     ensures table { IfOk result (λ t. table_view t ≡ process_middle nodes.now process.now) }
@@ -48,6 +52,7 @@ fn process_middle(alloc: Global, process: &Process, nodes: &[Name]) -> Result<Ta
     with_flag(alloc, table, "frozen", process.frozen)
 }
 
+/// The table of a process from its own deadline on, if it has one.
 fn process_due(alloc: Global, process: &Process, nodes: &[Name]) -> Result<Table, OutOfMemory>
     requires { IsProcessWithin (length nodes.now) process.now }
     ensures table { IfOk result (λ t. table_view t ≡ with_deadline process.now.deadline (process_middle nodes.now process.now)) }
@@ -60,6 +65,7 @@ fn process_due(alloc: Global, process: &Process, nodes: &[Name]) -> Result<Table
     }
 }
 
+/// The table of a process.
 pub fn process_table(alloc: Global, process: &Process, nodes: &[Name]) -> Result<Table, OutOfMemory>
     requires { IsProcessWithin (length nodes.now) process.now }
     ensures table { IfOk result (λ t. table_view t ≡ process_members nodes.now process.now) }
@@ -70,6 +76,7 @@ pub fn process_table(alloc: Global, process: &Process, nodes: &[Name]) -> Result
     with_number(alloc, table, "alpha", process.alpha)
 }
 
+/// The value with which an edge is taken, if it isn't always.
 fn when_table(alloc: Global, when: Option<bool>) -> Result<Table, OutOfMemory>
     ensures { IfOk result (λ t. table_view t ≡ when_members when) }
 {
@@ -79,6 +86,7 @@ fn when_table(alloc: Global, when: Option<bool>) -> Result<Table, OutOfMemory>
     }
 }
 
+/// The table of an edge.
 pub fn edge_table(alloc: Global, edge: &Edge, processes: &[Process]) -> Result<Table, OutOfMemory>
     requires { IsEdgeWithin (length processes.now) edge.now }
     ensures { IfOk result (λ t. table_view t ≡ edge_members processes.now edge.now) }

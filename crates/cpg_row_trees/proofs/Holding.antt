@@ -6,7 +6,7 @@ use Rattle.cpg_base.specs.Scenario.{Scenario}
 use Rattle.cpg_cube.specs.declared.literal.Literal.{Literal}
 use Rattle.cpg_cube.specs.Cube.{holds, matches}
 
--- the literals so far
+-- if the first literals match and the next one holds, one literal more matches
 pub matches_more : (s : Scenario) (ls : List Literal) (i : ℕ) (d : Literal) → i < length ls →
     matches (take i ls) s ≡ true → holds s (get_or ls i d) ≡ true →
     matches (take (i + 1) ls) s ≡ true

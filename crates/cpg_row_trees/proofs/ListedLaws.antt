@@ -29,6 +29,7 @@ module _ (ls : List Literal) (i : ℕ) (l : Literal) (there : i < length ls) (s 
       (sym (matches_push s (get_or ls i l) (take i ls))
       ∙ ap (λ (xs : List Literal). matches xs s) (sym (take_more ls i l there)) ∙ all)
 
+-- if a cube's scenarios are those of the space, its literals and the range of any variable say who is in it
 pub own_on : (k : ℕ) (space : Space) (ls : List Literal) (v : ℕ) → IsOwn k space ls → IsOwnOn k space ls v
 own_on k space ls v is_own = record { hold = is_own.hold; come = λ s few all low high. is_own.come s few all }
 
@@ -55,6 +56,7 @@ own_next k space ls i l v there is on before known = own_more k space ls i l the
     (subst (λ (u : ℕ). IsOwnOn k space (take i ls) u) (sym on ∙ ap (λ (m : Literal). m.variable) is) before)
     (subst (λ (m : Literal). ((s : Scenario) → IsInSpace space s → holds s m ≡ true) × IsInside space m) is known)
 
+-- if a cube's literals up to a depth past its end say who is in the space, the whole cube does
 pub own_all : (k : ℕ) (space : Space) (ls : List Literal) (i : ℕ) → length ls ≤ i → IsOwn k space (take i ls) →
     IsOwn k space ls
 own_all k space ls i past = subst (IsOwn k space) (take_all i ls past)
@@ -67,6 +69,8 @@ le_self n = omega arith
 le_more : (n m : ℕ) → n + 1 ≤ (n + 1) + m
 le_more n m = omega arith
 
+-- a space of which the ranges alone say who is in it, and a cut that is open on both sides
+-- `ranges`: the ranges of the space alone say who is in it. `open_`: the cut has numbers of the space on both sides.
 module _ (k : ℕ) (space side : Space) (v cut : ℕ) (there : v < 256) (ranges : AreRangesAll k space)
     (open_ : IsOpenCut space v cut) where
   reached : IsForkSpace k space (sum_by (narrowed k space) (numbers_below 256))
@@ -84,8 +88,10 @@ module _ (k : ℕ) (space side : Space) (v cut : ℕ) (there : v < 256) (ranges 
   above_low = low_in_range k space v cut (sum_by (narrowed k space) (numbers_below 256))
       ((sum_by (narrowed k space) (numbers_below 256)) + 1) there reached open_ more
 
+  -- the side below the cut has all scenarios of the space that are up to the cut
   module _ (long : length space.high ≡ 256) (is : side ≡ below_cut space v cut)
       (goes : (s : Scenario) → IsInSpace space s → number_of s v ≤ cut → IsInSpace side s) where
+    -- the ranges alone say who is in the space below the cut
     pub ranges_under : AreRangesAll k side
     ranges_under = (under_reached k space side v cut (sum_by (narrowed k space) (numbers_below 256))
         ((sum_by (narrowed k space) (numbers_below 256)) + 1)
@@ -98,6 +104,7 @@ module _ (k : ℕ) (space side : Space) (v cut : ℕ) (there : v < 256) (ranges 
     high_is_cut =
         ap (λ (r : Space). get_or r.high v 0) is ∙ set_same space.high v cut v (omega (arith, long, there)) refl
 
+    -- literals that say with the variable's range who is in the space say it of the space below the cut, too
     pub on_under : (ls : List Literal) → IsOwnOn k space ls v → IsOwnOn k side ls v
     on_under ls own = record {
       hold = λ s few lies. own.hold s few (back_from_under k space side v cut
@@ -108,8 +115,10 @@ module _ (k : ℕ) (space side : Space) (v cut : ℕ) (there : v < 256) (ranges 
           goes s (own.come s few all (omega (arith, low, low_as_before)) (omega (arith, inside, below_high))) inside;
     }
 
+  -- the side above the cut has all scenarios of the space that are above the cut
   module _ (long : length space.low ≡ 256) (is : side ≡ above_cut space v cut)
       (goes : (s : Scenario) → IsInSpace space s → cut < number_of s v → IsInSpace side s) where
+    -- the ranges alone say who is in the space above the cut
     pub ranges_over : AreRangesAll k side
     ranges_over = (over_reached k space side v cut (sum_by (narrowed k space) (numbers_below 256))
         ((sum_by (narrowed k space) (numbers_below 256)) + 1)
@@ -122,6 +131,7 @@ module _ (k : ℕ) (space side : Space) (v cut : ℕ) (there : v < 256) (ranges 
     high_as_before : get_or side.high v 0 ≡ get_or space.high v 0
     high_as_before = ap (λ (r : Space). get_or r.high v 0) is
 
+    -- literals that say with the variable's range who is in the space say it of the space above the cut, too
     pub on_over : (ls : List Literal) → IsOwnOn k space ls v → IsOwnOn k side ls v
     on_over ls own = record {
       hold = λ s few lies. own.hold s few (back_from_over k space side v cut
@@ -132,12 +142,16 @@ module _ (k : ℕ) (space side : Space) (v cut : ℕ) (there : v < 256) (ranges 
           goes s (own.come s few all (omega (arith, past, above_low)) (omega (arith, high, high_as_before))) past;
     }
 
+-- a space whose ranges alone say who is in it, and its two sides at an open cut
+-- `is_under`, `is_over`: the sides are the space below and above the cut. `goes_under`, `goes_over`: each scenario of
+-- the space is in one of them.
 module _ (cubes : List (List Literal)) (k : ℕ) (space under over : Space) (from border to v cut : ℕ) (there : v < 256)
     (lows : length space.low ≡ 256) (highs : length space.high ≡ 256)
     (ranges : AreRangesAll k space) (open_ : IsOpenCut space v cut) (is_under : under ≡ below_cut space v cut)
     (is_over : over ≡ above_cut space v cut)
     (goes_under : (s : Scenario) → IsInSpace space s → number_of s v ≤ cut → IsInSpace under s)
     (goes_over : (s : Scenario) → IsInSpace space s → cut < number_of s v → IsInSpace over s) where
+  -- the trees of the two slices on the sides, under a fork, are a tree of the whole slice
   pub listed_parted : (start middle : ℕ) (old half full new : TreeGrowth) →
       ForksEnd start middle v cut full.items.items new.items.items →
       new.left ≡ full.left →
@@ -149,6 +163,6 @@ module _ (cubes : List (List Literal)) (k : ℕ) (space under over : Space) (fro
       lows highs (reached k space under v cut there ranges open_) open_
       (more k space under v cut there ranges open_) is_under is_over goes_under goes_over
 
--- what is told of an answer that is there
+-- what holds for any answer that is there holds for this one
 pub at_some : (P : ℕ → Type 0) (o : Option ℕ) (to : ℕ) → o ≡ Some to → IfSome o P → P to
 at_some P o to is h = subst (λ (r : Option ℕ). IfSome r P) is h

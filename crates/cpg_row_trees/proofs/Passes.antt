@@ -15,23 +15,27 @@ pub holds_leaf : {T : Type 0} (fact : T → Scenario → Type 0) (space : Space)
     HoldsInSpace fact space n
 holds_leaf {T} fact space x n is all = subst (λ (m : TreeNode T). HoldsInSpace fact space m) (sym is) all
 
+-- a fork, and a fact of the values that scenarios of a space come to
 module _ {T : Type 0} (fact : T → Scenario → Type 0) (space : Space) (v cut : ℕ) (below above n : TreeNode T)
     (is : n ≡ Fork v cut below above) where
   from_side : (s : Scenario) (x y : T) → y ≡ x → fact x s → fact y s
   from_side s x y e h = subst (λ (z : T). fact z s) (sym e) h
 
+  -- if no scenario of the space is below the cut, what holds above it holds on the fork
   pub holds_above : HoldsInSpace fact space above → ((s : Scenario) → IsInSpace space s → cut < number_of s v) →
       HoldsInSpace fact space n
   holds_above all only = subst (λ (m : TreeNode T). HoldsInSpace fact space m) (sym is)
       (λ s lies. from_side s (value_at above s) (value_at (Fork v cut below above) s)
       (value_above v cut below above s (only s lies)) (all s lies))
 
+  -- if no scenario of the space is above the cut, what holds below it holds on the fork
   pub holds_below : HoldsInSpace fact space below → ((s : Scenario) → IsInSpace space s → number_of s v ≤ cut) →
       HoldsInSpace fact space n
   holds_below all only = subst (λ (m : TreeNode T). HoldsInSpace fact space m) (sym is)
       (λ s lies. from_side s (value_at below s) (value_at (Fork v cut below above) s)
       (value_below v cut below above s (only s lies)) (all s lies))
 
+  -- what holds on both sides of the cut holds on the fork
   pub holds_fork : ((s : Scenario) → IsInSpace space s → number_of s v ≤ cut → fact (value_at below s) s) →
       ((s : Scenario) → IsInSpace space s → cut < number_of s v → fact (value_at above s) s) →
       HoldsInSpace fact space n
@@ -45,7 +49,7 @@ module _ {T : Type 0} (fact : T → Scenario → Type 0) (space : Space) (v cut 
             (of_below s lies h)
       ])
 
--- what is told beside a tree that has the same values in the space
+-- what holds beside a tree holds beside one that has the same values in the space
 pub holds_beside : {T U : Type 0} (fact : T → U → Scenario → Type 0) (space : Space) (first : TreeNode T)
     (part second : TreeNode U) →
     ((s : Scenario) → IsInSpace space s → value_at part s ≡ value_at second s) →

@@ -24,9 +24,11 @@ use Rattle.cpg_row_trees.specs.PlaceHints.{IsVariableRange, IsImpliedBy, AddsPla
 use Rattle.cpg_row_trees.specs.PlaceHints.{KeepsPlace, places_of}
 
 module _ (fits : Scenario → Type 0) (place : ℕ) where
+  -- a place is kept as it should be without being added, if no scenario fits
   pub kept_out : (hints : List PlaceHint) → ((s : Scenario) → fits s → ⊥) → KeepsPlace fits place hints hints
   kept_out hints off = record { earlier = λ i c. c; this = λ s h. absurd (off s h) }
 
+  -- a place is kept if it is added
   pub kept_in : (hints : List PlaceHint) (e : PlaceHint) → e.place ≡ place →
       KeepsPlace fits place hints (hints ++ e ∷ [])
   kept_in hints e is =
@@ -51,9 +53,11 @@ places_more hints k d within =
     ap places_of (take_more hints k d within) ∙ map_push (λ (e : PlaceHint). e.place) (take k hints) (get_or hints k d)
 
 module _ (cubes : List (List Literal)) (fits : Scenario → Type 0) where
+  -- of no places, all are kept
   pub keeps_none : (kept : List ℕ) → KeepsWhere cubes fits [] kept
   keeps_none kept s i lies c m = absurd (Contains-nil i c)
 
+  -- with one place more that is kept, all of one place more are kept
   pub keeps_one : (place : ℕ) (places : List ℕ) (before now : List PlaceHint) →
       KeepsPlace (λ s. fits s × IsMatched cubes s place) place before now →
       KeepsWhere cubes fits places (places_of before) → KeepsWhere cubes fits (places ++ place ∷ []) (places_of now)
@@ -63,6 +67,7 @@ module _ (cubes : List (List Literal)) (fits : Scenario → Type 0) where
       subst (λ j. Contains (places_of now) j) q (kept.this s (lies, subst (λ j. IsMatched cubes s j) (sym q) m)))
       (Contains-push_cases places place i c)
 
+  -- with the next hint's place kept, the places of one hint more are kept
   pub keeps_more : (hints before now : List PlaceHint) (k : ℕ) (d : PlaceHint) → k < length hints
       → KeepsPlace (λ s. fits s × IsMatched cubes s (get_or hints k d).place) (get_or hints k d).place before now →
       KeepsWhere cubes fits (places_of (take k hints)) (places_of before) →
@@ -80,13 +85,17 @@ range_implied literals l v first on implied = record {
   high = λ s m below. subst (λ w. number_of s w ≤ l.high) on (holds-high s l (implied s m));
 }
 
--- what is told of the places that are kept is told of all
+-- a match among the places that are kept is one among all
+-- `keeps`: a cube that a fitting scenario matches is kept if it is among the places. `lies`: s fits.
 module _ (cubes : List (List Literal)) (fits : Scenario → Type 0) (places kept : List ℕ)
     (keeps : KeepsWhere cubes fits places kept) (s : Scenario) (lies : fits s) where
   widen_place : (x : Option ℕ) → IsMatchAmong cubes kept x s → IsMatchAmong cubes places x s
   widen_place None h = λ j c m. h j (keeps s j lies c m) m
   widen_place (Some i) h = record { is = h.is; only = λ j c m. h.only j (keeps s j lies c m) m }
 
+-- a fork whose sides have the matches among the places that are kept there
+-- `fork`: r is the fork of the two trees. `keeps_below`, `keeps_above`: each side keeps the places that matter there.
+-- `of_one`, `of_two`: the trees have the matches of each side. `goes_one`, `goes_two`: each scenario is on one side.
 module _ (cubes : List (List Literal)) (space one two : Space) (places low high : List ℕ) (v cut : ℕ)
     (below above r : TreeNode (Option ℕ)) (fork : IsForkOf v cut below above r)
     (keeps_below : KeepsWhere cubes (λ s. number_of s v ≤ cut) places low)
@@ -106,7 +115,7 @@ module _ (cubes : List (List Literal)) (space one two : Space) (places low high 
         (widen_place cubes (λ s. number_of s v ≤ cut) places low keeps_below s h (value_at below s) (of_one s l))
   ]
 
--- a leaf that tells of the places
+-- a leaf that has the match among the places is their tree
 pub place_tree_leaf : (cubes : List (List Literal)) (space : Space) (places : List ℕ) (x : Option ℕ)
     (old new : TreeGrowth) →
     ((s : Scenario) → IsInSpace space s → IsMatchAmong cubes places x s) →
@@ -114,6 +123,10 @@ pub place_tree_leaf : (cubes : List (List Literal)) (space : Space) (places : Li
 place_tree_leaf cubes space places x old new found added fewer =
     record { found = (Leaf x, added, found); fewer = fewer }
 
+-- a fork whose sides have trees of the places kept there, added one after the other
+-- `forks`, `as_full`: the last step puts a fork before the two trees. `kept`, `less`: `rest` has the items of `old`.
+-- `first`, `second`: where the trees begin. `keeps_below`, `keeps_above`: each side keeps the places that matter.
+-- `of_one`, `of_two`: the trees are added. `goes_one`, `goes_two`: each scenario is on one side.
 module _ (cubes : List (List Literal)) (space one two : Space) (places low high : List ℕ) (v cut start middle : ℕ)
     (old rest half full new : TreeGrowth)
     (forks : ForksEnd start middle v cut full.items.items new.items.items) (kept : rest.items.items ≡ old.items.items)
@@ -124,6 +137,7 @@ module _ (cubes : List (List Literal)) (space one two : Space) (places low high 
     (of_one : AddsPlaceTree cubes one low rest half) (of_two : AddsPlaceTree cubes two high half full)
     (goes_one : (s : Scenario) → IsInSpace space s → number_of s v ≤ cut → IsInSpace one s)
     (goes_two : (s : Scenario) → IsInSpace space s → cut < number_of s v → IsInSpace two s) where
+  -- the fork is a tree of all places for the whole space
   pub place_tree_parted : AddsPlaceTree cubes space places old new
   place_tree_parted =
       let lo = of_one.found in
@@ -144,10 +158,12 @@ module _ (cubes : List (List Literal)) (space one two : Space) (places low high 
 -- the cube at a place is the one that is lent there
 module _ (lent : List (Bor (List Literal))) (i : ℕ) (b : Bor (List Literal)) (there : i < length lent)
     (is : b ≡ get_or lent i b) where
+  -- the cube at the place is the one that is lent
   pub cube_here : cube_at (map (λ (x : Bor (List Literal)). x.now) lent) i ≡ b.now
   cube_here =
       get_or-map (λ (x : Bor (List Literal)). x.now) lent i b [] there ∙ ap (λ (x : Bor (List Literal)). x.now) (sym is)
 
+  -- the place is one of the list of cubes
   pub within_lent : i < length (map (λ (x : Bor (List Literal)). x.now) lent)
   within_lent = subst (λ n. i < n) (sym (length-map lent (λ (x : Bor (List Literal)). x.now))) there
 
@@ -156,15 +172,17 @@ only_one : (first j : ℕ) (rest : List ℕ) → rest ≡ [] → Contains (first
 only_one first j rest none c = ⊎_elim (λ (b : Contains [] j). absurd (omega (arith, b.1))) (λ (q : first ≡ j). sym q)
     (Contains-push_cases [] first j (subst (λ xs. Contains (first ∷ xs) j) none c))
 
+-- hints of which the rest is empty have the place of the first alone
 pub only_first : (hints rest : List PlaceHint) (first : PlaceHint) (j : ℕ) → hints ≡ first ∷ rest →
     (length rest == 0) ≡ true → Contains (places_of hints) j → j ≡ first.place
 only_first hints [] first j is none c =
     only_one first.place j [] refl (subst (λ (xs : List PlaceHint). Contains (places_of xs) j) is c)
 only_first hints (x ∷ xs) first j is none c = absurd (omega (arith, eqb-true (length (x ∷ xs)) 0 none))
 
--- with all places that a scenario matches, what is told of places is told of all cubes
+-- if the places have all cubes that a scenario matches, a match among them is one among all cubes
 module _ (cubes : List (List Literal)) (places : List ℕ) (s : Scenario)
     (all : (i : ℕ) → IsMatched cubes s i → Contains places i) where
+  -- a match among the places that are kept is the place of the one cube that the scenario matches
   pub found_of_all : (x : Option ℕ) → IsMatchAmong cubes places x s → IsPlaceOfMatch cubes x s
   found_of_all None h = λ j m. h j (all j m) m
   found_of_all (Some i) h = (h.is, λ j m. h.only j (all j m) m)

@@ -1,4 +1,4 @@
--- The places that a list of items tells are those of the tree that it is of.
+-- The places that a list of items gives are those of the tree whose items they are.
 use Rattle.std.proofs.Common.{ℕ, ◌≡◌, ◌++◌, ◌∷◌, List, [], Option, None, Some, Bool, true, false, length, sym, ap, ◌∙◌}
 use Rattle.std.specs.Prelude.{All, nat_le, if◌then◌else◌}
 use Rattle.std.proofs.lemmas.List.Elements.{All-nil, All-cons, All-head, All-tail}
@@ -13,12 +13,13 @@ use Rattle.cpg_tree.proofs.Flats.{read_back-flat}
 use Rattle.cpg_row_trees.specs.PlacesState.{PlacesState}
 use Rattle.cpg_row_trees.specs.Places.{place_on, place_at, IsThere}
 
+-- the place that a list of items gives a scenario is the value of the tree that they are the items of
 pub place_is : (items : List (TreeItem (Option ℕ))) (n : TreeNode (Option ℕ)) (s : Scenario) → items ≡ flat n →
     place_at (record { items = items }) s ≡ value_at n s
 place_is items n s are = ap (λ (xs : List (TreeItem (Option ℕ))). place_on (read_back xs []) s) are
     ∙ ap (λ (stack : List (TreeNode (Option ℕ))). place_on stack s) (read_back-flat n [])
 
--- as a caller sees them
+-- the place that a caller sees is the value of the tree that the items are of
 pub place_seen : (items : List (TreeItem (Option ℕ))) (n : TreeNode (Option ℕ)) (places : PlacesState) (s : Scenario) →
     items ≡ flat n →
     record { items = items } ≡ places →
@@ -44,6 +45,7 @@ side_there : (b : Bool) (x y : Option ℕ) → (x ≡ None → ⊥) → (y ≡ N
 side_there true x y low high = low
 side_there false x y low high = high
 
+-- a tree without leaves without a place gives each scenario a place
 pub there_in : (n : TreeNode (Option ℕ)) (s : Scenario) → All IsThere (flat n) → value_at n s ≡ None → ⊥
 there_in (Leaf x) s all = is_no_leaf x (All-head IsThere (Value x) [] all)
 there_in (Fork v cut below above) s all =

@@ -42,9 +42,11 @@ use Rattle.cpg_tree.proofs.Demands.{weights_le, without, without_here, without_o
 
 module _ (space : Space) (v cut : ℕ) (there : v < 256) (s : Scenario) where
   module _ (long : length space.high ≡ 256) (in_side : IsInRanges (below_cut space v cut) s) where
+    -- on the side below the cut, the number of the variable is at most the cut
     pub number_below : number_of s v ≤ cut
     number_below = omega (arith, in_side.high v there, set_same space.high v cut v (omega (arith, long, there)) refl)
 
+    -- a scenario in the ranges of the side below an open cut is in the ranges of the space
     pub range_below : cut < get_or space.high v 0 → IsInRanges space s
     range_below h = record {
       low = in_side.low;
@@ -55,10 +57,12 @@ module _ (space : Space) (v cut : ℕ) (there : v < 256) (s : Scenario) where
     }
 
   module _ (long : length space.low ≡ 256) (in_side : IsInRanges (above_cut space v cut) s) where
+    -- on the side above the cut, the number of the variable is greater than the cut
     pub number_above : cut < number_of s v
     number_above =
         omega (arith, in_side.low v there, set_same space.low v (cut + 1) v (omega (arith, long, there)) refl)
 
+    -- a scenario in the ranges of the side above an open cut is in the ranges of the space
     pub range_above : get_or space.low v 0 ≤ cut → IsInRanges space s
     range_above h = record {
       low = λ u l. elim (cases_eq u v) [
@@ -68,6 +72,7 @@ module _ (space : Space) (v cut : ℕ) (there : v < 256) (s : Scenario) where
       high = in_side.high;
     }
 
+-- a scenario of a space is in its ranges
 pub in_range : (space : Space) (s : Scenario) → IsInSpace space s → IsInRanges space s
 in_range space s lies = record { low = lies.low; high = lies.high }
 
@@ -88,6 +93,9 @@ narrowed_le k space v = step (nat_lt v 256 && is_narrow k space v)
     step true = omega arith
     step false = omega arith
 
+-- a space that forks lead to, and a cut that is open on both sides
+-- `reached`: the ranges alone say who is in the space, and at most `narrow` of them are narrower than at first.
+-- `more`: n counts the variable v as well.
 module _ (k : ℕ) (space : Space) (v cut narrow n : ℕ) (there : v < 256) (reached : IsForkSpace k space narrow)
     (open_ : IsOpenCut space v cut) (more : narrow + 1 ≤ n + narrowed k space v) where
   one_more : (side : Space) → ((u : ℕ) → (u ≡ v → ⊥) → narrowed k side u ≡ narrowed k space u) →
@@ -95,19 +103,24 @@ module _ (k : ℕ) (space : Space) (v cut narrow n : ℕ) (there : v < 256) (rea
   one_more side same = sum_of_side _ _ (narrowed k side v) (narrowed k space v) narrow n
       (sum_changed (narrowed k side) (narrowed k space) 256 v there same) reached.few more (narrowed_le k side v)
 
+  -- the cut is less than the high of its variable
   pub cut_in_range : cut < get_or space.high v 0
   cut_in_range = ltb-true cut (get_or space.high v 0) (and_parts (nat_lt cut (get_or space.high v 0))
       (nat_le 128 v || nat_lt cut (get_or space.low v 0 + space.left)) open_.above).0
 
+  -- the low of the variable is at most the cut
   pub low_in_range : get_or space.low v 0 ≤ cut
   low_in_range = leb-true (get_or space.low v 0) cut open_.below
 
+  -- the side below the cut has all scenarios of the space that are up to the cut
   module _ (long : length space.high ≡ 256)
       (goes : (s : Scenario) → IsInSpace space s → number_of s v ≤ cut → IsInSpace (below_cut space v cut) s) where
+    -- the scenarios of the side below the cut are those of the space
     pub lies_from_below : (s : Scenario) → HasAtMostFaults k s → IsInSpace (below_cut space v cut) s → IsInSpace space s
     lies_from_below s few lies = reached.by_ranges s few
         (range_below space v cut there s long (in_range (below_cut space v cut) s lies) cut_in_range)
 
+    -- forks lead to the side below the cut, with at most one narrow variable more
     pub reached_below : IsForkSpace k (below_cut space v cut) n
     reached_below = record {
       by_ranges =
@@ -118,12 +131,15 @@ module _ (k : ℕ) (space : Space) (v cut narrow n : ℕ) (there : v < 256) (rea
           (set_other space.high v cut u d));
     }
 
+  -- the side above the cut has all scenarios of the space that are above the cut
   module _ (long : length space.low ≡ 256)
       (goes : (s : Scenario) → IsInSpace space s → cut < number_of s v → IsInSpace (above_cut space v cut) s) where
+    -- the scenarios of the side above the cut are those of the space
     pub lies_from_above : (s : Scenario) → HasAtMostFaults k s → IsInSpace (above_cut space v cut) s → IsInSpace space s
     lies_from_above s few lies = reached.by_ranges s few
         (range_above space v cut there s long (in_range (above_cut space v cut) s lies) low_in_range)
 
+    -- forks lead to the side above the cut, with at most one narrow variable more
     pub reached_above : IsForkSpace k (above_cut space v cut) n
     reached_above = record {
       by_ranges =
@@ -134,7 +150,7 @@ module _ (k : ℕ) (space : Space) (v cut narrow n : ℕ) (there : v < 256) (rea
           (set_other space.low v (cut + 1) u d));
     }
 
--- all scenarios of at most k faults
+-- forks lead to the space of all scenarios of at most k faults, with no variable narrow
 pub whole_reached : (k : ℕ) (space : Space) → IsWhole k space →
     ((s : Scenario) → HasAtMostFaults k s → IsInSpace space s) →
     IsForkSpace k space 0
@@ -161,6 +177,8 @@ whole_reached k space whole lies = record {
 
 -- ---- as many literals on narrow variables as there are such variables: none is without
 
+-- a space that forks lead to, and literals that are on as many of its narrow variables as it has
+-- `bounds`: the literals hold in the space and go no further than it; `found` of them are on narrow variables.
 module _ (k : ℕ) (space : Space) (ls : List Literal) (narrow found : ℕ) (rising : IsRising ls)
     (reached : IsForkSpace k space narrow) (bounds : AreSpaceBounds k space ls found)
     (enough : narrow ≤ found) where
@@ -221,11 +239,15 @@ module _ (k : ℕ) (space : Space) (ls : List Literal) (narrow found : ℕ) (ris
     comes_here = reached.by_ranges s few
         (record { low = λ v l. (at_each v l (is_narrow k space v) refl).0; high = λ v l. (at_each v l (is_narrow k space v) refl).1 })
 
+  -- literals that hold in the space, lie inside it and are on all its narrow variables say who is in it
   pub own : IsOwn k space ls
   own = record { hold = λ s few lies. bounds.hold s lies; come = comes_here }
 
+-- literals that bound a space up to a place
+-- `before`: the first i literals are bounds of the space, and `found` counts those on narrow variables.
 module _ (k : ℕ) (space : Space) (ls : List Literal) (i found : ℕ) (d : Literal) (there : i < length ls)
     (before : AreSpaceBounds k space (take i ls) found) where
+  -- one literal more that holds in the space and lies inside it is among the bounds of the space
   pub bounds_more : ((s : Scenario) → IsInSpace space s → holds s (get_or ls i d) ≡ true) →
       IsInside space (get_or ls i d) → (n : ℕ) →
       n ≤ found + narrowed k space (get_or ls i d).variable →
@@ -242,6 +264,7 @@ module _ (k : ℕ) (space : Space) (ls : List Literal) (i found : ℕ) (d : Lite
 
 -- ---- leaves
 
+-- a leaf without a place is right for a slice without cubes
 pub finds_nowhere : (cubes : List (List Literal)) (k : ℕ) (space : Space) (from to : ℕ) → to ≤ from →
     FindsMatches cubes k space from to (λ s. None)
 finds_nowhere cubes k space from to none = record {
@@ -253,11 +276,14 @@ finds_nowhere cubes k space from to none = record {
 some_is : (i j : ℕ) → Some i ≡ Some j → i ≡ j
 some_is i j e = cc
 
+-- a slice of one cube at most, whose scenarios are those of the space
+-- `one`: the slice has at most the cube at `from`. `is_own`: the literals of this cube say who is in the space.
 module _ (cubes : List (List Literal)) (k : ℕ) (space : Space) (from to : ℕ) (there : from < length cubes)
     (one : to ≤ from + 1) (is_own : IsOwn k space (cube_at cubes from)) where
   only_place : (j : ℕ) → from ≤ j → j < to → j ≡ from
   only_place j after before = omega (arith, one, after, before)
 
+  -- a leaf with the place of a cube is right for the slice of that cube, if the cube says who is in the space
   pub finds_here : FindsMatches cubes k space from to (λ s. Some from)
   finds_here = record {
     is = λ s i few lies e. subst (λ (j : ℕ). IsMatched cubes s j) (some_is from i e)
@@ -269,6 +295,10 @@ module _ (cubes : List (List Literal)) (k : ℕ) (space : Space) (from to : ℕ)
 
 -- ---- a fork
 
+-- a fork whose sides lead to the matches of two slices that meet at a border
+-- `fork`: r is the fork of the two trees at the cut. `low`, `high`: each tree leads to the matches of its slice.
+-- `goes_one`, `goes_two`: each scenario of the space is on one side. `back_one`, `back_two`: and each of a side is
+-- in the space. `at_most`, `at_least`: the sides are apart by the cut.
 module _ (cubes : List (List Literal)) (k : ℕ) (space one two : Space) (from border to v cut : ℕ)
     (below above r : TreeNode (Option ℕ)) (fork : IsForkOf v cut below above r)
     (low : FindsMatches cubes k one from border (value_at below))
@@ -279,6 +309,7 @@ module _ (cubes : List (List Literal)) (k : ℕ) (space one two : Space) (from b
     (back_two : (s : Scenario) → HasAtMostFaults k s → IsInSpace two s → IsInSpace space s)
     (at_most : (s : Scenario) → IsInSpace one s → number_of s v ≤ cut)
     (at_least : (s : Scenario) → IsInSpace two s → cut < number_of s v) where
+  -- the fork leads to the matches of both slices
   pub finds_parted : FindsMatches cubes k space from to (value_at r)
   finds_parted = record {
     is = λ s i few lies e. elim (cases_lt cut (number_of s v)) [
@@ -297,16 +328,19 @@ module _ (cubes : List (List Literal)) (k : ℕ) (space one two : Space) (from b
 
 -- a fork of a space that forks lead to
 module _ (k : ℕ) (space side : Space) (v cut narrow n : ℕ) (there : v < 256) where
+  -- the side below an open cut, by the ranges and by the scenarios of the space
   module _ (long : length space.high ≡ 256) (reached : IsForkSpace k space narrow) (open_ : IsOpenCut space v cut)
       (more : narrow + 1 ≤ n + narrowed k space v) (is : side ≡ below_cut space v cut)
       (goes : (s : Scenario) → IsInSpace space s → number_of s v ≤ cut → IsInSpace side s) where
     to_under : (s : Scenario) → IsInSpace space s → number_of s v ≤ cut → IsInSpace (below_cut space v cut) s
     to_under s lies h = subst (λ (r : Space). IsInSpace r s) is (goes s lies h)
 
+    -- forks lead to the side below the cut
     pub under_reached : IsForkSpace k side n
     under_reached = subst (λ (r : Space). IsForkSpace k r n) (sym is)
         (reached_below k space v cut narrow n there reached open_ more long to_under)
 
+    -- a scenario of the side below the cut is one of the space
     pub back_from_under : (s : Scenario) → HasAtMostFaults k s → IsInSpace side s → IsInSpace space s
     back_from_under s few lies = lies_from_below k space v cut narrow n there reached open_ more long to_under s few
         (subst (λ (r : Space). IsInSpace r s) is lies)
@@ -315,16 +349,19 @@ module _ (k : ℕ) (space side : Space) (v cut narrow n : ℕ) (there : v < 256)
     under_cut s lies = number_below space v cut there s long
         (in_range (below_cut space v cut) s (subst (λ (r : Space). IsInSpace r s) is lies))
 
+  -- the side above an open cut, by the ranges and by the scenarios of the space
   module _ (long : length space.low ≡ 256) (reached : IsForkSpace k space narrow) (open_ : IsOpenCut space v cut)
       (more : narrow + 1 ≤ n + narrowed k space v) (is : side ≡ above_cut space v cut)
       (goes : (s : Scenario) → IsInSpace space s → cut < number_of s v → IsInSpace side s) where
     to_over : (s : Scenario) → IsInSpace space s → cut < number_of s v → IsInSpace (above_cut space v cut) s
     to_over s lies h = subst (λ (r : Space). IsInSpace r s) is (goes s lies h)
 
+    -- forks lead to the side above the cut
     pub over_reached : IsForkSpace k side n
     over_reached = subst (λ (r : Space). IsForkSpace k r n) (sym is)
         (reached_above k space v cut narrow n there reached open_ more long to_over)
 
+    -- a scenario of the side above the cut is one of the space
     pub back_from_over : (s : Scenario) → HasAtMostFaults k s → IsInSpace side s → IsInSpace space s
     back_from_over s few lies = lies_from_above k space v cut narrow n there reached open_ more long to_over s few
         (subst (λ (r : Space). IsInSpace r s) is lies)
@@ -333,6 +370,10 @@ module _ (k : ℕ) (space side : Space) (v cut narrow n : ℕ) (there : v < 256)
     over_cut s lies = number_above space v cut there s long
         (in_range (above_cut space v cut) s (subst (λ (r : Space). IsInSpace r s) is lies))
 
+-- a space that forks lead to, and its two sides at an open cut
+-- `reached`, `more`: the ranges say who is in the space, and n counts the variable v as well. `open_`: the cut has
+-- numbers on both sides. `is_under`, `is_over`: these are the sides. `goes_under`, `goes_over`: each scenario is in
+-- one of them.
 module _ (cubes : List (List Literal)) (k : ℕ) (space under over : Space) (from border to v cut narrow n : ℕ)
     (there : v < 256) (lows : length space.low ≡ 256) (highs : length space.high ≡ 256)
     (reached : IsForkSpace k space narrow) (open_ : IsOpenCut space v cut) (more : narrow + 1 ≤ n + narrowed k space v)
@@ -340,6 +381,7 @@ module _ (cubes : List (List Literal)) (k : ℕ) (space under over : Space) (fro
     (is_over : over ≡ above_cut space v cut)
     (goes_under : (s : Scenario) → IsInSpace space s → number_of s v ≤ cut → IsInSpace under s)
     (goes_over : (s : Scenario) → IsInSpace space s → cut < number_of s v → IsInSpace over s) where
+  -- the trees of the two slices on the sides, under a fork, are a tree of the whole slice
   pub slice_tree_parted : (start middle : ℕ) (old half full new : TreeGrowth) →
       ForksEnd start middle v cut full.items.items new.items.items →
       new.left ≡ full.left →
@@ -366,7 +408,7 @@ module _ (cubes : List (List Literal)) (k : ℕ) (space under over : Space) (fro
         fewer = omega (arith, low.fewer, high.fewer, as_full);
       }
 
--- a leaf that leads to its place
+-- a leaf that finds the matches of a slice is its tree
 pub slice_tree_leaf : (cubes : List (List Literal)) (k : ℕ) (space : Space) (from to : ℕ) (x : Option ℕ)
     (old new : TreeGrowth) →
     FindsMatches cubes k space from to (λ s. x) →
@@ -395,7 +437,7 @@ met_parts : (n a b c d : ℕ) →
 met_parts n a b c d = grind (arith, nat_tests)
 
 module _ (s : Scenario) (l : Literal) where
-  -- one more
+  -- with a literal put last, literals match exactly if they did and it holds
   pub matches_push : (ls : List Literal) → matches (ls ++ l ∷ []) s ≡ (matches ls s && holds s l)
   matches_push ls = list_all-append (holds s) ls (l ∷ []) ∙ ap (λ b. matches ls s && b) (with_true (holds s l))
 
@@ -433,6 +475,7 @@ before_last ls l = ap (λ n. take n (ls ++ l ∷ [])) (omega (arith, length-appe
     front [] = refl
     front (x ∷ xs) = ap (λ (ys : List Literal). x ∷ ys) (front xs)
 
+-- a literal put last is entered, and leaving takes it off
 pub entered_more : (ls : List Literal) (l : Literal) → IsEntered ls l (ls ++ l ∷ []) None
 entered_more ls l = record {
   both = λ s. matches_push s l ls;
@@ -440,6 +483,7 @@ entered_more ls l = record {
   some = omega (arith, length-append ls (l ∷ []));
 }
 
+-- a literal that is met with the last one is entered, and leaving sets the last one back
 pub entered_last : (ls new : List Literal) (l m : Literal) → IsLastOn ls l.variable m →
     new ≡ slice_set ls (length ls - 1) (met_by m l) →
     IsEntered ls l new (Some m)
@@ -451,9 +495,12 @@ entered_last ls new l m last is = subst (λ (xs : List Literal). IsEntered ls l 
 })
 
 -- a side of a fork
+-- `reached`, `more`: the ranges say who is in the space, and n counts the variable v as well. `is_own`: the path
+-- `old` says who is in the space.
 module _ (k : ℕ) (space side : Space) (v cut narrow n : ℕ) (there : v < 256) (reached : IsForkSpace k space narrow)
     (open_ : IsOpenCut space v cut) (more : narrow + 1 ≤ n + narrowed k space v)
     (old new : List Literal) (is_own : IsOwn k space old) where
+  -- a path that says who is in the space, with the range below the cut, says who is below the cut
   pub own_under : length space.high ≡ 256 → side ≡ below_cut space v cut →
       ((s : Scenario) → IsInSpace space s → number_of s v ≤ cut → IsInSpace side s)
       → (l : Literal) → l ≡ record {
@@ -472,6 +519,7 @@ module _ (k : ℕ) (space side : Space) (v cut narrow n : ℕ) (there : v < 256)
         (holds-high s (record { variable = v; low = 0; high = cut }) (ap (holds s) (sym says) ∙ parts.1));
   }
 
+  -- a path that says who is in the space, with the range above the cut, says who is above the cut
   pub own_over : length space.low ≡ 256 → side ≡ above_cut space v cut →
       ((s : Scenario) → IsInSpace space s → cut < number_of s v → IsInSpace side s)
       → (l : Literal) → l ≡ record {
@@ -499,17 +547,21 @@ whole_own k space lies = record { hold = λ s few in_space. refl; come = λ s fe
 -- ---- a side that was closed and is put back
 
 module _ (space closed after now : Space) (v : ℕ) (same : after ≡ closed) where
+  -- reopening the side above after the side below was done gives back the space
   pub above_again : (high : ℕ) → now ≡ below_cut after v high → below_cut closed v high ≡ space → now ≡ space
   above_again high is back = is ∙ ap (λ (r : Space). below_cut r v high) same ∙ back
 
+  -- reopening the side below after the side above was done gives back the space
   pub below_again : (was : Lifted) → now ≡ reopened_below after v was → reopened_below closed v was ≡ space →
       now ≡ space
   below_again was is back = is ∙ ap (λ (r : Space). reopened_below r v was) same ∙ back
 
 module _ (space again over : Space) (v cut : ℕ) (back : again ≡ space) where
+  -- the side above the cut of a space that was given back is that of the space
   pub over_again : over ≡ above_cut again v cut → over ≡ above_cut space v cut
   over_again is = is ∙ ap (λ (r : Space). above_cut r v cut) back
 
+  -- the side above the cut of the space that was given back has the scenarios that it had
   pub goes_again : ((s : Scenario) → IsInSpace again s → cut < number_of s v → IsInSpace over s) → (s : Scenario) →
       IsInSpace space s → cut < number_of s v →
       IsInSpace over s
@@ -517,6 +569,8 @@ module _ (space again over : Space) (v cut : ℕ) (back : again ≡ space) where
 
 -- ---- all cubes
 
+-- a scenario of the space, and a slice that has all cubes
+-- `few`, `lies`: s has at most k faults and is in the space. `all`: the slice reaches to the last cube.
 module _ (cubes : List (List Literal)) (k : ℕ) (space : Space) (s : Scenario) (few : HasAtMostFaults k s)
     (lies : IsInSpace space s) (to : ℕ) (all : length cubes ≤ to) where
   none_some : (j : ℕ) (x : Option ℕ) → x ≡ None → x ≡ Some j → ⊥
@@ -532,6 +586,7 @@ module _ (cubes : List (List Literal)) (k : ℕ) (space : Space) (s : Scenario) 
   is_place place finds (Some i) e =
       (finds.is s i few lies e, λ j m. sym (some_is i j (sym e ∙ comes_to place finds j m)))
 
+  -- a tree that finds the matches of all cubes gives each scenario the place of the one cube that it matches
   pub is_place_of_match : (n : TreeNode (Option ℕ)) → FindsMatches cubes k space 0 to (value_at n) →
       IsPlaceOfMatch cubes (value_at n s) s
   is_place_of_match n finds = is_place (value_at n) finds (value_at n s) refl

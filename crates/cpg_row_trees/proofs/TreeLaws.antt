@@ -1,4 +1,4 @@
--- What the tree of a row tells of the columns that match.
+-- What the tree of a row says about the columns that match.
 use Rattle.std.proofs.Common.{Bor, ℕ, ◌<◌, ◌≡◌, Bool, true, false, List, [], Option, None, Some, Contains, length}
 use Rattle.std.proofs.Common.{get_or, map, take, arith, refl, sym, ap, ◌∙◌, subst}
 use Rattle.std.specs.List.{list_any}
@@ -25,10 +25,12 @@ cubes_in columns = map (λ (c : Column). c.cube) columns
 -- the tree of references to the cubes is that of the columns
 module _ (lent : List (Bor (List Literal))) (columns : List Column)
     (same : map (λ (b : Bor (List Literal)). b.now) lent ≡ cubes_in columns) where
+  -- there are as many references as columns
   pub as_long : length lent ≡ length columns
   as_long = sym (length-map lent (λ (b : Bor (List Literal)). b.now)) ∙ ap length same
       ∙ length-map columns (λ (c : Column). c.cube)
 
+  -- the tree of the references' cubes is the tree of the row
   pub row_tree_of : (g : Graph) (k : ℕ) (o : Option PlacesState) → k ≡ g.faults
       → IfSome o (λ t. (s : Scenario) → HasAtMostFaults k s →
       IsPlaceOfMatch (map (λ (b : Bor (List Literal)). b.now) lent) (place_at t s) s) →
@@ -39,22 +41,27 @@ module _ (lent : List (Bor (List Literal))) (columns : List Column)
         (h s (subst (λ k. HasAtMostFaults k s) (sym e) (scenario_few g s law)));
   }
 
+-- the column at a place matches exactly if the cube at that place is matched
 module _ (columns : List Column) (s : Scenario) (i : ℕ) where
   cube_here : i < length columns → cube_at (cubes_in columns) i ≡ (column_at columns i).cube
   cube_here l = get_or-map (λ (c : Column). c.cube) columns i (record { time = 0; cube = [] }) [] l
 
+  -- a column that matches is matched as the cube at its place
   pub matched_at : i < length columns → matches (column_at columns i).cube s ≡ true → IsMatched (cubes_in columns) s i
   matched_at l m = record {
     there = omega (arith, l, length-map columns (λ (c : Column). c.cube));
     matched = ap (λ c. matches c s) (cube_here l) ∙ m;
   }
 
+  -- a cube that is matched is at the place of a column
   pub there_at : IsMatched (cubes_in columns) s i → i < length columns
   there_at h = omega (arith, h.there, length-map columns (λ (c : Column). c.cube))
 
+  -- a cube that is matched is that of a column that matches
   pub matches_at : IsMatched (cubes_in columns) s i → matches (column_at columns i).cube s ≡ true
   matches_at h = sym (ap (λ c. matches c s) (cube_here (there_at h))) ∙ h.matched
 
+-- the tree of a row, and a scenario of the graph
 module _ {g : Graph} {columns : List Column} {tree : PlacesState} (is : IsRowTree g columns tree) (s : Scenario)
     (law : IsScenario g s) where
   found_as : (o : Option ℕ) → place_at tree s ≡ o → IsPlaceOfMatch (cubes_in columns) o s
@@ -69,6 +76,7 @@ module _ {g : Graph} {columns : List Column} {tree : PlacesState} (is : IsRowTre
   pub place_there : (i : ℕ) → place_at tree s ≡ Some i → i < length columns
   place_there i e = there_at columns s i (found_as (Some i) e).0
 
+  -- the column at a scenario's place matches it
   pub place_matches : (i : ℕ) → place_at tree s ≡ Some i → matches (column_at columns i).cube s ≡ true
   place_matches i e = matches_at columns s i (found_as (Some i) e).0
 
@@ -77,7 +85,7 @@ module _ {g : Graph} {columns : List Column} {tree : PlacesState} (is : IsRowTre
       matches (column_at columns j).cube s ≡ true → j ≡ i
   place_only i j e l m = (found_as (Some i) e).1 j (matched_at columns s j l m)
 
-  -- no two columns match
+  -- columns that match the same scenario are at the same place
   pub one_place : (i j : ℕ) → i < length columns → j < length columns → matches (column_at columns i).cube s ≡ true →
       matches (column_at columns j).cube s ≡ true → i ≡ j
   one_place i j k l m n = go (place_at tree s) refl
@@ -86,6 +94,7 @@ module _ {g : Graph} {columns : List Column} {tree : PlacesState} (is : IsRowTre
       go None e = absurd (found_as None e i (matched_at columns s i k m))
       go (Some p) e = place_only p i e k m ∙ sym (place_only p j e l n)
 
+  -- two columns of the row that match the same scenario are equal
   pub same_column : (c d : Column) → Contains columns c → Contains columns d → matches c.cube s ≡ true →
       matches d.cube s ≡ true → c ≡ d
   same_column c d k l m n =
@@ -94,6 +103,7 @@ module _ {g : Graph} {columns : List Column} {tree : PlacesState} (is : IsRowTre
       sym at_c ∙ ap (column_at columns) (one_place k.0 l.0 k.1 l.1 (ap (λ (x : Column). matches x.cube s) at_c ∙ m)
       (ap (λ (x : Column). matches x.cube s) at_d ∙ n)) ∙ at_d
 
+-- the tree of a row, and a column that matches a scenario of the graph
 module _ {g : Graph} {columns : List Column} {tree : PlacesState} (is : IsRowTree g columns tree) (s : Scenario)
     (law : IsScenario g s) (i : ℕ) (there : i < length columns)
     (m : matches (column_at columns i).cube s ≡ true) where
@@ -106,6 +116,7 @@ module _ {g : Graph} {columns : List Column} {tree : PlacesState} (is : IsRowTre
       false_unless true h = absurd (h refl)
       false_unless false h = refl
 
+      -- two columns that match are one by the tree, but the places are different
       apart : (d : Column) → Contains (take i columns) d → matches d.cube s ≡ true → ⊥
       apart d k n =
           let less : k.0 < i = omega (arith, k.1, length-take i columns) in

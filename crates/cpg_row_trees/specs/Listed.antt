@@ -1,4 +1,4 @@
--- Cubes read off a tree: their first literals say who is in a space.
+-- Cubes read off a tree: their first literals say which scenarios are in a space.
 use Rattle.std.specs.Prelude.{ℕ, ◌≡◌, ◌≤◌, ◌<◌, true, List, get_or, length, take}
 use Rattle.cpg_base.specs.Scenario.{Scenario, number_of}
 use Rattle.cpg_cube.specs.Cube.{holds, matches}
@@ -13,7 +13,7 @@ use Rattle.cpg_row_trees.specs.Places.{cube_at}
 use Rattle.cpg_row_trees.specs.PlaceHints.{IsOpenCut}
 use Rattle.cpg_row_trees.specs.Slices.{IsInRanges, IsInside, IsOwn}
 
--- of at most k faults, the ranges alone tell who is in the space
+-- the ranges alone say which scenarios of at most k faults are in the space
 abbrev pub AreRangesAll : ℕ → Space → Type 0
 AreRangesAll k space = (s : Scenario) → HasAtMostFaults k s → IsInRanges space s → IsInSpace space s
 

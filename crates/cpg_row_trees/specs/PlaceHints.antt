@@ -13,7 +13,7 @@ use Rattle.cpg_tree.specs.Space.{IsInSpace, is_open_below, is_open_above}
 use Rattle.cpg_tree.specs.Added.{AddsTree}
 use Rattle.cpg_row_trees.specs.Places.{IsMatched, HoldsInSpace}
 
--- the places
+-- the places of hints
 abbrev pub places_of : List PlaceHint → List ℕ
 places_of hints = map (λ (e : PlaceHint). e.place) hints
 
@@ -21,27 +21,27 @@ places_of hints = map (λ (e : PlaceHint). e.place) hints
 abbrev pub IsImpliedBy : List Literal → Literal → Type 0
 IsImpliedBy literals l = (s : Scenario) → matches literals s ≡ true → holds s l ≡ true
 
--- this is the only one of some places whose cube the scenario matches
+-- the place is the only one of some places whose cube the scenario matches
 pub record IsOnlyMatch (cubes : List (List Literal)) (places : List ℕ) (s : Scenario) (i : ℕ) : Type 0 where
   pub is : IsMatched cubes s i
   pub only : (j : ℕ) → Contains places j → IsMatched cubes s j → j ≡ i
 
--- what is told by a place, or by none
+-- the place is that of the only match among some places, or none of them is matched
 abbrev pub IsMatchAmong : List (List Literal) → List ℕ → Option ℕ → Scenario → Type 0
 IsMatchAmong cubes places None s = (j : ℕ) → Contains places j → IsMatched cubes s j → ⊥
 IsMatchAmong cubes places (Some i) s = IsOnlyMatch cubes places s i
 
--- those of a list of places that such scenarios match are in another list, too
+-- the places of a list whose cubes fitting scenarios match are in another list, too
 abbrev pub KeepsWhere : List (List Literal) → (Scenario → Type 0) → List ℕ → List ℕ → Type 0
 KeepsWhere cubes fits places kept =
     (s : Scenario) (i : ℕ) → fits s → Contains places i → IsMatched cubes s i → Contains kept i
 
--- a place is among others, if there is such a scenario, with all that were there before
+-- a place is among others if there is a fitting scenario, and all that were there before still are
 pub record KeepsPlace (fits : Scenario → Type 0) (place : ℕ) (before now : List PlaceHint) : Type 0 where
   pub earlier : (i : ℕ) → Contains (places_of before) i → Contains (places_of now) i
   pub this : (s : Scenario) → fits s → Contains (places_of now) place
 
--- if literals match, the number of a variable is in what they say of it: a high of 255 says nothing
+-- if literals match, the number of a variable is in the range that they give it; a high of 255 is no bound
 pub record IsVariableRange (literals : List Literal) (v : ℕ) (range : VariableRange) : Type 0 where
   pub low : (s : Scenario) → matches literals s ≡ true → range.low ≤ number_of s v
   pub high : (s : Scenario) → matches literals s ≡ true → range.high < 255 → number_of s v ≤ range.high
@@ -51,13 +51,13 @@ pub record IsOpenCut (space : Space) (v cut : ℕ) : Type 0 where
   pub below : is_open_below space v cut ≡ true
   pub above : is_open_above space v cut ≡ true
 
--- a leaf tells of the places, and a fork is open on both sides
+-- a leaf has the match among the places, and a fork is open on both sides
 abbrev pub IsPlacesTop : List (List Literal) → Space → List ℕ → PlacesTop → Type 0
 IsPlacesTop cubes space places (Leaf x) = (s : Scenario) → IsInSpace space s → IsMatchAmong cubes places x s
 IsPlacesTop cubes space places (Fork c) = IsOpenCut space c.variable c.most
 IsPlacesTop cubes space places Unknown = Unit {0}
 
--- a tree that tells of the places is added, with no more items left than there were
+-- a tree of the matches among the places is added, with no more items left than there were
 pub record AddsPlaceTree (cubes : List (List Literal)) (space : Space) (places : List ℕ)
     (old new : TreeGrowth) : Type 0 where
   pub found : AddsTree (HoldsInSpace (IsMatchAmong cubes places) space) old.items.items new.items.items

@@ -44,7 +44,7 @@ abbrev pub IsAmong : List ℕ → Option ℕ → Type 0
 IsAmong places None = ⊥
 IsAmong places (Some i) = Contains places i
 
--- no leaf without a place
+-- the item is no leaf without a place
 abbrev pub IsThere : TreeItem (Option ℕ) → Type 0
 IsThere (Value None) = ⊥
 IsThere (Value (Some i)) = Unit {0}

@@ -17,7 +17,7 @@ use Rattle.cpg_tree.specs.Added.{AddsTree}
 use Rattle.cpg_row_trees.specs.Places.{IsMatched}
 use Rattle.cpg_row_trees.specs.PlaceHints.{IsOpenCut}
 
--- each number is in range
+-- each number of a scenario is in the range of the space
 pub record IsInRanges (space : Space) (s : Scenario) : Type 0 where
   pub low : (v : ℕ) → v < 256 → get_or space.low v 0 ≤ number_of s v
   pub high : (v : ℕ) → v < 256 → number_of s v ≤ get_or space.high v 0
@@ -26,12 +26,12 @@ pub record IsInRanges (space : Space) (s : Scenario) : Type 0 where
 abbrev pub is_narrow : ℕ → Space → ℕ → Bool
 is_narrow k space v = nat_lt 0 (get_or space.low v 0) || nat_lt (get_or space.high v 0) (top k v)
 
--- 1 if they are
+-- 1 if fewer numbers of a variable are in range, and 0 if not
 abbrev pub narrowed : ℕ → Space → ℕ → ℕ
 narrowed k space v = if nat_lt v 256 && is_narrow k space v then 1 else 0
 
--- a space that forks lead to: the ranges alone tell of at most k faults who lies in it, and no more of them than so
--- many are narrow
+-- a space that forks lead to: the ranges alone say which scenarios of at most k faults lie in it, and no more of
+-- them than given are narrow
 pub record IsForkSpace (k : ℕ) (space : Space) (narrow : ℕ) : Type 0 where
   pub by_ranges : (s : Scenario) → HasAtMostFaults k s → IsInRanges space s → IsInSpace space s
   pub few : sum_by (narrowed k space) (numbers_below 256) ≤ narrow
@@ -41,7 +41,7 @@ pub record IsInside (space : Space) (l : Literal) : Type 0 where
   pub low : get_or space.low l.variable 0 ≤ l.low
   pub high : l.high ≤ get_or space.high l.variable 0
 
--- each of some literals holds in the whole space and is inside it, and so many are on narrow variables at least
+-- each of some literals holds in the whole space and is inside it, and at least this many are on narrow variables
 pub record AreSpaceBounds (k : ℕ) (space : Space) (literals : List Literal) (found : ℕ) : Type 0 where
   pub hold : (s : Scenario) → IsInSpace space s → matches literals s ≡ true
   pub inside : (l : Literal) → Contains literals l → IsInside space l
@@ -72,7 +72,7 @@ pub record AddsSliceTree (cubes : List (List Literal)) (k : ℕ) (space : Space)
   pub finds : AddsTree (λ n. FindsMatches cubes k space from to (value_at n)) old.items.items new.items.items
   pub fewer : new.left ≤ old.left
 
--- what a fork says of its sides
+-- the ranges of a fork's variable on its sides
 pub record AreForkSides (k v cut : ℕ) (sides : ForkSides) : Type 0 where
   pub below : sides.below ≡ record { variable = v; low = 0; high = cut }
   pub above : sides.above ≡ record { variable = v; low = cut + 1; high = top k v }
@@ -92,7 +92,7 @@ pub record IsLastOn (ls : List Literal) (v : ℕ) (l : Literal) : Type 0 where
   pub last : get_or ls (length ls - 1) l ≡ l
   pub on : l.variable ≡ v
 
--- one more is said than before, and what is left without it is what was before
+-- the new literals say one more than the old, and without it they are the old ones
 pub record IsEntered (old : List Literal) (l : Literal) (new : List Literal) (was : Option Literal) : Type 0 where
   pub both : (s : Scenario) → matches new s ≡ (matches old s && holds s l)
   pub back : left_by was new ≡ old

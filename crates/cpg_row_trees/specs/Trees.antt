@@ -17,6 +17,6 @@ pub record AreFirstTrees (g : Graph) (tables : List NodeTable) (items : ℕ)
   pub count : length trees ≡ items
   pub each : (x : ℕ) → x < items → IfSome (get_or trees x None) (IsRowTree g (columns_of tables x))
 
--- one for each item
+-- one tree for each item, if it has one
 abbrev pub AreRowTrees : Graph → List NodeTable → List (Option PlacesState) → Type 0
 AreRowTrees g tables trees = AreFirstTrees g tables (item_count g) trees

@@ -12,11 +12,12 @@ use crate::walk::Test;
 use cpg_base::OutOfMemory;
 use cpg_tree::{Space, Top, TreeItem, part_in, top_of};
 
-/// Adds a place, if there is one; whether there is.
+/// Adds a place, if there is one, and says whether there is.
 fn add_place(place: Option<u32>, found: &mut Vec<u32>) -> Result<bool, OutOfMemory>
     ensures kept { IfOk result (λ _. (i : ℕ) → Contains found.old.items i → Contains found.new.items i) }
     ensures found { IfOk result (λ there. OnTrue there (IsAmong found.new.items place)) }
 {
+    // no cube matches there, so there is no place to add
     let Some(one) = place else {
         return Ok(false);
     };
@@ -34,12 +35,14 @@ fn gather_each<J: Test>(
 ) -> Result<bool, OutOfMemory>
     requires { IsFlat items.now }
     ensures kept { IfOk result (λ _. (i : ℕ) → Contains found.old.items i → Contains found.new.items i) }
+    // if all passed: in each scenario of the space the guarantee holds at the place, which has been found
     ensures found { IfOk result (λ all. OnTrue all ((n : TreeNode (Option ℕ)) → items.now ≡ flat n → (s : Scenario) → IsInSpace space.old s →
         J.guarantees test.now (value_at n s) s × IsAmong found.new.items (value_at n s))) }
     ensures same { IfOk result (λ all. OnTrue all (space.new ≡ space.old)) }
 {
     match top_of(items) {
         Top::Value(place) => {
+            // a leaf: all scenarios of the space come to this place
             if !test.passes(place, space) {
                 return Ok(false);
             }
@@ -52,14 +55,17 @@ fn gather_each<J: Test>(
             below,
             above,
         } => {
+            // no scenario of the space goes to the lower side
             if !space.is_open_below(variable, cut) {
                 let all = gather_each(above, space, test, found)?;
                 return Ok(all);
             }
+            // no scenario of the space goes to the upper side
             if !space.is_open_above(variable, cut) {
                 let all = gather_each(below, space, test, found)?;
                 return Ok(all);
             }
+            // both sides are open: the space is made narrower for each of them, and then as before
             let most = space.close_above(variable, cut);
             let low = gather_each(below, space, test, found)?;
             if !low {
@@ -77,8 +83,8 @@ fn gather_each<J: Test>(
     }
 }
 
-/// As `gather_each`, with a space of its own to change. It is a function of its own, since that space is cleared at
-/// each call.
+/// Does what `gather_each` does, with a space of its own to change. It is a function of its own, since that space is cleared
+/// at each call.
 fn gather_in_all<J: Test>(
     items: &[TreeItem<Option<u32>>],
     space: &Space,
@@ -87,6 +93,7 @@ fn gather_in_all<J: Test>(
 ) -> Result<bool, OutOfMemory>
     requires { IsFlat items.now }
     ensures kept { IfOk result (λ _. (i : ℕ) → Contains found.old.items i → Contains found.new.items i) }
+    // if all passed: in each scenario of the space the guarantee holds at the place, which has been found
     ensures found { IfOk result (λ all. OnTrue all ((n : TreeNode (Option ℕ)) → items.now ≡ flat n → (s : Scenario) → IsInSpace space.now s →
         J.guarantees test.now (value_at n s) s × IsAmong found.new.items (value_at n s))) }
 {
@@ -95,7 +102,7 @@ fn gather_in_all<J: Test>(
     Ok(all)
 }
 
-/// Adds a place that scenarios of a space come to, if there is one and a test passes there; whether it did.
+/// Adds a place that scenarios of a space come to, if there is one and a test passes there, and says whether it did.
 fn gather_one<J: Test>(
     place: Option<u32>,
     space: &Space,
@@ -103,6 +110,7 @@ fn gather_one<J: Test>(
     found: &mut Vec<u32>,
 ) -> Result<bool, OutOfMemory>
     ensures kept { IfOk result (λ _. (i : ℕ) → Contains found.old.items i → Contains found.new.items i) }
+    // if all passed: in each scenario of the space the guarantee holds at the place, which has been found
     ensures found { IfOk result (λ all. OnTrue all ((s : Scenario) → IsInSpace space.now s → J.guarantees test.now place s × IsAmong found.new.items place)) }
 {
     if !test.passes(place, space) {
@@ -122,6 +130,7 @@ pub(crate) fn gather<J: Test>(
 ) -> Result<bool, OutOfMemory>
     requires { IsFlat items.now }
     ensures kept { IfOk result (λ _. (i : ℕ) → Contains found.old.items i → Contains found.new.items i) }
+    // if all passed: in each scenario of the space the guarantee holds at the place, which has been found
     ensures found { IfOk result (λ all. OnTrue all ((n : TreeNode (Option ℕ)) → items.now ≡ flat n → (s : Scenario) → IsInSpace space.now s →
         J.guarantees test.now (value_at n s) s × IsAmong found.new.items (value_at n s))) }
 {

@@ -17,7 +17,7 @@ use cpg_cube::{Cube, Literal};
 use cpg_tree::{Space, fork_of};
 use std::alloc::Global;
 
-/// Where a cube parts a space, and how many of its literals stand before the one that tells it.
+/// Where a cube parts a space, and how many of its literals stand before the one that says so.
 #[derive(Clone, Copy)]
 struct ListedPart {
     cut: PlaceCut,
@@ -49,15 +49,18 @@ enum ListedTop {
 fn step_of(space: &Space, literal: Literal) -> ListedStep
     ensures { IsListedStep space.now literal result }
 {
+    // a tree goes down from below, so the first cube of a space begins at its least number
     if literal.low != space.low[literal.variable as usize] {
         return ListedStep::Unknown;
     }
+    // the literal leaves out no number of the space: it says what the space does, or goes beyond it
     if !space.is_open_above(literal.variable, literal.high) {
         if literal.high <= space.high[literal.variable as usize] {
             return ListedStep::Known;
         }
         return ListedStep::Unknown;
     }
+    // no scenario of the space has so few faults: such a cube is in no tree
     if !space.is_open_below(literal.variable, literal.high) {
         return ListedStep::Unknown;
     }
@@ -73,6 +76,7 @@ fn top_behind(k: u8, space: &Space, literals: &[Literal], depth: usize) -> Liste
     requires depth { depth ≤ length literals.now }
     ensures { IsListedTop k space.now literals.now result }
 {
+    // the first literal that says less than the space parts it
     for at in depth..literals.len() {
         match step_of(space, literals[at]) {
             ListedStep::Known => {}
@@ -87,12 +91,15 @@ fn top_behind(k: u8, space: &Space, literals: &[Literal], depth: usize) -> Liste
 /// space, and if the literal behind these is on that variable.
 #[inline(always)]
 fn top_on(k: u8, space: &Space, literals: &[Literal], part: ListedPart) -> ListedTop
+    // the first literals of the cube and the range of the part's variable say who is in the space
     requires { IsOwnOn k space.now (take part.depth literals.now) part.cut.variable }
     ensures { IsListedTop k space.now literals.now result }
 {
+    // a cube on this side of the fork has a literal on its variable
     let Some(literal) = literals.get(part.depth) else {
         return ListedTop::Unknown;
     };
+    // this literal is on another variable, so the list isn't a tree's
     if literal.variable != part.cut.variable {
         return ListedTop::Unknown;
     }
@@ -122,9 +129,11 @@ fn is_above(literals: &[Literal], part: ListedPart) -> bool
 fn is_next(literals: &[Literal], others: &[Literal], part: ListedPart) -> bool
     ensures { OnTrue result (take part.depth literals.now ≡ take part.depth others.now) }
 {
+    // the cube is not on the upper side of the fork
     if !is_above(literals, part) {
         return false;
     }
+    // the other has fewer literals than stand before the fork
     if others.len() < part.depth {
         return false;
     }
@@ -136,6 +145,7 @@ fn is_next(literals: &[Literal], others: &[Literal], part: ListedPart) -> bool
 fn next_above(cubes: &[&Cube], from: u32, place: u32, part: ListedPart) -> bool
     ensures { OnTrue result (IsNextCube (map (λ b. b.now) cubes.now) from place part.depth) }
 {
+    // no cube is left, but the tree isn't complete
     let Some(cube) = cubes.get(place as usize) else {
         return false;
     };
@@ -167,13 +177,17 @@ fn build_listed_above(
     growth: &mut TreeGrowth,
 ) -> Result<Option<u32>, OutOfMemory>
     requires ranges { AreRangesAll k space.old }
+    // the first literals of the cube and the range of the part's variable say who is in the space
     requires own { IsOwnOn k space.old (take part.depth (cube_at (map (λ b. b.now) cubes.now) from)) part.cut.variable }
+    // if a place is answered, the tree of the cubes from `place` up to it has been added
     ensures added { IfOk result (λ r. IfSome r (λ to. AddsSliceTree (map (λ b. b.now) cubes.now) k space.old place to growth.old growth.new)) }
     ensures same { IfOk result (λ r. IfSome r (λ to. space.new ≡ space.old)) }
 {
+    // the next cube is on the upper side: its tree is that side
     if next_above(cubes, from, place, part) {
         return build_listed(k, space, cubes, place, part, growth);
     }
+    // else no cube is on the upper side: it is a leaf without a place
     if !growth.may_grow() {
         return Ok(None);
     }
@@ -194,7 +208,9 @@ fn build_listed_fork(
 ) -> Result<Option<u32>, OutOfMemory>
     requires open { IsOpenCut space.old part.cut.variable part.cut.most }
     requires ranges { AreRangesAll k space.old }
+    // the first literals of the cube and the range of the part's variable say who is in the space
     requires own { IsOwnOn k space.old (take part.depth (cube_at (map (λ b. b.now) cubes.now) place)) part.cut.variable }
+    // if a place is answered, the tree of the cubes from `place` up to it has been added
     ensures added { IfOk result (λ r. IfSome r (λ to. AddsSliceTree (map (λ b. b.now) cubes.now) k space.old place to growth.old growth.new)) }
     ensures same { IfOk result (λ r. IfSome r (λ to. space.new ≡ space.old)) }
 {
@@ -203,6 +219,7 @@ fn build_listed_fork(
     let _is_seen = see_lists(space, cut.variable);
     let start = growth.items.len();
     let most = space.close_above(cut.variable, cut.most);
+    // the lower side first: its cubes stand before those of the upper side
     let below = build_listed(k, space, cubes, place, part, growth)?;
     let Some(border) = below else {
         return Ok(None);
@@ -215,6 +232,7 @@ fn build_listed_fork(
         return Ok(None);
     };
     space.reopen_below(cut.variable, was);
+    // both sides stand behind each other, and the fork goes before them
     fork_of(&mut growth.items, start, middle, cut.variable, cut.most)?;
     Ok(Some(to))
 }
@@ -234,10 +252,13 @@ fn build_listed(
     growth: &mut TreeGrowth,
 ) -> Result<Option<u32>, OutOfMemory>
     requires ranges { AreRangesAll k space.old }
+    // the first literals of the cube and the range of the part's variable say who is in the space
     requires own { IsOwnOn k space.old (take part.depth (cube_at (map (λ b. b.now) cubes.now) place)) part.cut.variable }
+    // if a place is answered, the tree of the cubes from `place` up to it has been added
     ensures added { IfOk result (λ r. IfSome r (λ to. AddsSliceTree (map (λ b. b.now) cubes.now) k space.old place to growth.old growth.new)) }
     ensures same { IfOk result (λ r. IfSome r (λ to. space.new ≡ space.old)) }
 {
+    // the tree has as many items as it may have
     if !growth.may_grow() {
         return Ok(None);
     }
@@ -247,6 +268,7 @@ fn build_listed(
     let literals = cube.literals();
     match top_on(k, space, literals, part) {
         ListedTop::Unknown => Ok(None),
+        // all literals say what the space does: the cube is a leaf, and the next place follows
         ListedTop::Own => {
             growth.add_leaf(Some(place))?;
             Ok(Some(place.saturating_add(1)))
@@ -264,12 +286,15 @@ fn build_all_listed(
 ) -> Result<bool, OutOfMemory>
     requires ranges { AreRangesAll k space.old }
     requires own { IsOwn k space.old [] }
+    // if the answer is yes, the tree of these cubes has been added, for all scenarios of the space
     ensures { IfOk result (λ is. OnTrue is (AddsSliceTree (map (λ b. b.now) cubes.now) k space.old 0 (length cubes.now) growth.old growth.new)) }
 {
+    // without cubes there is no fork to begin with
     let Some(first) = cubes.get(0) else {
         return Ok(false);
     };
     let literals = first.literals();
+    // one cube for all scenarios, or a list that isn't a tree's: other builders take these
     let ListedTop::Fork(part) = top_behind(k, space, literals, 0) else {
         return Ok(false);
     };
@@ -279,6 +304,7 @@ fn build_all_listed(
     };
     let end = to as usize;
     let count = cubes.len();
+    // a tree that leaves cubes over is not the tree of all
     if end != count {
         return Ok(false);
     }
@@ -293,9 +319,9 @@ fn has_value(cube: &Cube) -> bool {
     }
 }
 
-/// The tree of the places of cubes that were read off it, in the scenarios of at most `k` faults and with at most so many
+/// The tree of the places of cubes that were read off it, in the scenarios of at most `k` faults and with at most this many
 /// items; `None` if they weren't, or if there would be more items, or if there is but one cube, or if the first has a literal
-/// on a value: trees mostly have values at the top, and cubes have them last.
+/// on a value: most trees have values at the top, and cubes have them last.
 pub(crate) fn listed_tree(
     alloc: Global,
     k: u8,
@@ -303,6 +329,7 @@ pub(crate) fn listed_tree(
     items: u32,
 ) -> Result<Option<Places>, OutOfMemory>
     requires { length cubes.now ≤ MOST_LOAD }
+    // a tree has for each scenario of at most k faults the place of the one cube that it matches, or none
     ensures { IfOk result (λ r. IfSome r (λ t. (s : Scenario) → HasAtMostFaults k s → IsPlaceOfMatch (map (λ b. b.now) cubes.now) (place_at t s) s)) }
 {
     let Some(first) = cubes.first() else {

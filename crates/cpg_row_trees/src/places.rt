@@ -27,7 +27,7 @@ const FEW: u32 = 64;
 const EACH_SHARED: u32 = 8;
 /// The number that is added to `EACH_SHARED` for each cube.
 const FEW_SHARED: u32 = 104;
-/// Room is made at once for at most this many of the places that go to a side of a fork: mostly for all of them.
+/// Room is made at once for at most this many of the places that go to a side of a fork. Most often that is all of them.
 const AT_ONCE: usize = 32;
 
 /// A place, with what is known of its cube in the space where it stands: hints, that no clause speaks of.
@@ -267,7 +267,7 @@ fn held_with(held: u16, range: VariableRange, least: u8, greatest: u8) -> u16 {
     }
 }
 
-/// Adds a place as it stands up to a cut, unless what is said of the variable is above it.
+/// Adds a place as it stands up to a cut, unless the variable's range is above the cut.
 fn keep_below(
     low: &mut Vec<PlaceHint>,
     range: VariableRange,
@@ -288,7 +288,7 @@ fn keep_below(
     Ok(())
 }
 
-/// Whether the faults that are left above a cut suffice for literals: mostly it is known. The space is as before.
+/// Whether the faults that are left above a cut suffice for literals, which is mostly known already. The space is as before.
 fn do_suffice_above(
     space: &mut Space,
     literals: &[Literal],
@@ -310,7 +310,7 @@ fn do_suffice_above(
     do_suffice
 }
 
-/// Adds a place as it stands above a cut, unless what is said of the variable is up to the cut, or there are too few faults
+/// Adds a place as it stands above a cut, unless the variable's range ends at the cut or before, or there are too few faults
 /// left. The space is as before.
 fn keep_above(
     high: &mut Vec<PlaceHint>,
@@ -696,8 +696,8 @@ fn place_tree_by(
     Ok(Some(Places::grown(growth)))
 }
 
-/// As `place_tree_by`, by forks at the first literal that is open, or, if that leads to no tree, by those that part
-/// the cubes best. The first is mostly a way, and takes less time.
+/// Does what `place_tree_by` does, by forks at the first literal that is open, or, if that leads to no tree, by those that part
+/// the cubes best. The first way mostly leads to a tree, and takes less time.
 fn place_tree(
     alloc: Global,
     k: u8,

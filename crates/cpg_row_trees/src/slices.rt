@@ -1,5 +1,5 @@
 //! The tree of the places of cubes that stand as a tree lists them: each fork parts the cubes in two slices, so that no cube
-//! is visited but at its own leaf, and where a border is looked for.
+//! is visited except at its own leaf and when a border is looked for.
 ghost use Rattle.std.specs.Prelude.{◌+◌, ◌≡◌, ◌≤◌, ◌<◌, IfOk, IfSome, Some, length, map, true};
 ghost use Rattle.std.specs.Bool.{OnTrue};
 ghost use Rattle.cpg_base.specs.Scenario.{Scenario};
@@ -66,6 +66,7 @@ enum SliceTop {
 fn is_narrow(k: u8, space: &Space, variable: u8) -> bool
     ensures { result ≡ is_narrow k space.now variable }
 {
+    // the space has lost low numbers
     if space.low[variable as usize] > 0 {
         return true;
     }
@@ -76,6 +77,7 @@ fn is_narrow(k: u8, space: &Space, variable: u8) -> bool
 fn is_inside(space: &Space, literal: &Literal) -> bool
     ensures { OnTrue result (IsInside space.now literal.now) }
 {
+    // the literal has a number below the range
     if literal.low < space.low[literal.variable as usize] {
         return false;
     }
@@ -86,6 +88,7 @@ fn is_inside(space: &Space, literal: &Literal) -> bool
 fn is_filled(space: &Space, literal: &Literal) -> bool
     ensures { OnTrue result ((s : Scenario) → IsInSpace space.now s → holds s literal.now ≡ true) }
 {
+    // the range has a number below the literal
     if space.low[literal.variable as usize] < literal.low {
         return false;
     }
@@ -100,7 +103,7 @@ fn is_bound(space: &Space, literal: &Literal) -> bool
     if !is_inside(space, literal) {
         return false;
     }
-    // mostly so, and then the faults that are left don't matter
+    // this is the usual case, and then the faults that are left don't matter
     if is_filled(space, literal) {
         return true;
     }
@@ -125,6 +128,7 @@ fn narrow_with(k: u8, space: &Space, variable: u8, narrow: u32) -> Option<u32>
 fn bounds_of(k: u8, space: &Space, literals: &[Literal]) -> Option<u32>
     ensures { IfSome result (AreSpaceBounds k space.now literals.now) }
 {
+    // goes over the literals; the first that isn't a bound of the space ends it
     let mut found: u32 = 0;
     for literal in literals {
         if !is_bound(space, literal) {
@@ -141,13 +145,14 @@ fn is_their_own(k: u8, space: &Space, narrow: u32, literals: &[Literal]) -> bool
     requires reached { IsForkSpace k space.now narrow }
     ensures { OnTrue result (IsOwn k space.now literals.now) }
 {
+    // as many narrow variables as literals on them: no range is narrower than the literals say
     match bounds_of(k, space, literals) {
         Some(found) => narrow <= found,
         None => false,
     }
 }
 
-/// What a fork says of its sides; and how long the lists of a space are, which is known where they are read.
+/// What a fork says of its sides; and how long the lists of a space are, which the code that reads them knows.
 fn sides_of(k: u8, space: &Space, cut: PlaceCut) -> ForkSides
     requires { is_open_above space.now cut.variable cut.most ≡ true }
     ensures sides { AreForkSides k cut.variable cut.most result }
@@ -230,13 +235,14 @@ fn leave(path: &mut Vec<Literal>, was: Option<Literal>)
     }
 }
 
+/// Whether two literals are the same.
 fn is_same(literal: Literal, other: Literal) -> bool
     ensures { OnTrue result (literal ≡ other) }
 {
     (literal.variable == other.variable) & (literal.low == other.low) & (literal.high == other.high)
 }
 
-/// Whether eight literals are the same: without a way out before the last, so that the compiler compares them at once.
+/// Whether eight literals are the same. It never stops early, so that the compiler compares them at once.
 fn are_eight_same(literals: &[Literal; 8], others: &[Literal; 8]) -> bool
     ensures { OnTrue result (literals.now ≡ others.now) }
 {
@@ -251,6 +257,7 @@ fn are_eight_same(literals: &[Literal; 8], others: &[Literal; 8]) -> bool
 fn are_each_same(literals: &[Literal], others: &[Literal]) -> bool
     ensures { OnTrue result (literals.now ≡ others.now) }
 {
+    // lists of different lengths differ
     if literals.len() != others.len() {
         return false;
     }
@@ -266,9 +273,11 @@ fn are_each_same(literals: &[Literal], others: &[Literal]) -> bool
 pub(crate) fn are_same_literals(literals: &[Literal], others: &[Literal]) -> bool
     ensures { OnTrue result (literals.now ≡ others.now) }
 {
+    // fewer than eight are left: these are compared one by one
     let Some((block, rest)) = literals.split_first_chunk::<8>() else {
         return are_each_same(literals, others);
     };
+    // the other list has fewer left, so they differ
     let Some((other, behind)) = others.split_first_chunk::<8>() else {
         return false;
     };
@@ -320,7 +329,7 @@ fn place_apart(literals: &[Literal], others: &[Literal]) -> Option<usize> {
     None
 }
 
-/// Where the first and the last cube of a slice part a space: where its part did, if they do there still.
+/// Where the first and the last cube of a slice part a space: where its part did, if they still do there.
 fn part_by_ends(
     space: &Space,
     first: &[Literal],
@@ -337,7 +346,7 @@ fn part_by_ends(
     Some(SlicePart { cut, held: at })
 }
 
-/// Where a slice parts a space, by its first cube's literals and by the last cube, if it is to be seen by these.
+/// Where a slice parts a space, by its first cube's literals and by the last cube, if these show it.
 fn part_apart(
     space: &Space,
     cubes: &[&Cube],
@@ -390,7 +399,7 @@ fn slice_top(k: u8, space: &Space, path: &[Literal], cubes: &[&Cube], slice: Sli
     };
     let literals = cube.literals();
     if slice.to - slice.from == 1 {
-        // mostly so if the cubes stand by the numbers of the variables
+        // this is the usual case if the cubes stand by the numbers of the variables
         if are_same_literals(path, literals) {
             return SliceTop::Leaf(Some(slice.from));
         }
@@ -416,13 +425,15 @@ fn is_above(cubes: &[&Cube], place: u32, part: SlicePart) -> bool {
 }
 
 /// Where in a slice the first place has to be from which on all cubes ask for a number above a cut, if those that do are the
-/// last: from a place up to another. Looked for from the end in steps that double, as mostly few cubes do, and those near by
-/// were looked at before.
+/// last: from a place up to another. It is looked for from the end in steps that double: most often few cubes do, and those
+/// near by were looked at before.
 fn around_border(cubes: &[&Cube], slice: Slice, part: SlicePart) -> (u32, u32) {
     let mut end = slice.to;
+    // from the end back, in steps that double: the upper side is often short
     let mut step: u32 = 1;
     while end > slice.from {
         let place = end - step.min(end - slice.from);
+        // this cube is not above the cut, so the border lies between it and `end`
         if !is_above(cubes, place, part) {
             return (place + 1, end);
         }
@@ -434,6 +445,7 @@ fn around_border(cubes: &[&Cube], slice: Slice, part: SlicePart) -> (u32, u32) {
 
 /// The first place of a slice from which on all cubes ask for a number above a cut, if those that do are the last.
 fn border_of(cubes: &[&Cube], slice: Slice, part: SlicePart) -> u32 {
+    // then the part between is halved until it is empty
     let (mut first, mut end) = around_border(cubes, slice, part);
     while first < end {
         let middle = first + (end - first) / 2;
@@ -460,6 +472,7 @@ fn build_forked_slice(
     requires open { IsOpenCut space.old part.cut.variable part.cut.most }
     requires reached { IsForkSpace k space.old slice.narrow }
     requires own { IsOwn k space.old path.old.items }
+    // if the answer is yes, the tree of these cubes has been added, for all scenarios of the space
     ensures added { IfOk result (λ is. OnTrue is (AddsSliceTree (map (λ b. b.now) cubes.now) k space.old slice.from slice.to growth.old growth.new)) }
     ensures same { IfOk result (λ is. OnTrue is (space.new ≡ space.old)) }
     ensures path { IfOk result (λ is. OnTrue is (path.new.items ≡ path.old.items)) }
@@ -520,6 +533,7 @@ fn build_slice_tree(
 ) -> Result<bool, OutOfMemory>
     requires reached { IsForkSpace k space.old slice.narrow }
     requires own { IsOwn k space.old path.old.items }
+    // if the answer is yes, the tree of these cubes has been added, for all scenarios of the space
     ensures added { IfOk result (λ is. OnTrue is (AddsSliceTree (map (λ b. b.now) cubes.now) k space.old slice.from slice.to growth.old growth.new)) }
     ensures same { IfOk result (λ is. OnTrue is (space.new ≡ space.old)) }
     ensures path { IfOk result (λ is. OnTrue is (path.new.items ≡ path.old.items)) }
@@ -538,7 +552,7 @@ fn build_slice_tree(
 }
 
 /// The tree of the places of cubes that stand as a tree lists them, in the scenarios of at most `k` faults and with at most
-/// so many items, if the slices are found in one way.
+/// this many items, if the slices are found in one way.
 fn slice_tree_by(
     alloc: Global,
     k: u8,
@@ -547,6 +561,7 @@ fn slice_tree_by(
     way: GuessedWay,
 ) -> Result<Option<Places>, OutOfMemory>
     requires { length cubes.now ≤ MOST_LOAD }
+    // a tree has for each scenario of at most k faults the place of the one cube that it matches, or none
     ensures { IfOk result (λ r. IfSome r (λ t. (s : Scenario) → HasAtMostFaults k s → IsPlaceOfMatch (map (λ b. b.now) cubes.now) (place_at t s) s)) }
 {
     let mut space = Space::whole(k);
@@ -567,7 +582,7 @@ fn slice_tree_by(
 }
 
 /// The tree of the places of cubes that stand as a tree lists them, in the scenarios of at most `k` faults and with at most
-/// so many items; `None` if they don't, or if there would be more items.
+/// this many items; `None` if they don't, or if there would be more items.
 pub(crate) fn slice_tree(
     alloc: Global,
     k: u8,
@@ -575,6 +590,7 @@ pub(crate) fn slice_tree(
     items: u32,
 ) -> Result<Option<Places>, OutOfMemory>
     requires { length cubes.now ≤ MOST_LOAD }
+    // a tree has for each scenario of at most k faults the place of the one cube that it matches, or none
     ensures { IfOk result (λ r. IfSome r (λ t. (s : Scenario) → HasAtMostFaults k s → IsPlaceOfMatch (map (λ b. b.now) cubes.now) (place_at t s) s)) }
 {
     if let Some(places) = listed_tree(alloc, k, cubes, items)? {

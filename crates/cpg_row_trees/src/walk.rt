@@ -1,4 +1,4 @@
-//! Whether a test passes wherever scenarios of a space come to.
+//! Whether a test passes at each place that scenarios of a space come to.
 ghost use Rattle.std.specs.Prelude.{◌≡◌, ℕ, All, Option};
 ghost use Rattle.std.specs.Bool.{OnTrue};
 ghost use Rattle.cpg_base.specs.Scenario.{Scenario};
@@ -75,6 +75,7 @@ pub(crate) fn are_all_there(items: &[TreeItem<Option<u32>>]) -> bool
 #[inline(never)]
 fn do_pass_each<J: Test>(items: &[TreeItem<Option<u32>>], space: &mut Space, test: &J) -> bool
     requires { IsFlat items.now }
+    // on true, the test's guarantee holds in each scenario of the space, at the value that the tree has
     ensures passed { OnTrue result ((n : TreeNode (Option ℕ)) → items.now ≡ flat n → (s : Scenario) → IsInSpace space.old s → J.guarantees test.now (value_at n s) s) }
     ensures same { OnTrue result (space.new ≡ space.old) }
 {
@@ -86,12 +87,15 @@ fn do_pass_each<J: Test>(items: &[TreeItem<Option<u32>>], space: &mut Space, tes
             below,
             above,
         } => {
+            // no scenario of the space goes to the lower side
             if !space.is_open_below(variable, cut) {
                 return do_pass_each(above, space, test);
             }
+            // no scenario of the space goes to the upper side
             if !space.is_open_above(variable, cut) {
                 return do_pass_each(below, space, test);
             }
+            // both sides are open: the space is made narrower for each of them, and then as before
             let most = space.close_above(variable, cut);
             if !do_pass_side(below, space, test) {
                 return false;
@@ -107,11 +111,12 @@ fn do_pass_each<J: Test>(items: &[TreeItem<Option<u32>>], space: &mut Space, tes
     }
 }
 
-/// As `do_pass_each`: at once if it is one value.
+/// Does what `do_pass_each` does, without a call if the tree is one value.
 #[cycle(do_pass_each)]
 #[inline(always)]
 fn do_pass_side<J: Test>(items: &[TreeItem<Option<u32>>], space: &mut Space, test: &J) -> bool
     requires { IsFlat items.now }
+    // on true, the test's guarantee holds in each scenario of the space, at the value that the tree has
     ensures passed { OnTrue result ((n : TreeNode (Option ℕ)) → items.now ≡ flat n → (s : Scenario) → IsInSpace space.old s → J.guarantees test.now (value_at n s) s) }
     ensures same { OnTrue result (space.new ≡ space.old) }
 {
@@ -121,10 +126,11 @@ fn do_pass_side<J: Test>(items: &[TreeItem<Option<u32>>], space: &mut Space, tes
     }
 }
 
-/// As `do_pass_each`, with a space of its own to change. It is a function of its own, since that space is cleared at
-/// each call.
+/// Does what `do_pass_each` does, with a space of its own to change. It is a function of its own, since that space is cleared
+/// at each call.
 fn do_pass_in_all<J: Test>(items: &[TreeItem<Option<u32>>], space: &Space, test: &J) -> bool
     requires { IsFlat items.now }
+    // on true, the test's guarantee holds in each scenario of the space, at the value that the tree has
     ensures { OnTrue result ((n : TreeNode (Option ℕ)) → items.now ≡ flat n → (s : Scenario) → IsInSpace space.now s → J.guarantees test.now (value_at n s) s) }
 {
     let mut own = *space;
@@ -132,9 +138,10 @@ fn do_pass_in_all<J: Test>(items: &[TreeItem<Option<u32>>], space: &Space, test:
 }
 
 /// Whether a test passes at each place that scenarios of a space come to. The space isn't copied as long as one side of
-/// each fork is closed, as mostly.
+/// each fork is closed, which is the usual case.
 pub(crate) fn do_pass<J: Test>(items: &[TreeItem<Option<u32>>], space: &Space, test: &J) -> bool
     requires { IsFlat items.now }
+    // on true, the test's guarantee holds in each scenario of the space, at the value that the tree has
     ensures { OnTrue result ((n : TreeNode (Option ℕ)) → items.now ≡ flat n → (s : Scenario) → IsInSpace space.now s → J.guarantees test.now (value_at n s) s) }
 {
     match top_of(items) {
@@ -145,12 +152,15 @@ pub(crate) fn do_pass<J: Test>(items: &[TreeItem<Option<u32>>], space: &Space, t
             below,
             above,
         } => {
+            // no scenario of the space goes to the lower side
             if !space.is_open_below(variable, cut) {
                 return do_pass(above, space, test);
             }
+            // no scenario of the space goes to the upper side
             if !space.is_open_above(variable, cut) {
                 return do_pass(below, space, test);
             }
+            // both sides are open: only now the space is copied
             do_pass_in_all(items, space, test)
         }
     }
@@ -165,6 +175,7 @@ fn do_pass_at<J: PairTest>(
     test: &J,
 ) -> bool
     requires { IsFlat second.now }
+    // on true, the test's guarantee holds in each scenario of the space, at `first` and the value of `second`
     ensures passed { OnTrue result ((n : TreeNode (Option ℕ)) → second.now ≡ flat n → (s : Scenario) → IsInSpace space.old s → J.guarantees test.now first (value_at n s) s) }
     ensures same { OnTrue result (space.new ≡ space.old) }
 {
@@ -187,6 +198,7 @@ fn do_pass_both<J: PairTest>(
 ) -> bool
     requires first { IsFlat first.now }
     requires second { IsFlat second.now }
+    // on true, the test's guarantee holds in each scenario of the space, at the values of both trees
     ensures passed { OnTrue result ((n m : TreeNode (Option ℕ)) → first.now ≡ flat n → second.now ≡ flat m → (s : Scenario) → IsInSpace space.old s →
         J.guarantees test.now (value_at n s) (value_at m s) s) }
     ensures same { OnTrue result (space.new ≡ space.old) }
@@ -199,6 +211,7 @@ fn do_pass_both<J: PairTest>(
             below,
             above,
         } => {
+            // the part of the second tree that the space leads to: it is looked at from there on
             let part = part_in(second, space);
             if !space.is_open_below(variable, cut) {
                 return do_pass_both(above, part, space, test);
@@ -206,6 +219,7 @@ fn do_pass_both<J: PairTest>(
             if !space.is_open_above(variable, cut) {
                 return do_pass_both(below, part, space, test);
             }
+            // both sides of the first tree are open: the space is made narrower for each of them, and then as before
             let most = space.close_above(variable, cut);
             if !do_pass_beside(below, part, space, test) {
                 return false;
@@ -221,7 +235,7 @@ fn do_pass_both<J: PairTest>(
     }
 }
 
-/// As `do_pass_both`: at once if the first is one value.
+/// Does what `do_pass_both` does, without a call if the first tree is one value.
 #[cycle(do_pass_both)]
 #[inline(always)]
 fn do_pass_beside<J: PairTest>(
@@ -232,6 +246,7 @@ fn do_pass_beside<J: PairTest>(
 ) -> bool
     requires first { IsFlat first.now }
     requires second { IsFlat second.now }
+    // on true, the test's guarantee holds in each scenario of the space, at the values of both trees
     ensures passed { OnTrue result ((n m : TreeNode (Option ℕ)) → first.now ≡ flat n → second.now ≡ flat m → (s : Scenario) → IsInSpace space.old s →
         J.guarantees test.now (value_at n s) (value_at m s) s) }
     ensures same { OnTrue result (space.new ≡ space.old) }
@@ -251,6 +266,7 @@ pub(crate) fn do_pass_with<J: PairTest>(
 ) -> bool
     requires first { IsFlat first.now }
     requires second { IsFlat second.now }
+    // on true, the test's guarantee holds in each scenario of the space, at the values of both trees
     ensures { OnTrue result ((n m : TreeNode (Option ℕ)) → first.now ≡ flat n → second.now ≡ flat m → (s : Scenario) → IsInSpace space.now s →
         J.guarantees test.now (value_at n s) (value_at m s) s) }
 {

@@ -20,7 +20,7 @@ module _ (g : Graph) (order : List ℕ) (topological : IsTopological g order) wh
             (get_or-place order (get_or order i 0) 0 k),
       )
 
-  -- the first of what is left from a place on is at that place
+  -- the first process of the rest of the order stands at the place from which the rest begins
   pub rest_first : (k p : ℕ) (ps : List ℕ) → drop k order ≡ p ∷ ps → (p < process_count g) × (place order p ≡ k)
   rest_first k p ps e =
       let l : k < length order = omega (arith, ap length e, length-drop k order) in
@@ -29,19 +29,20 @@ module _ (g : Graph) (order : List ℕ) (topological : IsTopological g order) wh
       let r = at_index k l in
       (subst (λ q. q < process_count g) is r.0, subst (λ q. place order q ≡ k) is r.1)
 
+  -- what is left from the next place on is the rest
   pub rest_more : (k p : ℕ) (ps : List ℕ) → drop k order ≡ p ∷ ps → drop (k + 1) order ≡ ps
   rest_more k p ps e =
       let l : k < length order = omega (arith, ap length e, length-drop k order) in
       let f : get_or order k 0 ∷ drop (suc k) order ≡ p ∷ ps = sym (drop-cons order k 0 l) ∙ e in
       ap (λ n. drop n order) (add-one k) ∙ ap (drop 1) f
 
-  -- if nothing is left, all places are before
+  -- if nothing is left, each process stands before the place
   pub rest_none : (k : ℕ) → drop k order ≡ [] → (p : ℕ) → p < process_count g → place order p < k
   rest_none k e p h =
       let l = place-lt order p (Contains-order (process_count g) order topological.all p h) in
       omega (arith, ap length e, length-drop k order)
 
-  -- what is before a place
+  -- the processes before a place
   pub in_take : (k r : ℕ) → Contains (take k order) r → (r < process_count g) × (place order r < k)
   in_take k r c =
       let l : c.0 < length (take k order) = c.1 in

@@ -1,4 +1,4 @@
--- What is grown along an order speaks of what there is.
+-- What is grown along an order refers to processes and conditions of the graph.
 use Rattle.std.proofs.Common.{ℕ, ◌+◌, ◌<◌, ◌≤◌, List, get_or, map, All, Contains, arith, sym, subst}
 use Rattle.std.proofs.lemmas.List.Elements.{All-from_get_or, Contains-get_or}
 use Rattle.cpg_base.specs.declared.activation.Activation.TheVariants.{Inactive}
@@ -20,6 +20,7 @@ all_from_members : {X : Type 0} (P : X → Type 0) (xs : List X) → ((x : X) �
 all_from_members P xs f k d l = f (get_or xs k d) (Contains-get_or xs k d l)
 
 module _ (g : Graph) (order : List ℕ) (topological : IsTopological g order) where
+  -- the steps of an order refer to processes of the graph
   pub steps_below : (m : ℕ) → process_count g ≤ m → All (IsStepBelow m) (map (step_of g) order)
   steps_below m few = all_from_members (IsStepBelow m) (map (step_of g) order) (λ s k.
       let r = Contains-map_parts (step_of g) order s k in
@@ -32,6 +33,7 @@ module _ (g : Graph) (order : List ℕ) (topological : IsTopological g order) wh
             subst (λ (x : Input). x.source < m) e.2 (omega arith));
       }))
 
+  -- an ordered tree tests conditions of the graph
   tests_below : (k : ℕ) (t : Guard) → IsOrderedFrom g order k t → TestsBelow (condition_count g) t
   tests_below k (Leaf a) h = tt
   tests_below k (Test c off on) h = (
@@ -40,6 +42,7 @@ module _ (g : Graph) (order : List ℕ) (topological : IsTopological g order) wh
     tests_below (place order (process_of g c) + 1) on h.3,
   )
 
+  -- the guards of a graph refer to its processes and conditions
   pub guards_below : (guards : Guards) → AreGuardsOf g order guards → AreBelow guards
   guards_below guards are = record {
     trees = All-from_get_or (TestsBelow guards.conditions) guards.trees (Leaf Inactive)

@@ -4,7 +4,7 @@ use Rattle.std.proofs.lemmas.List.{map-append}
 use Rattle.cpg_base.specs.Numbers.{numbers_below}
 use Rattle.cpg_base.proofs.Lists.{filter_below_takes, filter_below_skips}
 
--- one more number, which passes
+-- a number that passes adds its element
 pub collects : {X : Type 0} (f : ℕ → X) (p : ℕ → Bool) (xs ys : List X) (x : X) (n : ℕ) →
     xs ≡ map f (filter p (numbers_below n)) → p n ≡ true → x ≡ f n →
     ys ≡ xs ++ x ∷ [] →
@@ -15,7 +15,7 @@ collects f p xs ys x n h t e is =
     ∙ ap (map f)
     (filter_below_takes p (filter p (numbers_below n)) (filter p (numbers_below n) ++ n ∷ []) n refl t refl)
 
--- one more number, which doesn't
+-- a number that fails adds no element
 pub passes_over : {X : Type 0} (f : ℕ → X) (p : ℕ → Bool) (xs : List X) (n : ℕ) →
     xs ≡ map f (filter p (numbers_below n)) → p n ≡ false →
     xs ≡ map f (filter p (numbers_below (n + 1)))

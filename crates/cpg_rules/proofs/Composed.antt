@@ -35,6 +35,7 @@ abbrev condition_in : Option ValueTest → Option ℕ
 condition_in None = None
 condition_in (Some t) = Some t.condition
 
+-- a test of an edge is of the condition of its source
 test_parts : (x : Option ℕ) (w : Option Bool) (t : ValueTest) → test_of x w ≡ Some t → x ≡ Some t.condition
 test_parts None w t h = cc
 test_parts (Some c) None t h = cc
@@ -45,6 +46,7 @@ abbrev pub place_ranks : Graph → List ℕ → List ℕ
 place_ranks g order = map (λ c. place order (process_of g c)) (numbers_below (condition_count g))
 
 module _ (g : Graph) (order : List ℕ) (topological : IsTopological g order) where
+  -- the rank of a condition is the place of its process
   rank_is : (c : ℕ) → c < condition_count g → rank (place_ranks g order) c ≡ place order (process_of g c)
   rank_is c l = get_or-map-below (λ d. place order (process_of g d)) (condition_count g) c 0 l
 
@@ -52,6 +54,7 @@ module _ (g : Graph) (order : List ℕ) (topological : IsTopological g order) wh
   length_ranks = length-map (numbers_below (condition_count g)) (λ d. place order (process_of g d))
       ∙ length-range_with_len 0 (condition_count g)
 
+  -- different conditions have different ranks
   ranks_apart : (c d : ℕ) → c < length (place_ranks g order) → d < length (place_ranks g order) →
       rank (place_ranks g order) c ≡ rank (place_ranks g order) d → c ≡ d
   ranks_apart c d l m e =
@@ -62,6 +65,7 @@ module _ (g : Graph) (order : List ℕ) (topological : IsTopological g order) wh
       (Contains-order (process_count g) order topological.all (process_of g d) (process_of_below g d k))
       (sym (rank_is c h) ∙ e ∙ rank_is d k))
 
+  -- a tree that is ordered by rank is ordered from a place on
   ordered_by_rank : (k m : ℕ) (t : Guard) → IsRanked (place_ranks g order) k m t → IsOrderedFrom g order k t
   ordered_by_rank k m (Leaf a) r = tt
   ordered_by_rank k m (Test c off on) r =
@@ -80,6 +84,7 @@ module _ (g : Graph) (order : List ℕ) (topological : IsTopological g order) wh
     ranked : IsRanked (place_ranks g order) 0 (place order p) t
     reduced : IsReduced t
 
+  -- given a process whose earlier processes have their trees: each says how its process is active
   module _ (p : ℕ) (trees : List Guard) (made : (q : ℕ) → q < process_count g → place order q < place order p →
       IsComposed q (get_or trees q (Leaf Inactive))) (join : Bool) where
     module _ (e : ℕ) (input : Contains (inputs g p) e) where
@@ -132,6 +137,7 @@ module _ (g : Graph) (order : List ℕ) (topological : IsTopological g order) wh
       ranked : IsRanked (place_ranks g order) 0 (place order p) t
       reduced : IsReduced t
 
+    -- the activation of a process with one input is settled by this input
     by_last : (b j : Bool) (e : ℕ) (f : ℕ → Bool) → f e ≡ b →
         (if b then by_input j e else Inactive) ≡ activation_by j (e ∷ []) f
     by_last true true e f h = ap (λ b. by_first (if b then e ∷ [] else [])) (sym h)
@@ -139,6 +145,7 @@ module _ (g : Graph) (order : List ℕ) (topological : IsTopological g order) wh
     by_last true false e f h = ap (λ b. if b && true then Plain else Inactive) (sym h)
     by_last false false e f h = ap (λ b. if b && true then Plain else Inactive) (sym h)
 
+    -- the activation of a process with one input more is settled by this input, or else by the others
     by_more : (b j : Bool) (e d : ℕ) (es : List ℕ) (f : ℕ → Bool) → f e ≡ b →
         first_settling j (if b then by_input j e else Inactive) (activation_by j (d ∷ es) f)
         ≡ activation_by j (e ∷ d ∷ es) f
@@ -147,6 +154,7 @@ module _ (g : Graph) (order : List ℕ) (topological : IsTopological g order) wh
     by_more true false e d es f h = ap (λ b. if b && list_all f (d ∷ es) then Plain else Inactive) (sym h)
     by_more false false e d es f h = ap (λ b. if b && list_all f (d ∷ es) then Plain else Inactive) (sym h)
 
+    -- the tree that is composed of some inputs is right for them
     composed_of : (es : List ℕ) → ((e : ℕ) → Contains es e → Contains (inputs g p) e) →
         IsComposedOf es (composed g join (place_ranks g order) trees (map (input_of g) es))
     composed_of [] f = record { is = λ o long. refl; ranked = tt; reduced = tt }
@@ -179,6 +187,7 @@ module _ (g : Graph) (order : List ℕ) (topological : IsTopological g order) wh
     long : length trees ≡ process_count g
     made : (p : ℕ) → p < process_count g → place order p < k → IsComposed p (get_or trees p (Leaf Inactive))
 
+  -- with the tree of the next process in the order, one more tree is made
   one_more_composed : (k p : ℕ) (trees : List Guard) → AreComposed k trees → p < process_count g → place order p ≡ k
       → AreComposed (k + 1)
       (set trees p (composed g (process_at g p).join (place_ranks g order) trees (map (input_of g) (inputs g p))))
@@ -205,7 +214,7 @@ module _ (g : Graph) (order : List ℕ) (topological : IsTopological g order) wh
             reduced = of.reduced;
           }
 
-  -- along what is left of the order
+  -- along the rest of the order
   composed_to_end : (ps : List ℕ) (k : ℕ) (trees : List Guard) → drop k order ≡ ps → AreComposed k trees
       → (length (composed_along g (place_ranks g order) (map (step_of g) ps) trees) ≡ process_count g)
       × ((p : ℕ) → p < process_count g →
@@ -222,14 +231,17 @@ module _ (g : Graph) (order : List ℕ) (topological : IsTopological g order) wh
   abbrev pub whole : List Guard
   whole = composed_along g (place_ranks g order) (map (step_of g) order) (replicate (process_count g) (Leaf Inactive))
 
+  -- after the whole order each process has its composed tree
   all_composed : (length whole ≡ process_count g) ×
       ((p : ℕ) → p < process_count g → IsComposed p (get_or whole p (Leaf Inactive)))
   all_composed = composed_to_end order 0 (replicate (process_count g) (Leaf Inactive)) refl
       (record { long = length-replicate (process_count g) (Leaf Inactive); made = λ p l m. absurd (omega arith) })
 
+  -- there is a tree for each process
   pub length_composed : length whole ≡ process_count g
   length_composed = all_composed.0
 
+  -- the tree that is composed for each process is its guard
   pub composed_guards : (p : ℕ) → p < process_count g → IsGuardOf g order p (get_or whole p (Leaf Inactive))
   composed_guards p h =
       let made = all_composed.1 p h in

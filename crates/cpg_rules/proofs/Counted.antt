@@ -25,6 +25,7 @@ use Rattle.cpg_rules.proofs.Along.{rest_first, rest_more}
 use Rattle.cpg_rules.proofs.Standings.{activation_here, follows_on, settled_next}
 use Rattle.cpg_rules.proofs.Start.{none_settled, all_follow}
 
+-- given a topological order of a graph of at most 128 processes
 module _ (g : Graph) (order : List ℕ) (topological : IsTopological g order) (few : process_count g ≤ 128) where
   -- an outcome on the way: the conditions that are left are false
   record IsOnWay (k : ℕ) (s : List (Option Bool)) (o : List Bool) : Type 0 where
@@ -36,13 +37,14 @@ module _ (g : Graph) (order : List ℕ) (topological : IsTopological g order) (f
   abbrev many : List ℕ → List Bool → ℕ
   many cs o = sum_by (λ q. 1) (chosen g (all_values g) cs o)
 
+  -- given the standings of the processes before a place, the process at the place, and an outcome on the way
   module _ (k p : ℕ) (s : List (Option Bool)) (are : AreSettled g order k s) (h : p < process_count g)
       (at : place order p ≡ k) (o : List Bool) (on : IsOnWay k s o) where
     -- the activation of the process
     abbrev here : Activation
     here = activation_in s (step_of g p)
 
-    -- its condition stays false
+    -- if the condition of the process stays false, the outcome is still on the way
     stays : IsOnWay (k + 1) (settled s (step_of g p) false) o
     stays = record {
       count = on.count;
@@ -51,7 +53,7 @@ module _ (g : Graph) (order : List ℕ) (topological : IsTopological g order) (f
       rest = λ c l m. on.rest c l (omega arith);
     }
 
-    -- its condition becomes true
+    -- if the condition of the process becomes true, the changed outcome is on the way
     turns : (c : ℕ) → condition_of g p ≡ Some c → IsOnWay (k + 1) (settled s (step_of g p) true) (set o c true)
     turns c its = record {
       count = length-set o c true ∙ on.count;
@@ -76,7 +78,7 @@ module _ (g : Graph) (order : List ℕ) (topological : IsTopological g order) (f
               let j = ap (place order) of_it in omega arith) ∙ on.follows.takes d l m v e;
         }
 
-    -- the value of its condition is free exactly if it is active
+    -- the value of the process's condition is free exactly if the process is active
     free_here : (c : ℕ) → condition_of g p ≡ Some c → is_value_free g (all_values g) o c ≡ is_active here
     free_here c its =
         ap (λ b. b && active g o (process_of g c))
@@ -104,6 +106,7 @@ module _ (g : Graph) (order : List ℕ) (topological : IsTopological g order) (f
         go Plain = f c refl
         go (By i) = f c refl
 
+  -- the ways along the rest of the order are as many as the outcomes chosen over its conditions
   counted : (ps : List ℕ) (k : ℕ) (s : List (Option Bool)) (o : List Bool) → drop k order ≡ ps →
       AreSettled g order k s → IsOnWay k s o
       → tracks_from (map (step_of g) ps) s ≡ many (conditions_along g ps) o
@@ -119,6 +122,7 @@ module _ (g : Graph) (order : List ℕ) (topological : IsTopological g order) (f
       (λ c its. counted ps (k + 1) (settled s (step_of g p) true) (set o c true) f
       (settled_next g order topological k s are p r.0 few r.1 true) (turns k p s are r.0 r.1 o on c its))
 
+  -- the ways along the steps of an order are as many as the graph has tracks
   pub tracks_counted : tracks_from (map (step_of g) order) (replicate 128 None) ≡ track_count g
   tracks_counted = counted order 0 (replicate 128 None) (all_false g) refl (none_settled g order topological few)
       (record {

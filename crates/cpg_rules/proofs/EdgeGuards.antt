@@ -19,6 +19,7 @@ use Rattle.cpg_rules.specs.Guards.{IsEdgeBelow}
 
 -- ---- collecting them
 
+-- given the guards of the first n edges
 module _ (g : Graph) (edges : List Edge) (are : edges ≡ g.edges) (n : ℕ) (xs : List EdgeGuard)
     (so_far : xs ≡ map (edge_guard_of g) (numbers_below n)) where
   -- the edge of the number
@@ -28,6 +29,7 @@ module _ (g : Graph) (edges : List Edge) (are : edges ≡ g.edges) (n : ℕ) (xs
   at : here ≡ edge_at g n
   at = ap (λ es. get_or es n (record { from = 0; to = 0; size = 0; when = None; frozen = false })) are
 
+  -- with its source and test the guard of one more edge is found
   pub one_more_edge : (condition : Option ℕ) (test : Option ValueTest) (ys : List EdgeGuard) →
       condition ≡ condition_of g here.from →
       test ≡ test_of condition here.when
@@ -43,7 +45,7 @@ module _ (g : Graph) (edges : List Edge) (are : edges ≡ g.edges) (n : ℕ) (xs
 -- ---- what they say
 
 module _ (g : Graph) (order : List ℕ) (topological : IsTopological g order) where
-  -- they speak of what there is
+  -- the guards of the edges refer to processes and conditions of the graph
   pub edges_below : All (IsEdgeBelow (process_count g) (condition_count g))
       (map (edge_guard_of g) (numbers_below (edge_count g)))
   edges_below = All-from_get_or (IsEdgeBelow (process_count g) (condition_count g))
@@ -63,7 +65,7 @@ module _ (g : Graph) (order : List ℕ) (topological : IsTopological g order) wh
       below (Some c) None f = tt
       below (Some c) (Some v) f = f c refl
 
-  -- a test passes if the edge takes the value
+  -- the test of an edge passes exactly if the edge takes the value of its source
   pub passed : (values : List Bool) (e : ℕ) → e < edge_count g → (x : Option ℕ) → condition_of g (source g e) ≡ x →
       (w : Option Bool) →
       (edge_at g e).when ≡ w →
@@ -77,11 +79,14 @@ module _ (g : Graph) (order : List ℕ) (topological : IsTopological g order) wh
       let never : None ≡ Some d.0 = sym is ∙ there in cc
   passed values e h (Some c) is (Some v) when = ap (λ x. same_bool v (get_or values (unwrap_or x 0) false)) (sym is)
 
+  -- given the guards of the graph, and an outcome
   module _ (guards : Guards) (are : AreGuardsOf g order guards) (values : List Bool)
       (long : length values ≡ condition_count g) where
+    -- a process is active by its tree exactly if it is active
     pub active_by-is : (p : ℕ) → p < process_count g → active_by guards values p ≡ active g values p
     active_by-is p h = ap is_active ((are.trees p h).is values long)
 
+    -- an edge is live by its guard exactly if it is live
     pub live_by-is : (e : ℕ) → e < edge_count g → live_by guards values e ≡ live g values e
     live_by-is e h =
         ap (λ x. active_by guards values x.source && is_passed x.test values)
@@ -90,6 +95,7 @@ module _ (g : Graph) (order : List ℕ) (topological : IsTopological g order) wh
         ∙ ap₂ ◌&&◌ (active_by-is (source g e) (source_in_order g order topological e h))
         (passed values e h (condition_of g (source g e)) refl (edge_at g e).when refl)
 
+-- there is a guard for each edge
 pub length-edges : (g : Graph) (order : List ℕ) (guards : Guards) → AreGuardsOf g order guards →
     length guards.edges ≡ edge_count g
 length-edges g order guards are = ap length are.edges ∙ length-map (numbers_below (edge_count g)) (edge_guard_of g)

@@ -5,6 +5,7 @@ use Rattle.cpg_order.specs.Guard.{Guard, Leaf, Test}
 use Rattle.cpg_order.proofs.Outcomes.{same_activation_is, same_activation_refl}
 use Rattle.cpg_rules.specs.Trees.{same_guard}
 
+-- trees that pass the comparison are equal
 pub same_guard-is : (s t : Guard) → same_guard s t ≡ true → s ≡ t
 same_guard-is (Leaf a) (Leaf b) h = ap Leaf (same_activation_is a b h)
 same_guard-is (Leaf a) (Test d low high) h = cc
@@ -17,6 +18,7 @@ same_guard-is (Test c off on) (Test d low high) h =
     let j = same_guard-is on high q.1 in
     λ i. Test (e i) (f i) (j i)
 
+-- each tree passes the comparison with itself
 pub same_guard-refl : (t : Guard) → same_guard t t ≡ true
 same_guard-refl (Leaf a) = same_activation_refl a
 same_guard-refl (Test c off on) = and_from (c == c) (same_guard off off && same_guard on on) (eq-eqb c c refl)

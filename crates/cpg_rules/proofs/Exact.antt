@@ -22,6 +22,7 @@ use Rattle.cpg_rules.specs.Faults.{ShowsFault}
 use Rattle.cpg_rules.proofs.GivenOrders.{none_bad}
 
 module _ (g : Graph) (senders : HasSenderSlots g) (node : ℕ) where
+  -- the source node of a message has a slot
   slot_of_message : (e : ℕ) → e < edge_count g → is_message g e ≡ true → node_of g (source g e) ≡ node →
       has_slot g node ≡ true
   slot_of_message e l is at =
@@ -29,6 +30,7 @@ module _ (g : Graph) (senders : HasSenderSlots g) (node : ℕ) where
       let slot = senders (message_item g e) (omega arith) (ap (is_sent_item g) item ∙ is) in
       subst (λ n. has_slot g n ≡ true) (ap (λ i. node_of g (producer_of_item g i)) item ∙ at) slot
 
+  -- the node of a condition has a slot, if there are two nodes or more
   slot_of_broadcast : (c : ℕ) → c < condition_count g → nat_lt 1 (length g.nodes) ≡ true →
       node_of g (process_of g c) ≡ node →
       has_slot g node ≡ true
@@ -49,6 +51,7 @@ module _ (g : Graph) (senders : HasSenderSlots g) (node : ℕ) where
         (eqb-true (node_of g (process_of g r.0)) node r.2))
   ]
 
+  -- if each node that sends has a slot, no node lacks one
   pub no_lack : lacks_slot g node ≡ true → ⊥
   no_lack lacks = let p = and_parts (is_sender g node) (not (has_slot g node)) lacks in
       go (has_slot g node) (slot_of_sender p.0) p.1
@@ -57,10 +60,11 @@ module _ (g : Graph) (senders : HasSenderSlots g) (node : ℕ) where
       go true e f = both_ways false refl f
       go false e f = both_ways false refl e
 
--- two live inputs are more than one
+-- at most one live input is not two
 two_live : (n : ℕ) → n ≤ 1 → nat_lt 1 n ≡ true → ⊥
 two_live n l t = let h = ltb-true 1 n t in omega arith
 
+-- an admitted graph shows no fault but that memory runs out
 pub no_fault : (g : Graph) (order : List ℕ) (trees : Guards) → IsAdmitted g order trees → (fault : RuleFault) →
     ShowsFault g fault →
     fault ≡ OutOfMemory

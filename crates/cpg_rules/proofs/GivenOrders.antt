@@ -31,31 +31,36 @@ module _ (g : Graph) (list : List ℕ) where
   there : LacksNone g list → (p : ℕ) → p < process_count g → Contains list p
   there all p l = let r = list_any_parts (λ q. q == p) list (all p l) in subst (Contains list) (eqb-true r.0 p r.2) r.1
 
-  -- ---- what is found edge by edge
+  -- ---- edge by edge
 
+  -- a process that stands before the source of one of its inputs is early
   pub early_by : (p e : ℕ) → e < edge_count g → target g e ≡ p → comes_before list p (source g e) ≡ true →
       is_early g list p ≡ true
   early_by p e l at before =
       list_any_true (λ f. comes_before list p (source g f)) (inputs g p) e
       (subst (λ q. Contains (inputs g q) e) at (input_of_target g e l)) before
 
+  -- a process that stands before no source of its inputs isn't early
   pub early_by_none : (p : ℕ) →
       ((e : ℕ) → e < edge_count g → target g e ≡ p → comes_before list p (source g e) ≡ false) →
       is_early g list p ≡ false
   early_by_none p none = list_any_false (λ f. comes_before list p (source g f)) (inputs g p)
       (λ e c. let r = inputs_parts g p e c in none e r.0 r.1)
 
-  -- ---- what is found place by place
+  -- ---- place by place
 
+  -- given an order that is as long as there are processes
   module _ (lawful : IsOrder list) (long : length list ≡ process_count g) where
     in_list : (p : ℕ) → p < process_count g → Contains list p
     in_list p l = Contains-order (length list) list lawful.all p (omega (arith, long, l))
 
+    -- what stands in the list is a process of the graph
     pub at_place : (i : ℕ) → i < length list → get_or list i 0 < process_count g
     at_place i l =
         let below = from_order (length list) list lawful.all (get_or list i 0) (Contains-get_or list i 0 l) in
         omega (arith, below, long)
 
+    -- the first early process that is found in the list is the first early one
     pub early_first : (i : ℕ) → i < length list → ((q : ℕ) → Contains (take i list) q → is_early g list q ≡ false) →
         is_early g list (get_or list i 0) ≡ true →
         IsFirstEarly g list (get_or list i 0)
@@ -77,6 +82,7 @@ module _ (g : Graph) (list : List ℕ) where
               get_or-take i list (place list q) q (omega (arith, first, here)) ∙ get_or-place list q q c,
             )
 
+    -- if no process up to the end of the list is early, none is
     pub early_nowhere : (i : ℕ) → length list ≤ i → ((q : ℕ) → Contains (take i list) q → is_early g list q ≡ false) →
         (p : ℕ) → p < process_count g →
         is_early g list p ≡ false
@@ -90,15 +96,18 @@ module _ (g : Graph) (list : List ℕ) where
         (λ p c. there all p (numbers-Contains (process_count g) p c))
         (λ p c. Contains-numbers (process_count g) p (subst (λ q. q < process_count g) c.2 (within.there c.0 p c.1)))
 
+    -- a list that lacks no process has as many as there are
     pub whole_long : length list ≡ process_count g
     whole_long = length_order (process_count g) list each_once
 
+    -- a list that lacks no process is an order
     pub order_lawful : IsWithinLimits g → IsOrder list
     order_lawful limits = record {
       few = omega (arith, whole_long, limits.few_processes);
       all = subst (λ n. IsPermutation (numbers_below n) list) (sym whole_long) each_once;
     }
 
+    -- a list that lacks no process, and in which none is early, is topological
     pub none_early : (order : List ℕ) → IsTopological g order → IsWithinLimits g →
         ((p : ℕ) → p < process_count g → is_early g list p ≡ false) →
         IsTopological g list
@@ -122,6 +131,7 @@ module _ (g : Graph) (list : List ℕ) where
 
   -- ---- and a topological one shows none
 
+  -- in a topological list no process is lacking or early
   pub none_bad : IsTopological g list → (p : ℕ) → IsLacking g list p ⊎ IsFirstEarly g list p → ⊥
   none_bad topological p (inl lacking) = both_ways (is_in list p) lacking.lacks
       (is_in_from list p (Contains-order (process_count g) list topological.all p lacking.within))
@@ -151,6 +161,7 @@ module _ (g : Graph) (list : List ℕ) where
     ]
   ]
 
+  -- at most one process of a list is the least that is lacking or the first that is early
   one_of_list : (p q : ℕ) → IsLacking g list p ⊎ IsFirstEarly g list p → IsLacking g list q ⊎ IsFirstEarly g list q →
       p ≡ q
   one_of_list p q (inl a) (inl b) = one_lacking p q a b
@@ -158,6 +169,7 @@ module _ (g : Graph) (list : List ℕ) where
   one_of_list p q (inr a) (inl b) = absurd (both_ways (is_in list q) b.lacks (a.all q b.within))
   one_of_list p q (inr a) (inr b) = one_early p q a b
 
+-- at most one process shows that the given order isn't topological
 pub one_bad : (g : Graph) (p q : ℕ) → IsBadOrder g p → IsBadOrder g q → p ≡ q
 one_bad g p q a b =
     let both : Some a.order ≡ Some b.order = sym a.given ∙ b.given in
@@ -167,8 +179,10 @@ one_bad g p q a b =
 -- ---- the list that a graph gives
 
 module _ (g : Graph) (list : List ℕ) (given : Some list ≡ g.order) where
+  -- the numbers in the given order are processes of the graph
   pub given_within : IsWithinLimits g → IsOrderWithin (process_count g) list
   given_within limits = subst (λ o. IfSome o (IsOrderWithin (process_count g))) (sym given) limits.order
 
+  -- a graph whose given order is topological gives a topological order
   pub gives_topological : IsTopological g list → GivesTopological g
   gives_topological topological = subst (λ o. IfSome o (IsTopological g)) given topological

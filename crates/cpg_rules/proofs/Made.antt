@@ -10,6 +10,7 @@ use Rattle.cpg_rules.specs.Composing.{composed_along}
 use Rattle.cpg_rules.specs.Guards.{Guards, edge_guard_of, AreGuardsOf}
 use Rattle.cpg_rules.proofs.Composed.{place_ranks, length_composed, composed_guards}
 
+-- trees composed along an order, with the edge guards of the graph, are the guards of the graph
 pub made : (g : Graph) (order : List ℕ) → IsTopological g order → (ranks : List ℕ) → ranks ≡ place_ranks g order →
     (steps : List ActivationStep) →
     steps ≡ map (step_of g) order

@@ -15,13 +15,14 @@ use Rattle.cpg_rules.specs.Trees.{same_guard, tested}
 use Rattle.cpg_rules.specs.Composing.{rank, passing, live_tree, settles, against, met}
 use Rattle.cpg_rules.proofs.Equal.{same_guard-is, same_guard-refl}
 
--- ---- what they come to
+-- ---- the activations that they give
 
 -- the first activation if it settles the matter
 abbrev pub first_settling : Bool → Activation → Activation → Activation
 first_settling join a b = if settles join a then a else b
 
 module _ (o : List Bool) where
+  -- a test gives the activation of the branch that the outcome takes
   tested_at : (c : ℕ) (off on : Guard) →
       outcome_at (tested c off on) o ≡ (if get_or o c false then outcome_at on o else outcome_at off o)
   tested_at c off on = go (same_guard off on) refl
@@ -36,6 +37,7 @@ module _ (o : List Bool) where
       go true e = one_tree (same_guard-is off on e) (get_or o c false)
       go false e = refl
 
+  -- the tree of a test gives the activation exactly if the test passes
   passing_at : (a : Activation) (x : Option ValueTest) →
       outcome_at (passing a x) o ≡ (if is_passed x o then a else Inactive)
   passing_at a None = refl
@@ -56,6 +58,7 @@ module _ (o : List Bool) where
       go true = tested_at t.condition (Leaf Inactive) (Leaf a) ∙ yes_at (get_or o t.condition false)
       go false = tested_at t.condition (Leaf a) (Leaf Inactive) ∙ no_at (get_or o t.condition false)
 
+  -- the tree of an input gives the activation exactly if the source is active and the test passes
   pub live_tree_at : (a : Activation) (x : Option ValueTest) (t : Guard) →
       outcome_at (live_tree a x t) o ≡ (if is_active (outcome_at t o) && is_passed x o then a else Inactive)
   live_tree_at a x (Leaf b) = go (is_active b)
@@ -76,6 +79,8 @@ module _ (o : List Bool) where
       go false h k = h
 
   module _ (join : Bool) (ranks : List ℕ) where
+    -- given a test of c at the top of the first tree: `at_off` and `at_on` say what its branches meet in, in the
+    -- outcome o
     module _ (c : ℕ) (off on : Guard → Guard) (low high : Activation)
         (at_off : (t : Guard) → outcome_at (off t) o ≡ first_settling join low (outcome_at t o))
         (at_on : (t : Guard) → outcome_at (on t) o ≡ first_settling join high (outcome_at t o)) where
@@ -120,6 +125,7 @@ module _ (o : List Bool) where
               (outcome_at s o) (outcome_at t o) h k (get_or o d false)
           go false false e h k = tested_at c (off (Test d s t)) (on (Test d s t)) ∙ own (Test d s t) (get_or o c false)
 
+    -- two trees that are walked down together give the first activation if it settles the matter, or else the second
     pub met_at : (s t : Guard) →
         outcome_at (met join ranks s t) o ≡ first_settling join (outcome_at s o) (outcome_at t o)
     met_at (Leaf a) t = go (settles join a)
@@ -139,10 +145,12 @@ IsRanked ranks k m (Test c off on) = (c < length ranks) × (k ≤ rank ranks c) 
     IsRanked ranks (rank ranks c + 1) m off × IsRanked ranks (rank ranks c + 1) m on
 
 module _ (ranks : List ℕ) where
+  -- a tree with ranks from a number on has them from each lower number on
   ranked_from : (k l m : ℕ) (t : Guard) → k ≤ l → IsRanked ranks l m t → IsRanked ranks k m t
   ranked_from k l m (Leaf a) h r = tt
   ranked_from k l m (Test c off on) h r = (r.0, (let a = r.1 in omega arith), r.2, r.3, r.4)
 
+  -- a tree with ranks below a bound has them below each greater bound
   pub ranked_to : (k m n : ℕ) (t : Guard) → m ≤ n → IsRanked ranks k m t → IsRanked ranks k n t
   ranked_to k m n (Leaf a) h r = tt
   ranked_to k m n (Test c off on) h r = (
@@ -153,6 +161,7 @@ module _ (ranks : List ℕ) where
     ranked_to (rank ranks c + 1) m n on h r.4,
   )
 
+  -- a test of trees with later ranks is ordered by rank
   tested_ranked : (k m c : ℕ) (off on : Guard) → c < length ranks → k ≤ rank ranks c → rank ranks c < m →
       IsRanked ranks (rank ranks c + 1) m off →
       IsRanked ranks (rank ranks c + 1) m on
@@ -163,12 +172,13 @@ module _ (ranks : List ℕ) where
       go true = ranked_from k (rank ranks c + 1) m off (omega arith) r
       go false = (within, h, l, r, q)
 
-  -- what is asked of a test that comes after the others
+  -- a test, if there is one, comes after the tests with ranks below m, and its rank is below n
   pub record IsRankedTest (m n : ℕ) (x : Option ValueTest) : Type 0 where
     pub within : (t : ValueTest) → x ≡ Some t → t.condition < length ranks
     pub from : (t : ValueTest) → x ≡ Some t → m ≤ rank ranks t.condition
     pub to : (t : ValueTest) → x ≡ Some t → rank ranks t.condition < n
 
+  -- the tree of a test is ordered by rank
   passing_ranked : (k m n : ℕ) (a : Activation) (x : Option ValueTest) → IsRankedTest m n x → k ≤ m →
       IsRanked ranks k n (passing a x)
   passing_ranked k m n a None r h = tt
@@ -183,6 +193,7 @@ module _ (ranks : List ℕ) where
       go true = tested_ranked k n t.condition (Leaf Inactive) (Leaf a) (r.within t refl) low (r.to t refl) tt tt
       go false = tested_ranked k n t.condition (Leaf a) (Leaf Inactive) (r.within t refl) low (r.to t refl) tt tt
 
+  -- the tree of an input is ordered by rank, if its test comes after those of the source
   pub live_tree_ranked : (k m n : ℕ) (a : Activation) (x : Option ValueTest) (t : Guard) → IsRankedTest m n x → k ≤ m →
       m ≤ n → IsRanked ranks k m t →
       IsRanked ranks k n (live_tree a x t)
@@ -198,6 +209,9 @@ module _ (ranks : List ℕ) where
       (live_tree_ranked (rank ranks c + 1) m n a x on r (omega arith) l s.4)
 
   module _ (apart : (c d : ℕ) → c < length ranks → d < length ranks → rank ranks c ≡ rank ranks d → c ≡ d) (m : ℕ) where
+    -- given a test at the top of the first tree, whose branches keep trees ordered by rank
+    -- `within`, `below`: c is a condition, with a rank below m. `of_off`, `of_on`: the branches keep the order by
+    -- rank.
     module _ (c : ℕ) (within : c < length ranks) (below : rank ranks c < m) (off on : Guard → Guard)
         (of_off : (t : Guard) → IsRanked ranks (rank ranks c + 1) m t → IsRanked ranks (rank ranks c + 1) m (off t))
         (of_on : (t : Guard) → IsRanked ranks (rank ranks c + 1) m t → IsRanked ranks (rank ranks c + 1) m (on t)) where
@@ -231,6 +245,7 @@ module _ (ranks : List ℕ) where
               tested_ranked k m c (off (Test d s t)) (on (Test d s t)) within h below (of_off (Test d s t) later)
               (of_on (Test d s t) later)
 
+    -- two trees that are walked down together are ordered by rank
     pub met_ranked : (join : Bool) (k : ℕ) (s t : Guard) → IsRanked ranks k m s → IsRanked ranks k m t →
         IsRanked ranks k m (met join ranks s t)
     met_ranked join k (Leaf a) t r q = go (settles join a)
@@ -244,6 +259,7 @@ module _ (ranks : List ℕ) where
 
 -- ---- they are reduced
 
+-- a test of reduced trees is reduced: if both are equal, there is no test
 pub tested_reduced : (c : ℕ) (off on : Guard) → IsReduced off → IsReduced on → IsReduced (tested c off on)
 tested_reduced c off on h j = go (same_guard off on) refl
   where
@@ -265,6 +281,7 @@ passing_reduced a (Some t) = go t.value
     go true = tested_reduced t.condition (Leaf Inactive) (Leaf a) tt tt
     go false = tested_reduced t.condition (Leaf a) (Leaf Inactive) tt tt
 
+-- the tree of an input is reduced
 pub live_tree_reduced : (a : Activation) (x : Option ValueTest) (t : Guard) → IsReduced (live_tree a x t)
 live_tree_reduced a x (Leaf b) = go (is_active b)
   where
@@ -274,6 +291,7 @@ live_tree_reduced a x (Leaf b) = go (is_active b)
 live_tree_reduced a x (Test c off on) =
     tested_reduced c (live_tree a x off) (live_tree a x on) (live_tree_reduced a x off) (live_tree_reduced a x on)
 
+-- given a test of c at the top of the first tree, whose branches keep trees reduced: no test has two equal sides
 module _ (ranks : List ℕ) (c : ℕ) (off on : Guard → Guard) (of_off : (t : Guard) → IsReduced t → IsReduced (off t))
     (of_on : (t : Guard) → IsReduced t → IsReduced (on t)) where
   against_reduced : (t : Guard) → IsReduced t → IsReduced (against ranks c off on t)
@@ -289,6 +307,7 @@ module _ (ranks : List ℕ) (c : ℕ) (off on : Guard → Guard) (of_off : (t : 
       go false false h k =
           tested_reduced c (off (Test d s t)) (on (Test d s t)) (of_off (Test d s t) r) (of_on (Test d s t) r)
 
+-- two reduced trees that are walked down together make a reduced tree
 pub met_reduced : (join : Bool) (ranks : List ℕ) (s t : Guard) → IsReduced s → IsReduced t →
     IsReduced (met join ranks s t)
 met_reduced join ranks (Leaf a) t r q = go (settles join a)

@@ -13,6 +13,7 @@ use Rattle.cpg_base.specs.WellFormed.{HasSingleJoins}
 use Rattle.cpg_base.proofs.Lists.{get_or-map-below}
 use Rattle.cpg_rules.specs.Alternatives.{IsSingleJoin, is_set, scenario_of}
 
+-- a scenario with these values and no faults is that of the standings
 pub scenario_given : (g : Graph) (s : List (Option Bool)) (t : Scenario) → length t.values ≡ condition_count g →
     t.faults ≡ replicate (process_count g) 0
     → ((c : ℕ) → c < condition_count g → get_or t.values c false ≡ is_set (get_or s (process_of g c) None)) →

@@ -41,6 +41,7 @@ module _ (s u : List (Option Bool)) where
   AreLiveAlike [] = Unit {0}
   AreLiveAlike (i ∷ is) = (is_live_in s i ≡ is_live_in u i) × AreLiveAlike is
 
+  -- inputs are live alike by standings that agree on their sources
   live_alike : (is : List Input) →
       ((q : ℕ) → list_any (λ (i : Input). i.source == q) is ≡ true → get_or s q None ≡ get_or u q None) →
       AreLiveAlike is
@@ -67,6 +68,7 @@ module _ (s u : List (Option Bool)) where
   count_alike is h =
       sym (length-filter (is_live_in s) is) ∙ ap length (filter_alike is h) ∙ length-filter (is_live_in u) is
 
+  -- inputs that are live alike give the same activation
   activation_alike : (join : Bool) (is : List Input) → AreLiveAlike is →
       activation_from join s is ≡ activation_from join u is
   activation_alike join [] h = refl
@@ -79,6 +81,7 @@ record IsAlike (steps : List ActivationStep) (s u : List (Option Bool)) : Type 0
   long : length s ≡ length u
   same : (q : ℕ) → are_reading steps q ≡ true → get_or s q None ≡ get_or u q None
 
+-- setting the same standing keeps standings alike
 set_alike : (s u : List (Option Bool)) (p q : ℕ) (x : Option Bool) → length s ≡ length u →
     get_or s q None ≡ get_or u q None →
     get_or (set s p x) q None ≡ get_or (set u p x) q None
@@ -94,14 +97,14 @@ set_alike s u p q x long same = elim (cases_eq q p) [
 ]
 
 module _ (step : ActivationStep) (kept : List ActivationStep) (s u : List (Option Bool)) where
-  -- what a step reads
+  -- the inputs of a step are live by both standings or by neither
   inputs_alike : IsAlike (step ∷ kept) s u → AreLiveAlike s u step.inputs
   inputs_alike alike = live_alike s u step.inputs (λ q r. alike.same q (or_left (reads q step) (are_reading kept q) r))
 
   here_alike : IsAlike (step ∷ kept) s u → activation_in s step ≡ activation_in u step
   here_alike alike = activation_alike s u step.join step.inputs (inputs_alike alike)
 
-  -- after a step that is kept
+  -- standings stay alike after a step that is kept
   next_alike : IsAlike (step ∷ kept) s u → (v : Bool) → IsAlike kept (settled s step v) (settled u step v)
   next_alike alike v = record {
     long = length-set s step.process (standing (activation_in s step) v) ∙ alike.long
@@ -111,7 +114,7 @@ module _ (step : ActivationStep) (kept : List ActivationStep) (s u : List (Optio
         (alike.same q (or_right (reads q step) (are_reading kept q) r));
   }
 
-  -- after one that isn't
+  -- standings stay alike after a step that isn't kept
   passed_alike : IsAlike kept s u → are_reading kept step.process ≡ false → (v : Bool) →
       IsAlike kept (settled s step v) u
   passed_alike alike unread v = record {
@@ -123,6 +126,7 @@ module _ (step : ActivationStep) (kept : List ActivationStep) (s u : List (Optio
 
 -- ---- as many tracks
 
+-- a step without a condition makes no second way
 not_chosen : (a : Activation) (x : Option ℕ) (n : ℕ) → is_some x ≡ false → if_both (choice a x) n ≡ 0
 not_chosen Inactive x n h = refl
 not_chosen Plain None n h = refl
@@ -130,6 +134,7 @@ not_chosen Plain (Some c) n h = cc
 not_chosen (By e) None n h = refl
 not_chosen (By e) (Some c) n h = cc
 
+-- from standings that are alike, both walks count the same tracks
 tracks_alike : (steps : List ActivationStep) (s u : List (Option Bool)) → IsAlike (rested Conditions steps) s u →
     tracks_from steps s ≡ tracks_from (rested Conditions steps) u
 tracks_alike [] s u alike = refl
@@ -154,6 +159,7 @@ tracks_alike (step ∷ steps) s u alike =
         let zero = not_chosen (activation_in s step) step.condition (tracks_from steps (settled s step true)) none.0 in
         omega (arith, same, zero)
 
+-- a walk along the steps that conditions rest on counts the same tracks as one along all steps
 pub tracks_rested : (steps : List ActivationStep) (s : List (Option Bool)) →
     tracks_from (rested Conditions steps) s ≡ tracks_from steps s
 tracks_rested steps s = sym (tracks_alike steps s s (record { long = refl; same = λ q r. refl }))
@@ -165,6 +171,7 @@ all_cons : (P : ActivationStep → Type 0) (step : ActivationStep) (steps : List
 all_cons P step steps h t zero d l = h
 all_cons P step steps h t (suc k) d l = t k d (omega arith)
 
+-- what holds of all steps holds of those that a walk rests on
 pub all_rested : (P : ActivationStep → Type 0) (aim : Aim) (steps : List ActivationStep) → All P steps →
     All P (rested aim steps)
 all_rested P aim [] h = h
@@ -179,12 +186,14 @@ all_rested P aim (step ∷ steps) h =
 
 -- ---- two live inputs are found alike
 
+-- a search that finds something on both ways exactly if another does finds something exactly if that one does
 some_passed : (c : Option ℕ) (x y z : Option (List (Option Bool))) → is_some x ≡ is_some z → is_some y ≡ is_some z →
     is_some (first_some x (if_other c y)) ≡ is_some z
 some_passed c (Some f) y z h k = h
 some_passed None None y z h k = h
 some_passed (Some c) None y z h k = k
 
+-- choosing between two ways finds something exactly if choosing between two ways like them does
 some_kept : (c : Option ℕ) (x y z w : Option (List (Option Bool))) → is_some x ≡ is_some z → is_some y ≡ is_some w →
     is_some (first_some x (if_other c y)) ≡ is_some (first_some z (if_other c w))
 some_kept c (Some f) y (Some g) w h k = refl
@@ -208,6 +217,7 @@ found_passed (Some c) None None None h k = tt
 found_passed (Some c) None (Some f) None h k = cc
 found_passed (Some c) None y (Some g) h k = absurd h
 
+-- searches that find alike on both ways find alike
 found_kept : (c : Option ℕ) (x y z w : Option (List (Option Bool))) → AreFoundAlike x z → AreFoundAlike y w →
     AreFoundAlike (first_some x (if_other c y)) (first_some z (if_other c w))
 found_kept c (Some f) y (Some g) w h k = h
@@ -217,12 +227,13 @@ found_kept None None y None w h k = tt
 found_kept (Some c) None y None w h k = k
 
 module _ (p : ℕ) where
+  -- two inputs of a step are live by both standings or by neither, if these are alike
   two_alike : (step : ActivationStep) (kept : List ActivationStep) (s u : List (Option Bool)) →
       IsAlike (step ∷ kept) s u →
       are_two_live s step.inputs ≡ are_two_live u step.inputs
   two_alike step kept s u alike = ap (nat_lt 1) (count_alike s u step.inputs (inputs_alike step kept s u alike))
 
-  -- if one is found
+  -- both searches find something, or neither does
   some_alike : (steps : List ActivationStep) (s u : List (Option Bool)) → IsAlike (rested (Process p) steps) s u →
       is_some (found_from p steps s) ≡ is_some (found_from p (rested (Process p) steps) u)
   some_alike [] s u alike = refl
@@ -270,8 +281,9 @@ module _ (p : ℕ) where
           (later (settled s step false) u (passed_alike step (rested (Process p) steps) s u alike f false))
           (later (settled s step true) u (passed_alike step (rested (Process p) steps) s u alike f true))
 
+-- given a topological order of a graph of at most 128 processes, and the process that is searched for
 module _ (g : Graph) (order : List ℕ) (topological : IsTopological g order) (few : process_count g ≤ 128) (p : ℕ) where
-  -- the steps from a place on are not yet settled, and what is set is set in both
+  -- the steps from a place on are not yet settled, and the same conditions are set in both standings
   record AreSetAlike (k : ℕ) (s u : List (Option Bool)) : Type 0 where
     long : length s ≡ 128
     sets : (q : ℕ) → is_set (get_or s q None) ≡ is_set (get_or u q None)
@@ -282,6 +294,7 @@ module _ (g : Graph) (order : List ℕ) (topological : IsTopological g order) (f
   unset Plain = refl
   unset (By e) = refl
 
+  -- given standings that are set alike, and the process at the next place
   module _ (k q : ℕ) (h : q < process_count g) (at : place order q ≡ k) (s u : List (Option Bool))
       (sets : AreSetAlike k s u) where
     sets_passed : AreSetAlike (k + 1) (settled s (step_of g q) false) u
@@ -299,6 +312,7 @@ module _ (g : Graph) (order : List ℕ) (topological : IsTopological g order) (f
       fresh = λ r l m. sets.fresh r l (omega arith);
     }
 
+    -- standings stay set alike when the process at the next place is settled
     sets_kept : length u ≡ 128 → (v : Bool) → activation_in s (step_of g q) ≡ activation_in u (step_of g q) →
         AreSetAlike (k + 1) (settled s (step_of g q) v) (settled u (step_of g q) v)
     sets_kept long v same = record {
@@ -316,7 +330,7 @@ module _ (g : Graph) (order : List ℕ) (topological : IsTopological g order) (f
           (λ e. let f = ap (place order) e in omega (arith, at)) ∙ sets.fresh r l (omega arith);
     }
 
-  -- what is found
+  -- both searches find the same conditions set
   found_alike : (qs : List ℕ) (k : ℕ) (s u : List (Option Bool)) → drop k order ≡ qs →
       IsAlike (rested (Process p) (map (step_of g) qs)) s u →
       AreSetAlike k s u
@@ -404,6 +418,7 @@ module _ (g : Graph) (order : List ℕ) (topological : IsTopological g order) (f
     | inr l ↦ get_or_past start q None (omega (arith, length-replicate {A = Option Bool} 128 None))
   ]
 
+  -- a search along the steps that a process rests on finds the same conditions as one along all steps, or also none
   pub rested_alike : AreFoundAlike (found_from p (map (step_of g) order) start)
       (found_from p (rested (Process p) (map (step_of g) order)) start)
   rested_alike = found_alike order 0 start start refl (record { long = refl; same = λ q r. refl })
@@ -413,6 +428,7 @@ module _ (g : Graph) (order : List ℕ) (topological : IsTopological g order) (f
   abbrev searched : Option (List (Option Bool))
   searched = found_from p (rested (Process p) (map (step_of g) order)) start
 
+  -- if that search finds nothing, no outcome makes two inputs of the process live
   pub rested_none : p < process_count g → searched ≡ None → (o : List Bool) → has_two_live g o p ≡ false
   rested_none within e o = go (found_from p (map (step_of g) order) start) refl
       (subst (AreFoundAlike (found_from p (map (step_of g) order) start)) e rested_alike)
@@ -422,6 +438,7 @@ module _ (g : Graph) (order : List ℕ) (topological : IsTopological g order) (f
       go None f a = search_none g order topological few p within f o
       go (Some found) f a = absurd a
 
+  -- if it finds standings, they give the least scenario in which two inputs of the process are live
   pub rested_some : p < process_count g → (found : List (Option Bool)) → searched ≡ Some found →
       IsLeast g order (λ t. has_two_live g t.values p ≡ true) (scenario_of g found)
   rested_some within found e = go (found_from p (map (step_of g) order) start) refl

@@ -43,6 +43,7 @@ module _ (g : Graph) (s t : Scenario) where
     pub values : (c : ℕ) → condition_of g p ≡ Some c →
         number_of_value (get_or s.values c false) ≤ number_of_value (get_or t.values c false)
 
+  -- if the value in s is no more than that in t, and the rest of the key of t is not below, the key of t is not below
   no_more_value : (o : Option ℕ) (xs ys : List ℕ) →
       ((c : ℕ) → o ≡ Some c → number_of_value (get_or s.values c false) ≤ number_of_value (get_or t.values c false)) →
       is_below xs ys ≡ false
@@ -51,6 +52,7 @@ module _ (g : Graph) (s t : Scenario) where
   no_more_value (Some c) xs ys h k = not_below-cons (number_of_value (get_or t.values c false))
       (number_of_value (get_or s.values c false)) xs ys (h c refl) k
 
+  -- if the value is false in s and true in t, the key of t is not below that of s
   strictly : (o : Option ℕ) (c : ℕ) (xs ys : List ℕ) → o ≡ Some c → get_or s.values c false ≡ false →
       get_or t.values c false ≡ true
       → is_below (value_in_key t.values o ++ xs) (value_in_key s.values o ++ ys) ≡ false
@@ -85,6 +87,7 @@ module _ (g : Graph) (s t : Scenario) where
 -- ---- the outcome of standings
 
 module _ (g : Graph) (order : List ℕ) (s : List (Option Bool)) where
+  -- the value of a condition in the scenario of standings is that of its process's standing
   value_in : (c : ℕ) → c < condition_count g →
       get_or (scenario_of g s).values c false ≡ is_set (get_or s (process_of g c) None)
   value_in c l = get_or-map-below (λ d. is_set (get_or s (process_of g d) None)) (condition_count g) c false l
@@ -101,6 +104,7 @@ module _ (g : Graph) (order : List ℕ) (s : List (Option Bool)) where
   own_follows : (k : ℕ) → Follows g order k s (scenario_of g s).values
   own_follows k = record { takes = λ c l m v e. value_in c l ∙ ap is_set e }
 
+  -- the scenario of standings is one of the graph
   pub scenario_lawful : IsScenario g (scenario_of g s)
   scenario_lawful = record {
     values = length-map (numbers_below (condition_count g)) (λ d. is_set (get_or s (process_of g d) None))
@@ -112,12 +116,13 @@ module _ (g : Graph) (order : List ℕ) (s : List (Option Bool)) where
       sum-zeros : (n : ℕ) → sum (replicate n 0) ≡ 0
       sum-zeros n = omega (arith, sum_by-replicate (λ (x : ℕ). x) n 0)
 
+-- given a topological order of a graph of at most 128 processes
 module _ (g : Graph) (order : List ℕ) (topological : IsTopological g order) (few : process_count g ≤ 128) where
   -- nothing stands from a place on
   record IsFresh (k : ℕ) (s : List (Option Bool)) : Type 0 where
     unset : (q : ℕ) → q < process_count g → k ≤ place order q → get_or s q None ≡ None
 
-  -- by the standings at a process two of its inputs are live exactly if they are
+  -- two inputs of the process at a place are live by the standings exactly if they are in the outcome
   two_live_here : (k : ℕ) (s : List (Option Bool)) → AreSettled g order k s → (o : List Bool) → Follows g order k s o →
       (p : ℕ) →
       place order p ≡ k
@@ -168,7 +173,7 @@ module _ (g : Graph) (order : List ℕ) (topological : IsTopological g order) (f
     Answers k s None = (o : List Bool) → Follows g order k s o → has_two_live g o p ≡ false
     Answers k s (Some found) = IsFirstFrom k s found
 
-    -- at the process itself
+    -- at the process itself the search answers by its inputs
     at_process : (k : ℕ) (s : List (Option Bool)) → AreSettled g order k s → IsFresh k s → place order p ≡ k →
         Answers k s (if are_two_live s (step_of g p).inputs then Some s else None)
     at_process k s are fresh at = go (are_two_live s (step_of g p).inputs) refl
@@ -196,6 +201,7 @@ module _ (g : Graph) (order : List ℕ) (topological : IsTopological g order) (f
                 (subst (λ x. k ≤ place order x) (sym of_it) l)) in
                 let y = ap number_of_value z in omega arith
 
+    -- given the standings of the processes before a place, and another process than p at the place
     module _ (k q : ℕ) (qs : List ℕ) (s : List (Option Bool)) (are : AreSettled g order k s) (h : q < process_count g)
         (at : place order q ≡ k) (other : q ≢ p)
         (rest : drop k order ≡ q ∷ qs) where
@@ -222,7 +228,7 @@ module _ (g : Graph) (order : List ℕ) (topological : IsTopological g order) (f
       before_here : (r : ℕ) → Contains (take k order) r → (r < process_count g) × (place order r < k)
       before_here r c = in_take g order topological k r c
 
-      -- one way
+      -- if only one way is taken, the search answers as it does after it
       one : choice here (condition_of g q) ≡ None → (x : Option (List (Option Bool))) → Answers (k + 1) off x →
           Answers k s (first_some x None)
       one none None a = λ o f. a o (follows_one_way g order topological k s are q h few at false none o f)
@@ -303,6 +309,7 @@ module _ (g : Graph) (order : List ℕ) (topological : IsTopological g order) (f
           go None e = one e x a
           go (Some c) e = both c e x y a b
 
+    -- nothing stands from the next place on after the process at this place is settled
     fresh_next : (k q : ℕ) (s : List (Option Bool)) (v : Bool) → place order q ≡ k → IsFresh k s →
         IsFresh (k + 1) (settled s (step_of g q) v)
     fresh_next k q s v at fresh = record {
@@ -310,6 +317,7 @@ module _ (g : Graph) (order : List ℕ) (topological : IsTopological g order) (f
           (λ e. let f = ap (place order) e in omega arith) ∙ fresh.unset r l (omega arith);
     }
 
+    -- the search along the rest of the order answers for all outcomes that follow the standings
     searched : (qs : List ℕ) (k : ℕ) (s : List (Option Bool)) → drop k order ≡ qs → AreSettled g order k s →
         IsFresh k s → k ≤ place order p →
         Answers k s (found_from p (map (step_of g) qs) s)
@@ -351,11 +359,13 @@ module _ (g : Graph) (order : List ℕ) (topological : IsTopological g order) (f
     start_fresh : IsFresh 0 start
     start_fresh = record { unset = λ q l m. get_or-replicate {A = Option Bool} 128 q None None (omega arith) }
 
+    -- if the search finds nothing, no outcome makes two inputs of the process live
     pub search_none : found_from p (map (step_of g) order) start ≡ None → (o : List Bool) → has_two_live g o p ≡ false
     search_none e o = (let a : Answers 0 start None = subst (Answers 0 start) e
         (searched order 0 start refl (none_settled g order topological few) start_fresh (omega arith)) in a) o
         (all_follow g order topological few start o)
 
+    -- if it finds standings, they give the least scenario in which two inputs of the process are live
     pub search_some : (found : List (Option Bool)) → found_from p (map (step_of g) order) start ≡ Some found →
         IsLeast g order (λ t. has_two_live g t.values p ≡ true) (scenario_of g found)
     search_some found e =

@@ -13,10 +13,11 @@ use Rattle.cpg_base.proofs.Items.{item_cases, process_of_below}
 use Rattle.cpg_base.proofs.Lists.{list_any_true, list_any_false, Contains-numbers, numbers-Contains}
 use Rattle.cpg_rules.specs.Rules.{is_message_of, sends_message, decides, is_sender, has_slot, lacks_slot}
 
--- a test over the numbers below a bound
+-- a test that passes for a number below a bound passes for one of them
 pub any_there : (p : ℕ → Bool) (n i : ℕ) → i < n → p i ≡ true → list_any p (numbers_below n) ≡ true
 any_there p n i l t = list_any_true p (numbers_below n) i (Contains-numbers n i l) t
 
+-- a test that fails for each number below a bound passes for none of them
 pub any_nowhere : (p : ℕ → Bool) (n : ℕ) → ((i : ℕ) → i < n → p i ≡ false) → list_any p (numbers_below n) ≡ false
 any_nowhere p n h = list_any_false p (numbers_below n) (λ i c. h i (numbers-Contains n i c))
 
@@ -31,7 +32,7 @@ module _ (g : Graph) (w : IsWithinLimits g) (none_lacks : (n : ℕ) → n < leng
   node_within : (p : ℕ) → p < process_count g → node_of g p < length g.nodes
   node_within p l = (w.processes p _ l).node
 
-  -- the node of a message, and of a broadcast, sends
+  -- the source node of a message has a slot
   of_message : (e : ℕ) → e < edge_count g → is_message g e ≡ true → has_slot g (node_of g (source g e)) ≡ true
   of_message e l is =
       let node = node_of g (source g e) in
@@ -40,6 +41,7 @@ module _ (g : Graph) (w : IsWithinLimits g) (none_lacks : (n : ℕ) → n < leng
       (any_there (λ f. is_message_of g f node) (edge_count g) e l
       (and_from (is_message g e) (node_of g (source g e) == node) is (eq-eqb node node refl))))
 
+  -- the node of a condition has a slot, if there are two nodes or more
   of_broadcast : (c : ℕ) → c < condition_count g → nat_lt 1 (length g.nodes) ≡ true →
       has_slot g (node_of g (process_of g c)) ≡ true
   of_broadcast c l some =
@@ -49,6 +51,7 @@ module _ (g : Graph) (w : IsWithinLimits g) (none_lacks : (n : ℕ) → n < leng
       (and_from (nat_lt 1 (length g.nodes)) (decides g node) some
       (any_there (λ d. node_of g (process_of g d) == node) (condition_count g) c l (eq-eqb node node refl))))
 
+  -- if no node that sends lacks a slot, each node that sends has one
   pub senders_have_slots : HasSenderSlots g
   senders_have_slots x l sent = elim (item_cases g x l) [
     | inl a ↦ (let never : false ≡ true = sym (ap (is_sent_item g) a.1) ∙ sent in cc)

@@ -13,6 +13,7 @@ use Rattle.cpg_rules.specs.Apart.{are_both_live, union_with, union, is_apart, ar
 use Rattle.cpg_rules.specs.Sharing.{Sharing, tree_at, Extends, Makes, MakesUnion, trees_of, AreRoots, AreTreesOf}
 use Rattle.cpg_rules.proofs.Sharing.{extends_both, makes_extends, same_trees, roots_stay, map_set}
 
+-- roots that all are one part stand for the same tree, once for each process
 pub seeded : (parts : List SharedPart) (count n : ℕ) (roots : List ℕ) (t : Guard) → roots ≡ replicate count n →
     tree_at parts n ≡ t →
     trees_of parts roots ≡ replicate count t
@@ -24,14 +25,17 @@ seeded parts count n roots t e is = ap (trees_of parts) e ∙ go count
 
 -- ---- the tree of a process
 
--- a later input is there
+-- if there are later inputs, the first tree is met with theirs
 first_with : (join : Bool) (ranks : List ℕ) (left : List Input) (first later : Guard) → (length left == 0) ≡ false →
     with_later join ranks left first later ≡ met join ranks first later
 first_with join ranks [] first later h = cc
 first_with join ranks (i ∷ is) first later h = refl
 
+-- given the roots of some processes, and inputs that begin with one
+-- `are`: each process has a root among the parts of a. `all`: the inputs are the first one and those left.
 module _ (g : Graph) (join : Bool) (a b c d : Sharing) (count : ℕ) (roots : List ℕ) (are : AreRoots a.parts count roots)
     (input : Input) (left inputs : List Input) (all : inputs ≡ input ∷ left) where
+  -- the tree of the first input and that of the later inputs make the tree of all inputs
   pub composed_more : (length left == 0) ≡ false → (n m r : ℕ) →
       Makes a b (input_tree g join (trees_of a.parts roots) input) n
       → Makes b c (composed g join b.ranks (trees_of b.parts roots) left) m
@@ -53,17 +57,21 @@ module _ (g : Graph) (join : Bool) (a b c d : Sharing) (count : ℕ) (roots : Li
 
 -- ---- along the steps
 
+-- given roots of the processes, and a part n that is made with the tree t of process p
 module _ (a b : Sharing) (count p n : ℕ) (roots : List ℕ) (t : Guard) (are : AreRoots a.parts count roots)
     (made : Makes a b t n) where
+  -- the root of one more process is set
   pub step_roots : AreRoots b.parts count (set roots p n)
   step_roots = record {
     all = length-set roots p n ∙ are.all;
     within = All-set (λ m. m < length b.parts) roots p n made.within (roots_stay a b count roots made.more are).within;
   }
 
+  -- with the new root the process has the new tree
   pub step_trees : trees_of b.parts (set roots p n) ≡ set (trees_of a.parts roots) p t
   step_trees = map_set b.parts roots p n ∙ ap₂ (λ ts u. set ts p u) (same_trees a b roots made.more are.within) made.is
 
+-- after one more step the trees are those of the rest of the steps
 pub step_along : (g : Graph) (a b : Sharing) (count p n : ℕ) (roots : List ℕ) (are : AreRoots a.parts count roots)
     (join : Bool) (inputs : List Input)
     (made : Makes a b (composed g join a.ranks (trees_of a.parts roots) inputs) n)
@@ -89,12 +97,16 @@ with_first ranks first None = None
 with_first ranks first (Some later) = if are_both_live ranks first later then None
     else Some (met true ranks first later)
 
+-- the tree of all inputs is that of the later ones with the first before it
 union_first : (ranks : List ℕ) (left : List Input) (first : Guard) (x : Option Guard) → (length left == 0) ≡ false →
     with_first ranks first x ≡ union_with ranks left first x
 union_first ranks [] first x h = cc
 union_first ranks (i ∷ is) first None h = refl
 union_first ranks (i ∷ is) first (Some later) h = refl
 
+-- given inputs with more than one element, and the part that was made of the first
+-- `are`: each process has a root among the parts of a. `all`, `some`: more inputs follow the first. `made`: n is the
+-- part of the first one's tree.
 module _ (g : Graph) (a b c : Sharing) (count : ℕ) (roots : List ℕ) (are : AreRoots a.parts count roots) (input : Input)
     (left inputs : List Input) (all : inputs ≡ input ∷ left)
     (some : (length left == 0) ≡ false) (n : ℕ)
@@ -113,15 +125,18 @@ module _ (g : Graph) (a b c : Sharing) (count : ℕ) (roots : List ℕ) (are : A
   whole_is = union_first a.ranks left its later some ∙ ap (union_with a.ranks left its) later_is
       ∙ ap (union g a.ranks (trees_of a.parts roots)) (sym all)
 
+  -- if the later inputs have no tree, all inputs have none
   none_later : (x : Option Guard) → MakesUnion b c x None → MakesUnion a c (with_first a.ranks its x) None
   none_later None h = extends_both a b c made.more h
   none_later (Some t) h = absurd h
 
+  -- if the later inputs have no tree, all inputs have none
   pub union_none : (y : Option ℕ) → y ≡ None → MakesUnion b c (union g b.ranks (trees_of b.parts roots) left) y →
       MakesUnion a c (union g a.ranks (trees_of a.parts roots) inputs) None
   union_none y e h = subst (λ x. MakesUnion a c x None) whole_is (none_later later (subst (MakesUnion b c later) e h))
 
   module _ (m : ℕ) where
+    -- whether two trees are live at once is asked of their parts
     same_live : (t : Guard) (second : Makes b c t m) →
         are_both_live a.ranks its t ≡ are_both_live c.ranks (tree_at c.parts n) (tree_at c.parts m)
     same_live t second =
@@ -129,6 +144,7 @@ module _ (g : Graph) (a b c : Sharing) (count : ℕ) (roots : List ℕ) (are : A
         sym (ap₂ (are_both_live a.ranks) whole.is second.is)
         ∙ ap (λ ranks. are_both_live ranks (tree_at c.parts n) (tree_at c.parts m)) (sym whole.more.ranks)
 
+    -- if the first tree is live at once with a later one, there is no tree of all inputs
     live_later : (x : Option Guard) → MakesUnion b c x (Some m) →
         are_both_live c.ranks (tree_at c.parts n) (tree_at c.parts m) ≡ true →
         MakesUnion a c (with_first a.ranks its x) None
@@ -136,12 +152,14 @@ module _ (g : Graph) (a b c : Sharing) (count : ℕ) (roots : List ℕ) (are : A
     live_later (Some t) h live = subst (λ v. MakesUnion a c (if v then None else Some (met true a.ranks its t)) None)
         (sym (same_live t h ∙ live)) (extends_both a b c made.more h.more)
 
+    -- if the first input is live at once with a later one, the inputs have no tree
     pub union_live : (y : Option ℕ) → y ≡ Some m → MakesUnion b c (union g b.ranks (trees_of b.parts roots) left) y →
         are_both_live c.ranks (tree_at c.parts n) (tree_at c.parts m) ≡ true
         → MakesUnion a c (union g a.ranks (trees_of a.parts roots) inputs) None
     union_live y e h live =
         subst (λ x. MakesUnion a c x None) whole_is (live_later later (subst (MakesUnion b c later) e h) live)
 
+    -- `last`: r is the part in which the first tree and the later ones meet
     module _ (d : Sharing) (r : ℕ) (last : Makes c d (met true c.ranks (tree_at c.parts n) (tree_at c.parts m)) r) where
       apart_later : (x : Option Guard) → MakesUnion b c x (Some m) →
           are_both_live c.ranks (tree_at c.parts n) (tree_at c.parts m) ≡ false →
@@ -157,20 +175,21 @@ module _ (g : Graph) (a b c : Sharing) (count : ℕ) (roots : List ℕ) (are : A
                 ∙ ap₂ (met true a.ranks) whole.is h.is;
           })
 
+      -- if the first input is never live at once with a later one, both trees make the tree of all inputs
       pub union_apart : (y : Option ℕ) → y ≡ Some m → MakesUnion b c (union g b.ranks (trees_of b.parts roots) left) y →
           are_both_live c.ranks (tree_at c.parts n) (tree_at c.parts m) ≡ false
           → MakesUnion a d (union g a.ranks (trees_of a.parts roots) inputs) (Some r)
       union_apart y e h apart =
           subst (λ x. MakesUnion a d x (Some r)) whole_is (apart_later later (subst (MakesUnion b c later) e h) apart)
 
--- a union extends the parts, whether it is made or not
+-- making a union only adds parts, whether there is a union or not
 pub union_extends : (a b : Sharing) (x : Option Guard) (y : Option ℕ) → MakesUnion a b x y → Extends a b
 union_extends a b None None h = h
 union_extends a b None (Some n) h = absurd h
 union_extends a b (Some t) None h = absurd h
 union_extends a b (Some t) (Some n) h = h.more
 
--- whether the first is live with the later ones
+-- the first input is apart from the later ones exactly if it isn't live at once with their union
 apart_first : (g : Graph) (a b c : Sharing) (roots : List ℕ) (first : Guard) (n m : ℕ) (x : Option Guard) →
     MakesUnion a b x (Some m) →
     Makes b c first n
@@ -181,6 +200,7 @@ apart_first g a b c roots first n m (Some t) h made =
     ap not (ap (λ ranks. are_both_live ranks (tree_at c.parts n) (tree_at c.parts m)) whole.more.ranks
     ∙ ap₂ (are_both_live a.ranks) made.is whole.is)
 
+-- the inputs are apart exactly if the first is never live at once with a later one
 pub apart_more : (g : Graph) (a b c : Sharing) (count : ℕ) (roots : List ℕ) (are : AreRoots a.parts count roots)
     (input : Input) (left inputs : List Input) (all : inputs ≡ input ∷ left)
     (n m : ℕ) (y : Option ℕ) → y ≡ Some m → MakesUnion a b (union g a.ranks (trees_of a.parts roots) left) y →
@@ -195,7 +215,7 @@ apart_more g a b c count roots are input left inputs all n m y e h made =
     (same_trees a b roots (union_extends a b (union g a.ranks (trees_of a.parts roots) left) y h) are.within)
     ∙ ap (are_apart g a.ranks (trees_of a.parts roots)) (sym all)
 
--- a union stays
+-- a union that was made stays when parts are added
 pub union_stays : (a b c : Sharing) (x : Option Guard) (y : Option ℕ) → MakesUnion a b x y → Extends b c →
     MakesUnion a c x y
 union_stays a b c None None h e = extends_both a b c h e
@@ -203,7 +223,7 @@ union_stays a b c None (Some n) h e = absurd h
 union_stays a b c (Some t) None h e = absurd h
 union_stays a b c (Some t) (Some n) h e = makes_extends a b c t n h e
 
--- the trees of guards stay
+-- the trees of guards stay when parts are added
 pub trees_stay : (g : Graph) (a b : Sharing) (roots : List ℕ) (count : ℕ) → Extends a b → AreRoots a.parts count roots →
     AreTreesOf g (trees_of a.parts roots) →
     AreTreesOf g (trees_of b.parts roots)

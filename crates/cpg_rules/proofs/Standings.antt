@@ -39,6 +39,7 @@ module _ (g : Graph) (s : List (Option Bool)) where
       go true ih = refl
       go false ih = ih
 
+  -- the activation of some inputs by the standings goes by those that are live by them
   activation_from-is : (join : Bool) (es : List ℕ) →
       activation_from join s (map (input_of g) es) ≡ activation_by join es is_live_edge
   activation_from-is join [] = refl
@@ -46,6 +47,7 @@ module _ (g : Graph) (s : List (Option Bool)) where
   activation_from-is false (e ∷ es) =
       ap (λ b. if b then Plain else Inactive) (list_all-map (is_live_in s) (input_of g) (e ∷ es))
 
+  -- the activation by the standings goes by the inputs that are live by them
   pub activation_in-is : (p : ℕ) →
       activation_in s (step_of g p) ≡ activation_by (process_at g p).join (inputs g p) is_live_edge
   activation_in-is p = activation_from-is (process_at g p).join (inputs g p)
@@ -59,6 +61,7 @@ module _ (g : Graph) (order : List ℕ) (topological : IsTopological g order) wh
   module _ (k : ℕ) (s : List (Option Bool)) (are : AreSettled g order k s) where
     -- ---- an input of a process at the place is live as the standings say
 
+    -- given an outcome that follows the standings, and an input of the process at the place
     module _ (o : List Bool) (follows : Follows g order k s o) (p e : ℕ) (at : place order p ≡ k)
         (input : Contains (inputs g p) e) where
       within : e < edge_count g
@@ -87,6 +90,7 @@ module _ (g : Graph) (order : List ℕ) (topological : IsTopological g order) wh
       live_by (Some v) is same = takes_same v is (edge_at g e).when refl
           ∙ ap (λ b. b && takes (edge_at g e).when (value_of g o (source g e))) same
 
+      -- an edge is live by the standings exactly if it is live in each outcome that follows them
       pub live_here : is_live_edge g s e ≡ live g o e
       live_here = live_by (get_or s (source g e) None) refl (are.right o follows (source g e) from sooner)
 
@@ -101,6 +105,7 @@ module _ (g : Graph) (order : List ℕ) (topological : IsTopological g order) wh
 
     -- ---- the next standings
 
+    -- given the process at the place, and a value of its condition
     module _ (p : ℕ) (h : p < process_count g) (few : process_count g ≤ 128) (at : place order p ≡ k) (v : Bool) where
       -- the standings with that of p
       abbrev next : List (Option Bool)
@@ -115,6 +120,7 @@ module _ (g : Graph) (order : List ℕ) (topological : IsTopological g order) wh
       not_here : (q : ℕ) → place order q < k → q ≢ p
       not_here q l e = let f = ap (place order) e in omega arith
 
+      -- an outcome that follows the standings after a process follows those before it
       pub follows_back : (o : List Bool) → Follows g order (k + 1) next o → Follows g order k s o
       follows_back o f = record {
         takes = λ c l m value is.
@@ -126,6 +132,7 @@ module _ (g : Graph) (order : List ℕ) (topological : IsTopological g order) wh
       some_standing Plain v w e = (refl, cc)
       some_standing (By i) v w e = (refl, cc)
 
+      -- an outcome follows the standings after a process, if the condition of the process has the value
       pub follows_on : (o : List Bool) → Follows g order k s o →
           ((c : ℕ) → c < condition_count g → process_of g c ≡ p → is_active (activation_in s (step_of g p)) ≡ true →
           get_or o c false ≡ v) →
@@ -159,7 +166,7 @@ module _ (g : Graph) (order : List ℕ) (topological : IsTopological g order) wh
       chosen Plain x c e = e
       chosen (By j) x c e = e
 
-      -- if both are, it is the condition of the process that tells
+      -- if both ways are taken, the condition that is chosen is that of the process
       pub its_condition : (c : ℕ) → choice (activation_in s (step_of g p)) (condition_of g p) ≡ Some c →
           condition_of g p ≡ Some c
       its_condition c e = chosen (activation_in s (step_of g p)) (condition_of g p) c e
@@ -178,6 +185,7 @@ module _ (g : Graph) (order : List ℕ) (topological : IsTopological g order) wh
       is_some-standing Plain = refl
       is_some-standing (By i) = refl
 
+      -- the standings after a process are right for the next place
       pub settled_next : AreSettled g order (k + 1) next
       settled_next = record {
         long = length-set s p (standing (activation_in s (step_of g p)) v) ∙ are.long;

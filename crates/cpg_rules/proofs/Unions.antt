@@ -1,4 +1,4 @@
--- Inputs whose trees tell that no two of them are live at once never are.
+-- If the trees of the inputs show that no two of them are live at once, no two ever are.
 use Rattle.std.proofs.Common.{ℕ, zero, suc, ◌<◌, ◌≡◌, Bool, true, false, not, ◌&&◌, ◌||◌, ◌==◌, if◌then◌else◌, List, []}
 use Rattle.std.proofs.Common.{◌∷◌, length, get_or, map, filter, Option, Some, None, Contains, All, arith}
 use Rattle.std.proofs.Common.{refl, sym, ap, ap₂, ◌∙◌, subst, eqb-true}
@@ -48,6 +48,7 @@ module _ (o : List Bool) where
       (λ e. somewhere_at off (way_off c off on h e)) (λ e. somewhere_at on (way_on c off on h e))
 
   module _ (ranks : List ℕ) where
+    -- given a test at the top of a tree, and questions on its branches that are right in the outcome
     module _ (c : ℕ) (off on : Guard → Bool)
         (at_off : get_or o c false ≡ false → (t : Guard) → on_in t ≡ true → off t ≡ true)
         (at_on : get_or o c false ≡ true → (t : Guard) → on_in t ≡ true → on t ≡ true) where
@@ -71,6 +72,7 @@ module _ (o : List Bool) where
           go false true e f k = either (get_or o d false) (beside ranks c off on low) (beside ranks c off on high) f k
           go false false e f k = own (Test d low high) h
 
+    -- trees that are both active in the outcome are live at once
     both_at : (s t : Guard) → on_in s ≡ true → on_in t ≡ true → are_both_live ranks s t ≡ true
     both_at (Leaf a) t h k = and_from (is_active a) (is_live_somewhere t) h (somewhere_at t k)
     both_at (Test c off on) t h k = beside_at c (are_both_live ranks off) (are_both_live ranks on)
@@ -86,14 +88,14 @@ record IsOne (a : Activation) (n : ℕ) : Type 0 where
 none_live : IsOne Inactive 0
 none_live = record { active = refl; few = refl }
 
--- the first of the inputs alone
+-- the activation of one input shows whether it is live
 first_alone : (e : ℕ) (f : ℕ → Bool) (b : Bool) → f e ≡ b →
     IsOne (if b then By e else Inactive) (length (filter f (e ∷ [])))
 first_alone e f true h =
     subst (λ v. IsOne (By e) (length (if v then e ∷ [] else []))) (sym h) (record { active = refl; few = refl })
 first_alone e f false h = subst (λ v. IsOne Inactive (length (if v then e ∷ [] else []))) (sym h) none_live
 
--- the first of the inputs with later ones that are not live with it
+-- an input that is never live with the later ones makes at most one live input of all
 first_with : (e : ℕ) (es : List ℕ) (f : ℕ → Bool) (b : Bool) → f e ≡ b → (a : Activation) →
     IsOne a (length (filter f es)) →
     (b ≡ true → is_active a ≡ true → ⊥)
@@ -107,6 +109,8 @@ first_with e es f true h a one apart = subst (λ v. IsOne (By e) (length (if v t
 first_with e es f false h a one apart =
     subst (λ v. IsOne a (length (if v then e ∷ filter f es else filter f es))) (sym h) one
 
+-- given the guards of a graph, a process, and an outcome
+-- `are`: the guards are those of the graph. `long`: the outcome has a value for each condition.
 module _ (g : Graph) (order : List ℕ) (topological : IsTopological g order) (guards : Guards)
     (are : AreGuardsOf g order guards) (ranks : List ℕ) (p : ℕ)
     (o : List Bool) (long : length o ≡ condition_count g) where
@@ -114,6 +118,7 @@ module _ (g : Graph) (order : List ℕ) (topological : IsTopological g order) (g
   abbrev tree_in : ℕ → Guard
   tree_in e = input_tree g true guards.trees (input_of g e)
 
+  -- the tree of an input gives the input exactly if it is live
   input_at : (e : ℕ) → Contains (inputs g p) e → outcome_at (tree_in e) o ≡ (if live g o e then By e else Inactive)
   input_at e c =
       let within : e < edge_count g = (inputs_parts g p e c).0 in
@@ -123,19 +128,21 @@ module _ (g : Graph) (order : List ℕ) (topological : IsTopological g order) (g
       (ap is_active ((are.trees (source g e) (source_in_order g order topological e within)).is o long))
       (passed g order topological o e within (condition_of g (source g e)) refl (edge_at g e).when refl)
 
+  -- the tree of a live input is active
   input_is_active : (e : ℕ) → Contains (inputs g p) e → live g o e ≡ true → is_active (outcome_at (tree_in e) o) ≡ true
   input_is_active e c l = ap is_active (input_at e c ∙ ap (λ b. if b then By e else Inactive) l)
 
-  -- what the tree of inputs tells, if there is one
+  -- what the tree of inputs shows, if there is one
   abbrev IsUnion : List ℕ → Option Guard → Type 0
   IsUnion es None = Unit {0}
   IsUnion es (Some t) = IsOne (outcome_at t o) (length (filter (live g o) es))
 
+  -- trees that are not live at once are not both active in an outcome
   never_both : (s t : Guard) → are_both_live ranks s t ≡ false → is_active (outcome_at s o) ≡ true →
       is_active (outcome_at t o) ≡ true → ⊥
   never_both s t e h k = both_ways (are_both_live ranks s t) e (both_at o ranks s t h k)
 
-  -- an input that is not live with the later ones
+  -- an input whose tree is not live at once with that of the later ones makes at most one live input of all
   with_first : (e : ℕ) (es : List ℕ) → Contains (inputs g p) e → (t : Guard) →
       IsOne (outcome_at t o) (length (filter (live g o) es)) →
       are_both_live ranks (tree_in e) t ≡ false
@@ -144,6 +151,7 @@ module _ (g : Graph) (order : List ℕ) (topological : IsTopological g order) (g
   with_first e es c t one apart = first_with e es (live g o) (live g o e) refl (outcome_at t o) one
       (λ l k. never_both (tree_in e) t apart (input_is_active e c l) k)
 
+  -- the tree of some inputs, if there is one, is active exactly if one of them is live, and no two of them are
   union_is : (es : List ℕ) → ((e : ℕ) → Contains es e → Contains (inputs g p) e) →
       IsUnion es (union g ranks guards.trees (map (input_of g) es))
   union_is [] f = none_live
@@ -173,12 +181,14 @@ module _ (g : Graph) (order : List ℕ) (topological : IsTopological g order) (g
   not_both true h = cc
   not_both false h = refl
 
+  -- if the first input is apart from the later ones, at most one of all is live
   apart_from : (e : ℕ) (es : List ℕ) → Contains (inputs g p) e → (x : Option Guard) → IsUnion es x →
       is_apart ranks (tree_in e) x ≡ true →
       nat_lt 1 (length (filter (live g o) (e ∷ es))) ≡ false
   apart_from e es c None h k = cc
   apart_from e es c (Some t) one k = (with_first e es c t one (not_both (are_both_live ranks (tree_in e) t) k)).few
 
+  -- of inputs that are apart by their trees at most one is live
   apart_few : (es : List ℕ) → ((e : ℕ) → Contains es e → Contains (inputs g p) e) →
       are_apart g ranks guards.trees (map (input_of g) es) ≡ true
       → nat_lt 1 (length (filter (live g o) es)) ≡ false
@@ -186,10 +196,11 @@ module _ (g : Graph) (order : List ℕ) (topological : IsTopological g order) (g
   apart_few (e ∷ es) f h = apart_from e es (f e (Contains-first e es))
       (union g ranks guards.trees (map (input_of g) es)) (union_is es (λ x k. f x (Contains-rest e es x k))) h
 
+  -- a process whose inputs are apart by their trees never has two live inputs
   pub apart_single : are_apart g ranks guards.trees (map (input_of g) (inputs g p)) ≡ true → has_two_live g o p ≡ false
   apart_single h = apart_few (inputs g p) (λ e c. c) h
 
--- the sources of a process's inputs are there
+-- the sources of a process's inputs are processes of the graph
 pub inputs_within : (g : Graph) (order : List ℕ) → IsTopological g order → (p : ℕ) →
     All (λ (i : Input). i.source < process_count g) (map (input_of g) (inputs g p))
 inputs_within g order topological p k d l =

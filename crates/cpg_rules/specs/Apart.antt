@@ -13,7 +13,7 @@ abbrev pub is_live_somewhere : Guard → Bool
 is_live_somewhere (Leaf a) = is_active a
 is_live_somewhere (Test c off on) = is_live_somewhere off || is_live_somewhere on
 
--- a test with what is asked of the trees for both ways, walked down together with a second tree
+-- a test with a question on the trees for both ways, walked down together with a second tree
 abbrev pub beside : List ℕ → ℕ → (Guard → Bool) → (Guard → Bool) → Guard → Bool
 beside ranks c off on (Leaf b) = is_active b && (off (Leaf b) || on (Leaf b))
 beside ranks c off on (Test d low high) =
@@ -28,7 +28,7 @@ abbrev pub are_both_live : List ℕ → Guard → Guard → Bool
 are_both_live ranks (Leaf a) t = is_active a && is_live_somewhere t
 are_both_live ranks (Test c off on) t = beside ranks c (are_both_live ranks off) (are_both_live ranks on) t
 
--- with the tree of the later inputs, if there are any
+-- the first tree, met with the tree of the later inputs if no two are live at once
 abbrev pub union_with : List ℕ → List Input → Guard → Option Guard → Option Guard
 union_with ranks [] first later = Some first
 union_with ranks (i ∷ is) first None = None

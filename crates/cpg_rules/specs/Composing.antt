@@ -27,7 +27,7 @@ abbrev pub live_tree : Activation → Option ValueTest → Guard → Guard
 live_tree a x (Leaf b) = if is_active b then passing a x else Leaf Inactive
 live_tree a x (Test c off on) = tested c (live_tree a x off) (live_tree a x on)
 
--- whether an input tells how the process is active: of a join a live one, of another process one that isn't
+-- whether an input settles how the process is active: a live one of a join, or one of another process that isn't live
 abbrev pub settles : Bool → Activation → Bool
 settles join a = if join then is_active a else not (is_active a)
 
@@ -41,7 +41,7 @@ against ranks c off on (Test d low high) =
     then tested d (against ranks c off on low) (against ranks c off on high)
     else tested c (off (Test d low high)) (on (Test d low high)))
 
--- the first tree if it settles the matter, and else the second
+-- the first tree if it settles the matter, or else the second
 abbrev pub met : Bool → List ℕ → Guard → Guard → Guard
 met join ranks (Leaf a) t = if settles join a then Leaf a else t
 met join ranks (Test c off on) t = against ranks c (met join ranks off) (met join ranks on) t
@@ -55,7 +55,7 @@ abbrev pub input_tree : Graph → Bool → List Guard → Input → Guard
 input_tree g join trees i =
     live_tree (by_input join i.edge) (test_of (condition_of g i.source) i.when) (get_or trees i.source (Leaf Inactive))
 
--- with the tree of the later inputs, if there are any
+-- the first tree, met with the tree of the later inputs if there are any
 abbrev pub with_later : Bool → List ℕ → List Input → Guard → Guard → Guard
 with_later join ranks [] first later = first
 with_later join ranks (i ∷ is) first later = met join ranks first later

@@ -63,5 +63,7 @@ pub record AreBelow (guards : Guards) : Type 0 where
 pub record AreGuardsOf (g : Graph) (order : List ℕ) (guards : Guards) : Type 0 where
   pub conditions : guards.conditions ≡ condition_count g
   pub count : length guards.trees ≡ process_count g
+  -- the tree of each process says how it is active, by the values of the conditions
   pub trees : (p : ℕ) → p < process_count g → IsGuardOf g order p (tree_of guards p)
+  -- the guard of each edge is its source and the value that it asks for
   pub edges : guards.edges ≡ map (edge_guard_of g) (numbers_below (edge_count g))

@@ -1,4 +1,4 @@
--- The steps that a walk rests on: what it is for, and before them what they have inputs from.
+-- The steps that a walk rests on: those that it is for, and before them those that they have inputs from.
 use Rattle.std.specs.Prelude.{ℕ, Bool, ◌||◌, ◌==◌, if◌then◌else◌, List, [], ◌∷◌, is_some}
 use Rattle.std.specs.List.{list_any}
 use Rattle.cpg_rules.specs.declared.steps.Aim.{Aim}
@@ -14,7 +14,7 @@ is_aim Conditions step = is_some step.condition
 abbrev pub reads : ℕ → ActivationStep → Bool
 reads p step = list_any (λ i. i.source == p) step.inputs
 
--- whether one of the steps has
+-- whether one of the steps has an input from a process
 abbrev pub are_reading : List ActivationStep → ℕ → Bool
 are_reading steps p = list_any (reads p) steps
 
@@ -22,7 +22,7 @@ are_reading steps p = list_any (reads p) steps
 abbrev pub is_rested : Aim → ActivationStep → List ActivationStep → Bool
 is_rested aim step later = is_aim aim step || are_reading later step.process
 
--- those of these steps that the walk rests on
+-- the steps among these that the walk rests on
 abbrev pub rested : Aim → List ActivationStep → List ActivationStep
 rested aim [] = []
 rested aim (step ∷ steps) = if is_rested aim step (rested aim steps) then step ∷ rested aim steps else rested aim steps

@@ -35,6 +35,7 @@ abbrev pub bytes_in : List Slot → ℕ → ℕ
 bytes_in [] node = 0
 bytes_in (s ∷ ss) node = if s.node == node then s.bytes else bytes_in ss node
 
+-- how many bytes the first slot of a node holds in a graph
 abbrev pub slot_bytes : Graph → ℕ → ℕ
 slot_bytes g node = bytes_in g.slots node
 

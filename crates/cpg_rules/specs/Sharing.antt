@@ -1,4 +1,4 @@
--- The parts of trees, each with its top, and what is known of them.
+-- The parts of trees, each with its top, and the answers that are known for them.
 use Rattle.std.specs.Prelude.{ℕ, ◌≡◌, ◌<◌, ◌≤◌, Bool, false, List, Option, Some, None, All, length, get_or, map}
 use Rattle.cpg_base.specs.declared.activation.Activation.TheVariants.{Inactive}
 use Rattle.cpg_base.specs.Graph.{Graph}
@@ -14,12 +14,13 @@ use Rattle.cpg_rules.specs.Composing.{live_tree, met}
 use Rattle.cpg_rules.specs.Apart.{are_both_live}
 use Rattle.cpg_rules.specs.Guards.{Guards, AreGuardsOf}
 
--- the ranks of the conditions, the parts, and what is known of them
+-- the ranks of the conditions, the parts, and the answers that are known for them
 pub record Sharing : Type 0 where
   pub ranks : List ℕ
   pub parts : List SharedPart
   pub known : List (Option KnownPart)
 
+-- a part that stands for none
 abbrev pub no_part : SharedPart
 no_part = record { top = LeafTop Inactive; tree = Leaf Inactive }
 
@@ -33,7 +34,7 @@ IsTop parts (LeafTop a) tree = tree ≡ Leaf a
 IsTop parts (TestTop c off on) tree =
     (off < length parts) × (on < length parts) × (tree ≡ Test c (tree_at parts off) (tree_at parts on))
 
--- a part is the answer to what is asked; that two are never active at once has none
+-- a part is the answer to a question; if two parts are never active at once, the answer needs no part
 abbrev pub IsAnswer : List ℕ → List SharedPart → Ask → ℕ → Type 0
 IsAnswer ranks parts (Live a x source) n =
     (source < length parts) × (n < length parts) × (tree_at parts n ≡ live_tree a x (tree_at parts source))
@@ -43,6 +44,7 @@ IsAnswer ranks parts (Met join first second) n =
 IsAnswer ranks parts (Apart first second) n = (first < length parts) × (second < length parts) ×
     (are_both_live ranks (tree_at parts first) (tree_at parts second) ≡ false)
 
+-- an answer that is known is right
 abbrev pub IsKnown : List ℕ → List SharedPart → Option KnownPart → Type 0
 IsKnown ranks parts None = Unit {0}
 IsKnown ranks parts (Some k) = IsAnswer ranks parts k.ask k.answer

@@ -23,7 +23,7 @@ step_of g p = record {
   condition = condition_of g p;
 }
 
--- a step of so many processes
+-- a step refers to processes below a number
 pub record IsStepBelow (count : ℕ) (step : ActivationStep) : Type 0 where
   pub process : step.process < count
   pub inputs : All (λ i. i.source < count) step.inputs

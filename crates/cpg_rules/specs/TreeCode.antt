@@ -1,4 +1,4 @@
--- How a proof tells trees apart: a tree as a list of steps, and back.
+-- How a proof distinguishes trees: a tree as a list of steps, and back.
 use Rattle.std.specs.Prelude.{ℕ, ◌≡◌, List, [], ◌∷◌, Option, Some, None, ◌⊎◌, refl}
 use Rattle.std.proofs.Common.{inl, inr, ◌∙◌}
 use Rattle.std.specs.Coded.{Coded, code_by, coded_list, coded_option, coded_ℕ, coded⊎}

@@ -47,7 +47,7 @@ impl Model for Admitted {
     ghost invariant = { λ a. IsAdmitted a.problem a.order a.guards × (a.given ≡ a.problem.order) };
 }
 
-/// Why a graph isn't admitted. The first of these that is there is told.
+/// Why a graph isn't admitted. The first cause that is there is returned.
 #[derive(Drop)]
 pub enum RuleFault {
     /// The edges lead around in a cycle: this one, the least process first.
@@ -65,8 +65,8 @@ pub enum RuleFault {
     NoSlot(u32),
     /// A message has a size above its sender's slot: the least such edge.
     TooBig(u32),
-    /// The order that the graph gives isn't topological: the least process that is lacking in it, or if none is lacking, the
-    /// first in it that stands before the source of one of its inputs.
+    /// The order that the graph gives isn't topological: the least process that is lacking in it, or if none is
+    /// lacking, the first in it that stands before the source of one of its inputs.
     BadOrder(u32),
     /// Out of memory.
     OutOfMemory,
@@ -86,6 +86,7 @@ fn ordered(alloc: Global, problem: &Problem) -> Result<Order, RuleFault>
     ensures order { IfOk result (IsOrdered problem.now) }
     ensures fault { IfErr result (ShowsFault problem.now) }
 {
+    // there is an order exactly if the edges lead around in no cycle
     match urgency(alloc, problem) {
         Ok(order) => Ok(order),
         Err(OrderFault::Cycle(walk)) => Err(RuleFault::Cycle(walk)),
@@ -109,7 +110,7 @@ fn guarded(alloc: Global, problem: &Problem, order: &Order) -> Result<SharedGuar
     }
 }
 
-/// That no outcome gives a join two live inputs.
+/// Checks that no outcome gives a join two live inputs.
 fn joined(
     alloc: Global,
     problem: &Problem,
@@ -123,17 +124,19 @@ fn joined(
     ensures joins { IfOk result (λ _. HasFewInputs problem.now order.now) }
     ensures fault { IfErr result (ShowsFault problem.now) }
 {
+    // `None`: no outcome gives a join two live inputs
     match least_alternatives(alloc, problem, order, parts, roots) {
         Ok(None) => Ok(()),
         Ok(Some(found)) => Err(RuleFault::TwoAlternatives {
             process: found.process,
             least: found.least,
         }),
+        // the only way in which the search fails is for memory
         Err(_) => Err(RuleFault::OutOfMemory),
     }
 }
 
-/// That each node that sends has a slot, and no message is above it.
+/// Checks that each node that sends has a slot, and that no message is larger than the slot holds.
 fn slotted(problem: &Problem) -> Result<(), RuleFault>
     requires { (order : List ℕ) × HasFewInputs problem.now order }
     ensures slots { IfOk result (λ _. HasSenderSlots problem.now) }
@@ -141,6 +144,7 @@ fn slotted(problem: &Problem) -> Result<(), RuleFault>
     ensures limits { IfOk result (λ _. IsWithinLimits problem.now) }
     ensures fault { IfErr result (ShowsFault problem.now) }
 {
+    // slots before sizes: without a slot there is none to compare a message with
     if let Some(node) = without_slot(problem) {
         return Err(RuleFault::NoSlot(node));
     }
@@ -178,6 +182,7 @@ fn judge(alloc: Global, problem: &Problem) -> Result<JudgedGraph, RuleFault>
     ensures given { IfOk result (λ judged. judged.given ≡ problem.now.order) }
     ensures fault { IfErr result (ShowsFault problem.now) }
 {
+    // each check rests on the ones before it, so the first fault that is there is returned
     let order = ordered(alloc, problem)?;
     let mut shared = guarded(alloc, problem, &order)?;
     let roots = shared.roots.as_slice();
@@ -191,9 +196,9 @@ fn judge(alloc: Global, problem: &Problem) -> Result<JudgedGraph, RuleFault>
     })
 }
 
-/// Admits a graph that keeps all rules: it has no cycle, at most 16,384 tracks, no join with two live inputs, a slot for
-/// each node that sends, no message above its sender's slot, and if it gives an order, a topological one. A refusal tells
-/// the first of these that is broken, and hands the graph back as it was.
+/// Admits a graph that keeps all rules: it has no cycle, at most 16,384 tracks, no join with two live inputs, a slot
+/// for each node that sends, no message above its sender's slot, and if it gives an order, a topological one. A
+/// refusal names the first of these that is broken, and hands the graph back as it was.
 pub fn admit(alloc: Global, problem: Problem) -> Result<Admitted, Refused>
     ensures problem { IfOk result (λ admitted. admitted.graph ≡ problem) }
     ensures admitted { IfOk result (λ admitted. IsAdmitted admitted.graph admitted.order admitted.guards) }
@@ -249,6 +254,7 @@ impl Admitted {
         ensures topological { IsTopological self.now.graph result.now }
         ensures admitted { IsAdmitted self.now.graph self.now.order self.now.guards }
     {
+        // an order that is given comes before the urgency order
         match &self.given {
             Some(order) => order,
             None => &self.order,

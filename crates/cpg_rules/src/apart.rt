@@ -21,19 +21,23 @@ fn union(
 ) -> Result<Option<usize>, OutOfMemory>
     requires roots { AreRoots parts.old.parts (process_count problem.now) roots.now }
     requires inputs { All (λ input. input.source < process_count problem.now) inputs.now }
+    // the part made has the union of the trees of these inputs; there is none if two are live at once
     ensures { IfOk result (MakesUnion parts.old parts.new (union problem.now parts.old.ranks (trees_of parts.old.parts roots.now) inputs.now)) }
 {
+    // no inputs: nothing is live
     let Some((input, left)) = inputs.split_first() else {
         let leaf = parts.leaf(alloc, Activation::Inactive)?;
         return Ok(Some(leaf));
     };
     let first = input_part(alloc, problem, true, parts, roots, *input)?;
+    // one input alone is live with no other
     if left.is_empty() {
         return Ok(Some(first));
     }
     let Some(later) = union(alloc, problem, parts, roots, left)? else {
         return Ok(None);
     };
+    // the first is live together with a later one
     if parts.are_both_live(first, later) {
         return Ok(None);
     }
@@ -52,6 +56,7 @@ fn are_apart(
     requires roots { AreRoots parts.old.parts (process_count problem.now) roots.now }
     requires inputs { All (λ input. input.source < process_count problem.now) inputs.now }
     ensures more { IfOk result (λ apart. Extends parts.old parts.new) }
+    // the answer is whether no two of these inputs are live at once, by the trees of their sources
     ensures apart { IfOk result (λ apart. apart ≡ are_apart problem.now parts.old.ranks (trees_of parts.old.parts roots.now) inputs.now) }
 {
     let Some((input, left)) = inputs.split_first() else {
@@ -64,7 +69,7 @@ fn are_apart(
     Ok(!parts.are_both_live(first, later))
 }
 
-/// Whether the parts tell that no outcome makes two inputs of a process live, if it is a join.
+/// Whether the parts show that no outcome makes two inputs of a process live, if it is a join.
 pub fn is_single_join(
     alloc: Global,
     problem: &Problem,

@@ -19,6 +19,7 @@ use std::alloc::Global;
 /// The places of the conditions' processes in the order, by condition.
 pub fn ranks_of(alloc: Global, problem: &Problem, order: &Order) -> Result<Vec<u32>, OutOfMemory>
     requires { process_count problem.now ≤ length order.now }
+    // the rank of a condition is the place of its process in the order
     ensures { IfOk result (λ ranks. ranks.items ≡ map (λ c. place order.now (process_of problem.now c)) (numbers_below (condition_count problem.now))) }
 {
     let mut ranks = Vec::new(alloc);
@@ -39,8 +40,8 @@ pub fn rank(ranks: &[u32], condition: u32) -> u32
     }
 }
 
-/// Whether an input tells how the process is active, and the later inputs don't count: of a join a live one, and of
-/// another process one that isn't.
+/// Whether an input settles how the process is active, so that the later inputs don't count. A live input settles a
+/// join, and an input that isn't live settles any other process.
 pub fn settles(join: bool, input: Activation) -> bool
     ensures { result ≡ settles join input }
 {
@@ -92,16 +93,20 @@ fn composed(
 ) -> Result<usize, OutOfMemory>
     requires roots { AreRoots parts.old.parts (process_count problem.now) roots.now }
     requires inputs { All (λ input. input.source < process_count problem.now) inputs.now }
+    // the part that is made has the tree of these inputs, composed of the trees of their sources
     ensures { IfOk result (Makes parts.old parts.new (composed problem.now join parts.old.ranks (trees_of parts.old.parts roots.now) inputs.now)) }
 {
+    // a process without inputs is always active
     let Some((input, left)) = inputs.split_first() else {
         let leaf = parts.leaf(alloc, Activation::Plain)?;
         return Ok(leaf);
     };
     let first = input_part(alloc, problem, join, parts, roots, *input)?;
+    // the last input decides alone
     if left.is_empty() {
         return Ok(first);
     }
+    // the first input counts if it settles the matter, else the later ones do
     let later = composed(alloc, problem, join, parts, roots, left)?;
     let made = parts.met(alloc, join, first, later)?;
     Ok(made)

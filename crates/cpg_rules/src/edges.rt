@@ -7,7 +7,7 @@ ghost use Rattle.cpg_rules.specs.Guards.{edge_guard_of, test_of};
 use cpg_base::{OutOfMemory, Problem};
 use std::alloc::Global;
 
-/// That a condition has a value.
+/// A test that a condition has a value.
 #[derive(Clone, Copy, Debug, PartialEq, Eq)]
 pub struct ValueTest {
     pub condition: u32,

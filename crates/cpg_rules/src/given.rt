@@ -91,10 +91,10 @@ fn order_of(alloc: Global, list: &[u32]) -> Result<Order, OutOfMemory>
     Ok(order)
 }
 
-/// The order that a graph without a cycle gives, if it gives one: all processes, each behind the sources of its inputs.
+/// The order that a graph without a cycle gives, if it gives one: all processes, each after the sources of its inputs.
 ///
-/// `Bad` comes exactly if it isn't topological. It tells the least process that is lacking, or if none is lacking, the first
-/// in the list that stands before the source of one of its inputs.
+/// `Bad` comes exactly if it isn't topological. It names the least process that is lacking, or if none is lacking,
+/// the first in the list that stands before the source of one of its inputs.
 pub fn given_order(alloc: Global, problem: &Problem) -> Result<Option<Order>, GivenFault>
     requires { (order : List ℕ) × IsTopological problem.now order }
     ensures given { IfOk result (λ given. given ≡ problem.now.order) }

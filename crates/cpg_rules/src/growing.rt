@@ -44,19 +44,22 @@ pub fn settled(
     standings
 }
 
-/// How many tracks go this way, if there are fewer than most, and else most.
+/// How many tracks go this way, or `most` if there are no fewer.
 pub fn tracks(steps: &[ActivationStep], standings: Standings, most: u32) -> u32
     requires { All (IsStepBelow 128) steps.now }
     ensures { result ≡ min most (tracks_from steps.now standings) }
 {
+    // behind the last step one track is complete
     let Some((step, left)) = steps.split_first() else {
         return most.min(1);
     };
     let activation = step.activation(&standings);
     let first = tracks(left, settled(standings, step, activation, false), most);
+    // the most is reached: the other way needs no count
     if first == most {
         return first;
     }
+    // the process is inactive or has no condition: both values are one way
     if choice(activation, step.condition()).is_none() {
         return first;
     }

@@ -29,17 +29,21 @@ fn found_from(process: u32, steps: &[ActivationStep], standings: Standings) -> O
     requires { All (IsStepBelow 128) steps.now }
     ensures { result ≡ found_from process steps.now standings }
 {
+    // the process isn't on the way
     let Some((step, left)) = steps.split_first() else {
         return None;
     };
+    // here is the process: nothing behind it matters
     if step.process() == process {
         return step.two_live(standings);
     }
     let activation = step.activation(&standings);
     let first = found_from(process, left, settled(standings, step, activation, false));
+    // false comes before true, so what is found with false is the least
     if first.is_some() {
         return first;
     }
+    // the process is inactive or has no condition: there is no other way
     if choice(activation, step.condition()).is_none() {
         return None;
     }
@@ -87,8 +91,10 @@ fn least_of(
     requires process { process < process_count problem.now }
     ensures none { IfOk result (λ found. IfNone found (IsSingleJoin problem.now process)) }
     ensures join { IfOk result (λ found. IfSome found (λ _. IsTrue (process_at problem.now process).join)) }
+    // a scenario that is found is the least in which two inputs of the process are live
     ensures some { IfOk result (λ found. IfSome found (IsLeast problem.now order.now (λ s. has_two_live problem.now s.values process ≡ true))) }
 {
+    // only a join may have at most one live input
     if !problem.processes()[process as usize].join {
         return Ok(None);
     }
@@ -102,8 +108,8 @@ fn least_of(
     }
 }
 
-/// As `least_of`, if these are the parts of the guards: they are looked at first, and the search is made only if they
-/// don't tell that no two inputs are live.
+/// The same result as `least_of`, by the parts of the guards. They are looked at first. The search is made only if they
+/// don't show that no two inputs are live.
 fn least_by(
     alloc: Global,
     problem: &Problem,
@@ -121,8 +127,10 @@ fn least_by(
     ensures more { IfOk result (λ found. Extends parts.old parts.new) }
     ensures none { IfOk result (λ found. IfNone found (IsSingleJoin problem.now process)) }
     ensures join { IfOk result (λ found. IfSome found (λ _. IsTrue (process_at problem.now process).join)) }
+    // a scenario that is found is the least in which two inputs of the process are live
     ensures some { IfOk result (λ found. IfSome found (IsLeast problem.now order.now (λ s. has_two_live problem.now s.values process ≡ true))) }
 {
+    // the parts show that no two inputs are live at once: no search
     if is_single_join(alloc, problem, parts, roots, process)? {
         return Ok(None);
     }
@@ -156,6 +164,7 @@ pub fn least_alternatives(
             steps.as_slice(),
             process,
         )?;
+        // processes are met by number, so this is the least
         if let Some(least) = found {
             return Ok(Some(Alternatives { process, least }));
         }

@@ -1,4 +1,4 @@
-//! The parts of trees, each made once, and what was found of them, so that it is found once.
+//! The parts of trees, each made once, and the answers that were found for them, so that each is found once.
 ghost use Rattle.std.specs.Prelude.{◌≡◌, ◌<◌, ◌||◌, IfOk, IfSome, true, length};
 ghost use Rattle.cpg_base.specs.declared.activation.Activation.TheVariants.{Inactive};
 ghost use Rattle.cpg_order.specs.Guard.{Leaf, Test};
@@ -33,7 +33,7 @@ pub struct SharedPart {
     tree: GuardTree,
 }
 
-/// What is asked of parts, by number.
+/// A question on parts, by their numbers.
 #[derive(Clone, Copy, Debug, PartialEq, Eq)]
 pub enum Ask {
     /// The tree that has the activation where a source is active and a test passes.
@@ -48,14 +48,14 @@ pub enum Ask {
         first: usize,
         second: usize,
     },
-    /// That two are never active at once.
+    /// Whether two are never active at once.
     Apart {
         first: usize,
         second: usize,
     },
 }
 
-/// What is asked, and the number of the part that is the answer, if one is.
+/// A question, and the number of the part that is the answer, if a part is.
 #[derive(Clone, Copy, Debug, PartialEq, Eq)]
 pub struct KnownPart {
     ask: Ask,
@@ -119,7 +119,7 @@ fn are_same_tops(a: PartTop, b: PartTop) -> bool
     }
 }
 
-/// Whether the same is asked.
+/// Whether two questions are equal.
 fn are_same_asks(a: Ask, b: Ask) -> bool
     ensures { result ≡ true → a ≡ b }
 {
@@ -158,7 +158,8 @@ fn are_same_asks(a: Ask, b: Ask) -> bool
     }
 }
 
-/// A place for three numbers, of so many: each is spread over all bits (by 2^64 over the golden ratio), and the high bits count.
+/// A place for three numbers, among as many as there are: each number is spread over all bits (by 2^64 over the
+/// golden ratio), and the high bits count.
 fn hashed_place(first: usize, second: usize, third: usize, count: usize) -> usize {
     let mixed = first
         .wrapping_mul(0x9E37_79B9_7F4A_7C15)
@@ -183,6 +184,7 @@ impl SharedParts {
     pub fn new(alloc: Global, ranks: Vec<u32>) -> Result<SharedParts, OutOfMemory>
         ensures ranks { IfOk result (λ parts. parts.ranks ≡ ranks.items) }
     {
+        // 64 places, doubled for each condition up to six: at most 4,096
         let count = 64usize << ranks.len().min(6);
         let known = vec![in alloc; None; count]?;
         let places = vec![in alloc; 0usize; count]?;
@@ -216,6 +218,7 @@ impl SharedParts {
         requires second { second < length self.now.parts }
         ensures { result ≡ same_guard (tree_at self.now.parts first) (tree_at self.now.parts second) }
     {
+        // the same part has the same tree
         if first == second {
             return true;
         }
@@ -241,6 +244,7 @@ impl SharedParts {
         ensures top { IfSome result (λ n. IsTop self.now.parts top (tree_at self.now.parts n)) }
     {
         let number = *self.places.get(place)?;
+        // no part has this number: the place hasn't been set yet
         if number >= self.parts.len() {
             return None;
         }
@@ -258,13 +262,14 @@ impl SharedParts {
     {
         let number = self.parts.len();
         self.parts.push(SharedPart { top, tree })?;
+        // a part without a place works too: it is made again when it is asked for
         if place < self.places.len() {
             self.places[place] = number;
         }
         Ok(number)
     }
 
-    /// What is known at a place.
+    /// The answer that is known at a place.
     fn known_at(&self, place: usize) -> Option<KnownPart>
         ensures { IsKnown self.now.ranks self.now.parts result }
     {
@@ -274,7 +279,7 @@ impl SharedParts {
         }
     }
 
-    /// The answer at a place to what is asked, if it is there.
+    /// The answer to a question at a place, if it is there.
     fn answer(&self, place: usize, ask: Ask) -> Option<usize>
         ensures { IfSome result (IsAnswer self.now.ranks self.now.parts ask) }
     {
@@ -292,6 +297,7 @@ impl SharedParts {
         ensures parts { self.new.parts ≡ self.old.parts }
         ensures ranks { self.new.ranks ≡ self.old.ranks }
     {
+        // an answer without a place is found again when it is asked for
         if place < self.known.len() {
             self.known[place] = Some(KnownPart { ask, answer });
         }
@@ -303,6 +309,7 @@ impl SharedParts {
     {
         let top = PartTop::Leaf(activation);
         let place = hashed_place(number_of(activation), 0, 0, self.places.len());
+        // a part with this top exists already: it is shared
         if let Some(found) = self.found(place, top) {
             return Ok(found);
         }
@@ -325,6 +332,7 @@ impl SharedParts {
     {
         let top = PartTop::Test { condition, no, yes };
         let place = hashed_place(condition as usize, no, yes, self.places.len());
+        // a part with this top exists already: it is shared
         if let Some(found) = self.found(place, top) {
             return Ok(found);
         }
@@ -347,6 +355,7 @@ impl SharedParts {
         requires yes { yes < length self.old.parts }
         ensures { IfOk result (Makes self.old self.new (tested condition (tree_at self.old.parts no) (tree_at self.old.parts yes))) }
     {
+        // the condition makes no difference: no test is needed
         if self.are_equal(no, yes) {
             return Ok(no);
         }
@@ -363,12 +372,14 @@ impl SharedParts {
     ) -> Result<usize, OutOfMemory>
         ensures { IfOk result (Makes self.old self.new (passing activation test)) }
     {
+        // without a test the activation is there in every outcome
         let Some(test) = test else {
             let leaf = self.leaf(alloc, activation)?;
             return Ok(leaf);
         };
         let live = self.leaf(alloc, activation)?;
         let other = self.leaf(alloc, Activation::Inactive)?;
+        // the activation stands on the side of the value that the test asks for
         if test.value {
             let made = self.tested(alloc, test.condition, other, live)?;
             return Ok(made);
@@ -390,10 +401,12 @@ impl SharedParts {
     {
         match self.top(source) {
             PartTop::Leaf(found) => {
+                // an active source: the input is live as soon as the test passes
                 if found.is_active() {
                     let made = self.passing(alloc, activation, test)?;
                     return Ok(made);
                 }
+                // an inactive source: no input
                 let leaf = self.leaf(alloc, Activation::Inactive)?;
                 Ok(leaf)
             }
@@ -404,9 +417,11 @@ impl SharedParts {
                     source,
                 };
                 let place = hashed_place(source, number_of(activation), 3, self.known.len());
+                // the same question was asked before, and its answer hasn't been overwritten
                 if let Some(answer) = self.answer(place, ask) {
                     return Ok(answer);
                 }
+                // the source is a fork: its sides are taken one by one
                 let low = self.live(alloc, activation, test, no)?;
                 let high = self.live(alloc, activation, test, yes)?;
                 let made = self.tested(alloc, condition, low, high)?;
@@ -428,15 +443,17 @@ impl SharedParts {
     ) -> Result<usize, OutOfMemory>
         requires no { ArePairWithin self.old.parts no.0 no.1 }
         requires yes { ArePairWithin self.old.parts yes.0 yes.1 }
+        // the part that is made has a test of the condition over what the two pairs meet in
         ensures { IfOk result (Makes self.old self.new (tested condition (met_of join self.old no.0 no.1) (met_of join self.old yes.0 yes.1))) }
     {
+        // `no` and `yes` are the two parts to meet if the condition is false, and if it is true
         let low = self.met(alloc, join, no.0, no.1)?;
         let high = self.met(alloc, join, yes.0, yes.1)?;
         let made = self.tested(alloc, condition, low, high)?;
         Ok(made)
     }
 
-    /// As `met`, if it isn't known.
+    /// The same part as `met`, if it isn't known yet.
     #[cycle(meeting)]
     fn walked(
         &mut self,
@@ -450,6 +467,7 @@ impl SharedParts {
     {
         match self.top(first) {
             PartTop::Leaf(found) => {
+                // the first is a leaf: either it decides, or the second does
                 if settles(join, found) {
                     Ok(first)
                 } else {
@@ -457,25 +475,29 @@ impl SharedParts {
                 }
             }
             PartTop::Test { condition, no, yes } => match self.top(second) {
+                // only the first is a fork: the second goes with each of its sides
                 PartTop::Leaf(_) => self.both(alloc, join, condition, (no, second), (yes, second)),
                 PartTop::Test {
                     condition: other,
                     no: low,
                     yes: high,
                 } => {
+                    // both test the same condition: their sides meet
                     if condition == other {
                         return self.both(alloc, join, condition, (no, low), (yes, high));
                     }
+                    // the second tests an earlier condition: its test comes first, and the first goes with both sides
                     if rank(self.ranks.as_slice(), other) < rank(self.ranks.as_slice(), condition) {
                         return self.both(alloc, join, other, (first, low), (first, high));
                     }
+                    // the first tests an earlier condition: its test comes first, and the second goes with both sides
                     self.both(alloc, join, condition, (no, second), (yes, second))
                 }
             },
         }
     }
 
-    /// The first part if it settles the matter, and else the second: both are walked down together, by rank.
+    /// The first part if it settles the matter, or else the second. Both are walked down together, by rank.
     #[cycle(meeting)]
     pub fn met(
         &mut self,
@@ -496,6 +518,7 @@ impl SharedParts {
         if let Some(answer) = self.answer(place, ask) {
             return Ok(answer);
         }
+        // not known yet: both are walked down, and the answer is kept
         let made = self.walked(alloc, join, first, second)?;
         self.keep(place, ask, made);
         Ok(made)
@@ -531,7 +554,7 @@ impl SharedParts {
         self.are_both_live(yes.0, yes.1)
     }
 
-    /// As `are_both_live`, if it isn't known.
+    /// The same answer as `are_both_live`, if it isn't known yet.
     #[cycle(living)]
     fn are_found_live(&mut self, first: usize, second: usize) -> bool
         requires { ArePairWithin self.old.parts first second }
@@ -541,6 +564,7 @@ impl SharedParts {
     {
         match self.top(first) {
             PartTop::Leaf(found) => {
+                // the first is active in every outcome, so the second decides
                 if found.is_active() {
                     return self.is_live_somewhere(second);
                 }
@@ -548,6 +572,7 @@ impl SharedParts {
             }
             PartTop::Test { condition, no, yes } => match self.top(second) {
                 PartTop::Leaf(found) => {
+                    // the second is active in every outcome, so the sides of the first decide: each is asked with it
                     if found.is_active() {
                         return self.is_either_live((no, second), (yes, second));
                     }
@@ -558,9 +583,11 @@ impl SharedParts {
                     no: low,
                     yes: high,
                 } => {
+                    // both test the same condition: their sides are asked in pairs
                     if condition == other {
                         return self.is_either_live((no, low), (yes, high));
                     }
+                    // the second tests an earlier condition, so its sides come first
                     if rank(self.ranks.as_slice(), other) < rank(self.ranks.as_slice(), condition) {
                         return self.is_either_live((first, low), (first, high));
                     }
@@ -580,10 +607,12 @@ impl SharedParts {
     {
         let ask = Ask::Apart { first, second };
         let place = hashed_place(first, second, 2, self.known.len());
+        // only the answer no is kept: an answer that is there says that they are never active at once
         if self.answer(place, ask).is_some() {
             return false;
         }
         let live = self.are_found_live(first, second);
+        // the place of the answer has no number to hold, so it holds that of the first part
         if !live {
             self.keep(place, ask, first);
         }

@@ -1,4 +1,4 @@
-//! The processes along an order, each with what its activation rests on.
+//! The processes along an order, each with the inputs that its activation rests on.
 ghost use Rattle.std.specs.Prelude.{◌≡◌, ◌<◌, ◌≤◌, ◌≢◌, IfOk, All, length, map, get_or, None, Some, if◌then◌else◌};
 ghost use Rattle.std.specs.List.{list_all};
 ghost use Rattle.cpg_base.specs.Graph.{process_count, edge_count, inputs};
@@ -24,7 +24,7 @@ pub struct Input {
     pub when: Option<bool>,
 }
 
-/// A process and what its activation rests on.
+/// A process and the inputs that its activation rests on.
 #[derive(Drop)]
 pub struct ActivationStep {
     process: u32,
@@ -48,8 +48,11 @@ impl Input {
         ensures { result ≡ is_live_in standings.now self.now }
     {
         match standings[self.source as usize] {
+            // the source is inactive
             None => false,
+            // the source is active with this value
             Some(value) => match self.when {
+                // an edge without a test takes every value
                 None => true,
                 Some(wanted) => wanted == value,
             },
@@ -149,12 +152,15 @@ impl ActivationStep {
         ensures { result ≡ activation_in standings.now self.now }
     {
         let inputs = self.inputs.as_slice();
+        // a process without inputs is always active
         if inputs.is_empty() {
             return Activation::Plain;
         }
+        // a join takes its first live input
         if self.join {
             return first_live(inputs, standings);
         }
+        // any other process needs all its inputs
         if are_live(inputs, standings) {
             Activation::Plain
         } else {
@@ -181,6 +187,7 @@ pub fn inputs_of(alloc: Global, problem: &Problem, process: u32) -> Result<Vec<I
 {
     let mut found = Vec::new(alloc);
     for (edge, ends) in problem.edges().iter().enumerate() {
+        // edges are met by number, so the inputs come in that order
         if ends.to == process {
             found.push(Input {
                 edge: edge as u32,
@@ -215,6 +222,7 @@ pub fn steps_of(
     ensures { IfOk result (λ steps. steps.items ≡ map (step_of problem.now) order.now) }
 {
     let mut steps = Vec::new(alloc);
+    // one step for each process; the room for them is taken at once
     steps.reserve(order.len())?;
     for process in order.processes() {
         steps.push(step_of(alloc, problem, *process)?)?;
@@ -222,7 +230,7 @@ pub fn steps_of(
     Ok(steps)
 }
 
-/// What a walk along steps is to tell.
+/// The aim of a walk along steps.
 #[derive(Clone, Copy, Debug, PartialEq, Eq)]
 pub enum Aim {
     /// How the inputs of a process are live.
@@ -236,7 +244,9 @@ fn is_aim(aim: Aim, step: &ActivationStep) -> bool
     ensures { result ≡ is_aim aim step.now }
 {
     match aim {
+        // the process itself, whose inputs are asked for
         Aim::Process(process) => step.process == process,
+        // each process that has a condition, whose value has to be chosen
         Aim::Conditions => step.condition.is_some(),
     }
 }
@@ -252,13 +262,15 @@ fn are_reading(steps: &[ActivationStep], process: u32) -> bool
 fn is_rested(aim: Aim, step: &ActivationStep, later: &[ActivationStep]) -> bool
     ensures { result ≡ is_rested aim step.now later.now }
 {
+    // the walk asks for this step
     if is_aim(aim, step) {
         return true;
     }
+    // else the walk rests on it only if a later step takes an input from it
     are_reading(later, step.process)
 }
 
-/// Those of these steps that a walk rests on.
+/// The steps among these that a walk rests on.
 pub fn rested(
     alloc: Global,
     aim: Aim,
@@ -266,9 +278,11 @@ pub fn rested(
 ) -> Result<Vec<ActivationStep>, OutOfMemory>
     ensures { IfOk result (λ kept. kept.items ≡ rested aim steps.now) }
 {
+    // behind the last step there is nothing
     let Some((step, left)) = steps.split_first() else {
         return Ok(Vec::new(alloc));
     };
+    // later steps first: whether this one is kept depends on those kept behind it
     let mut kept = rested(alloc, aim, left)?;
     if is_rested(aim, step, kept.as_slice()) {
         kept.insert(0, step.copy()?)?;

@@ -22,7 +22,7 @@ use std::marker::Model;
 /// How many tracks a graph has at most.
 const MOST_TRACKS: u32 = cpg_base::MOST_TRACKS as u32;
 
-/// How each process comes to be active, and when each edge is live: seen as the number of conditions, a tree for each
+/// How each process becomes active, and when each edge is live: seen as the number of conditions, a tree for each
 /// process, and a guard for each edge.
 #[derive(Drop)]
 pub struct GuardTrees {
@@ -74,7 +74,7 @@ pub struct SharedGuards {
     pub roots: Vec<usize>,
 }
 
-/// As `guards`, with the parts.
+/// The guards of a graph, by the trees along its urgency order, with the parts of the trees.
 pub fn shared_guards(
     alloc: Global,
     problem: &Problem,
@@ -89,12 +89,15 @@ pub fn shared_guards(
 {
     let count = problem.processes().len();
     let steps = steps_of(alloc, problem, order)?;
+    // tracks are counted along the steps that conditions rest on; the count stops one above the most
     let choosing = rested(alloc, Aim::Conditions, steps.as_slice())?;
     if tracks(choosing.as_slice(), [None; 128], MOST_TRACKS + 1) > MOST_TRACKS {
         return Err(GuardFault::TooManyTracks);
     }
+    // the trees test conditions by their ranks, the places of their processes in the order
     let ranks = ranks_of(alloc, problem, order)?;
     let mut parts = SharedParts::new(alloc, ranks)?;
+    // each process begins with a leaf; then its tree is composed, step by step
     let seeds = seeds(alloc, &mut parts, count)?;
     let roots = composed_along(alloc, problem, &mut parts, steps.as_slice(), seeds)?;
     let trees = trees_of(alloc, &parts, roots.as_slice())?;
@@ -149,6 +152,7 @@ impl GuardTrees {
         requires edge { edge < length self.now.edges }
         requires scenario { length scenario.now.values ≡ self.now.conditions }
         ensures edge { result ≡ live_by self.now scenario.now.values edge }
+        // if these are the guards of a graph, the answer is whether the edge is live in it
         ensures live { (g : Graph) (order : List ℕ) → IsTopological g order → AreGuardsOf g order self.now → result ≡ live g scenario.now.values edge }
     {
         let live = self.is_live(edge, scenario);

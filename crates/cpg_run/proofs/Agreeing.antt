@@ -25,9 +25,11 @@ earlier_place a i f m h =
 module _ (g : Graph) (order : List ℕ) (topological : IsTopological g order) where
   -- two runs of a scenario that agree before a place
   module _ (s : Scenario) (t u : Times) (i : ℕ) (a : AgreeBefore g order t u (i * phases g)) where
+    -- the items of a process before the place have their moments before the place begins
     pub item_before : (x : ℕ) → x < item_count g → place order (producer g x) < i → moment g order x < i * phases g
     item_before x h l = sooner (place order (producer g x)) i (phase (item_at g x)) (phases g) l (phase_below g x h)
 
+    -- the end of a process before the place has its moment before the place begins
     pub end_before : (p : ℕ) → place order p < i → moment_of_end g order p < i * phases g
     end_before p l = sooner (place order p) i 1 (phases g) l (omega arith)
 
@@ -38,6 +40,7 @@ module _ (g : Graph) (order : List ℕ) (topological : IsTopological g order) wh
     end_same : (p : ℕ) → p < process_count g → place order p < i → end_in t p ≡ end_in u p
     end_same p h l = ap (λ o. unwrap_or o 0) (a.ends p h (end_before p l))
 
+    -- a condition that decides a process before the place is heard by a node at the same time in both runs
     heard_same : (node q c : ℕ) → place order q < i → c < condition_count g → decides g s.values q c ≡ true →
         heard_there g t node c ≡ heard_there g u node c
     heard_same node q c l k d =
@@ -59,6 +62,7 @@ module _ (g : Graph) (order : List ℕ) (topological : IsTopological g order) wh
       no_ends = k.no_ends;
     }
 
+    -- a node that is ready by a time in one run is so in the other
     pub ready_same : (node v : ℕ) → IsReady g order s t i node v → IsReady g order s u i node v
     ready_same node v r = record {
       ends = λ q h l on acts. subst (λ n. n ≤ v) (end_same q h l) (r.ends q h l on acts);
@@ -67,12 +71,14 @@ module _ (g : Graph) (order : List ℕ) (topological : IsTopological g order) wh
           (λ q c h l on k d. subst (λ n. n ≤ b) (sym (heard_same node q c l k d)) (y q c h l on k d));
     }
 
+    -- if a node's slots are free from a time on in one run, they are so in the other
     pub free_same : (node v : ℕ) → IsFree g order s t i node v → IsFree g order s u i node v
     free_same node v f = record {
       above = λ y b. subst (λ n. n ≤ v) (after_same node y b) (f.above y b);
       least = λ b h. f.least b (λ y k. subst (λ n. n ≤ b) (sym (after_same node y k)) (h y k));
     }
 
+    -- all that holds before the place in one run holds before it in the other
     at_same : (known : Times) (ready free : List ℕ) → IsAt g order s t i known ready free →
         IsAt g order s u i known ready free
     at_same known ready free at = record {
@@ -81,6 +87,7 @@ module _ (g : Graph) (order : List ℕ) (topological : IsTopological g order) wh
       slots_free = λ node l. free_same node (get_or free node 0) (at.slots_free node l);
     }
 
+  -- what is found before a place stays right if the frozen times of the items before it stay the same
   pub along_same : (frozen others : List (Option ℕ)) (s : Scenario) (i : ℕ) (p : ProgressState)
       → ((x : ℕ) → x < item_count g → place order (producer g x) < i → get_or frozen x None ≡ get_or others x None) →
       IsAlong g order frozen s i p → IsAlong g order others s i p

@@ -12,6 +12,8 @@ use Rattle.cpg_run.proofs.Rules.{run_tables_keep_rules}
 use Rattle.cpg_run.proofs.Rule1.{keeps-1}
 use Rattle.cpg_run.proofs.Rule4.{keeps-4}
 
+-- given tables with the times of the runs, whose cubes are supported
+-- `supported`: each literal of a column that matches lies within what its node has heard.
 module _ (g : Graph) (order : List ℕ) (frozen : List (Option ℕ)) (tables : List NodeTable)
     (given : Given g order frozen tables) (supported : Supported g order tables) where
   kept : KeepsRules g order frozen tables
@@ -22,6 +24,7 @@ module _ (g : Graph) (order : List ℕ) (frozen : List (Option ℕ)) (tables : L
   hears s law x l None = refl
   hears s law x l (Some i) = by_column Rule.Hears g tables s x i (λ c k m. refl)
 
+  -- every rule but the one on dues is kept
   pub all_rules : (rule : Rule) → rule ≢ Rule.Due → Keeps rule g tables
   all_rules Rule.Activity other = keeps-1 g order frozen tables given supported
   all_rules Rule.Single other = kept.single

@@ -14,6 +14,7 @@ use Rattle.cpg_run.specs.Progress.{Knows}
 
 module _ (g : Graph) (order : List ℕ) where
   module _ (topological : IsTopological g order) (frozen : List (Option ℕ)) (s : Scenario) where
+    -- times and ends that are those of a run are the run, with its finish
     same_times : (known t : Times) (finish : ℕ) → known.times ≡ t.times → known.ends ≡ t.ends → finish ≡ t.finish →
         t ≡ record known { finish = finish }
     same_times known t finish times ends same =

@@ -16,13 +16,14 @@ use Rattle.cpg_run.specs.Found.{AreTablesFound, FoundTablesAreBuilt}
 use Rattle.cpg_run.specs.Laws.{NothingIsLate}
 use Rattle.cpg_run.proofs.Written.{lawful}
 
--- under any topological order
+-- an admitted graph is admitted under any topological order
 pub admitted_under : (g : Graph) (urgency order : List ℕ) (guards : Guards) → IsAdmitted g urgency guards →
     IsTopological g order →
     Admitted g urgency order
 admitted_under g urgency order guards a topological =
     record { formed = a.well_formed; joins = a.joins; urgent = a.urgency; topological = topological }
 
+-- such tables have the shape, the rows and the rules that a builder's answer has to have
 built : (g : Graph) (urgency order : List ℕ) (rows : List Row) (b : Built) → IsWithinLimits g →
     (a : Admitted g urgency order) → AreTablesFound g urgency order rows b →
     IsBuiltFor g urgency order b
@@ -49,5 +50,6 @@ built g urgency order rows b within a are =
     late : b.excess ≡ 0 → NothingIsLate g order b.frozen
     late none s t legal run = omega (arith, are.excess.greatest s t legal run, none)
 
+-- tables that are found are what a builder answers with
 pub found_tables_are_built : FoundTablesAreBuilt
 found_tables_are_built g urgency order rows b within a are = built g urgency order rows b within a are

@@ -27,9 +27,11 @@ use Rattle.cpg_run.specs.Carried.{carried_by_item, carried}
 use Rattle.cpg_run.specs.RowLaws.{SameRowsBefore, CarriedRestsOnEarlier}
 use Rattle.cpg_run.proofs.Queued.{producer_no_later}
 
+-- the producer of a message is the source of its edge
 pub producer_of_message : (g : Graph) (e : ℕ) → e < edge_count g → producer g (message_item g e) ≡ source g e
 producer_of_message g e l = ap (producer_of_item g) (item_at-message g e l)
 
+-- the producer of a broadcast is the process of its condition
 pub producer_of_broadcast : (g : Graph) (c : ℕ) → producer g (broadcast_item g c) ≡ process_of g c
 producer_of_broadcast g c = ap (producer_of_item g) (item_at-broadcast g c)
 
@@ -57,13 +59,16 @@ module _ (g : Graph) (order : List ℕ) (topological : IsTopological g order) wh
         omega (arith, ap (place order) (producer_of_message g e l), input_goes_up g order topological p e j),
       )
 
+  -- given two lists of rows that have the same rows of the items from processes before a place
   module _ (rows others : List (List Column)) (bound : ℕ) (same : SameRowsBefore g order bound rows others)
       (s : Scenario) where
+    -- what the row of an earlier item told is the same by both
     told_same : (y : ℕ) → y < item_count g → place order (producer g y) < bound →
         carried_by_row rows s y ≡ carried_by_row others s y
     told_same y l h =
         ap (λ cs. flat_map (λ (c : Column). c.cube) (filter (λ (c : Column). matches c.cube s) cs)) (same y (l, h))
 
+    -- each broadcast that p hears comes from an earlier process, whose rows are the same in both lists
     heard_same : (p : ℕ) → place order p ≤ bound → heard g rows s p ≡ heard g others s p
     heard_same p h = same_flat_map
         (λ c. if node_of g (process_of g c) == node_of g p then [] else carried_by_row rows s (broadcast_item g c))
@@ -73,6 +78,7 @@ module _ (g : Graph) (order : List ℕ) (topological : IsTopological g order) wh
         ap (λ ls. if node_of g (process_of g c) == node_of g p then [] else ls)
         (told_same (broadcast_item g c) r.0 (omega (arith, r.1, h))))
 
+    -- each message that p receives comes from an earlier process, whose rows are the same in both lists
     received_same : (p : ℕ) → place order p ≤ bound → received g rows s p ≡ received g others s p
     received_same p h = same_flat_map
         (λ e. if is_message g e then carried_by_row rows s (message_item g e) else [])
@@ -85,29 +91,35 @@ module _ (g : Graph) (order : List ℕ) (topological : IsTopological g order) wh
     executed_same p h =
         ap (λ ls. (if (process_at g p).frozen then [] else ls) ++ number_known s p ∷ []) (received_same p h)
 
+    -- what a node carries on from a process up to that place is the same by both
     pub passed_same : (p : ℕ) → place order p ≤ bound → passed g rows s p ≡ passed g others s p
     passed_same p h = ap₂ (λ hs es. decided g s p ++ hs ++ (if active g s.values p then es else [])) (heard_same p h)
         (executed_same p h)
 
+    -- what the processes before one on its node carry on is the same by both
     before_same : (p : ℕ) → place order p ≤ bound →
         flat_map (passed g rows s) (before_on_node g order p) ≡ flat_map (passed g others s) (before_on_node g order p)
     before_same p h = same_flat_map (passed g rows s) (passed g others s) (before_on_node g order p)
         (λ q j. passed_same q (omega (arith, (on_node_before g order p q j).1, h)))
 
+    -- what is carried beside the start of a process up to the place is the same by both
     pub start_same : (p : ℕ) → place order p ≤ bound →
         carried_at_start g order rows s p ≡ carried_at_start g order others s p
     start_same p h = ap₂ (λ ps (hr : List Literal × List Literal). if (process_at g p).frozen then decided g s p
         else ps ++ decided g s p ++ hr.0 ++ hr.1) (before_same p h)
         (ap₂ (λ hs rs. (hs, rs)) (heard_same p h) (received_same p h))
 
+    -- what is carried beside the end of a process up to the place is the same by both
     pub end_same : (p : ℕ) → place order p ≤ bound → carried_at_end g order rows s p ≡ carried_at_end g order others s p
     end_same p h = ap (λ ls. ls ++ number_known s p ∷ []) (start_same p h)
 
+    -- what an item of a process up to that place leaves to those behind it is the same by both
     pub queued_same : (y : ℕ) → place order (producer g y) ≤ bound → queued g order rows s y ≡ queued g order others s y
     queued_same y h =
         ap (λ ls. decided g s (producer g y) ++ (if active g s.values (producer g y) then sent_by_value g s y else [])
         ++ (if item_active g s.values (item_at g y) && not (is_frozen g y) then ls else [])) (end_same (producer g y) h)
 
+    -- what is carried beside a send of a process up to the place is the same by both
     send_same : (x : ℕ) → place order (producer g x) ≤ bound →
         carried_at_send g order rows s x ≡ carried_at_send g order others s x
     send_same x h =
@@ -116,6 +128,7 @@ module _ (g : Graph) (order : List ℕ) (topological : IsTopological g order) wh
         (λ y j. queued_same y (omega (arith, producer_no_later g order x y j, h))))
         (end_same (producer g x) h)
 
+    -- what is carried beside an item of a process up to that place is the same by both
     pub carried_same : (x : ℕ) → x < item_count g → place order (producer g x) ≤ bound →
         carried g order rows s x ≡ carried g order others s x
     carried_same x l h = elim (item_cases g x l) [
@@ -130,6 +143,7 @@ module _ (g : Graph) (order : List ℕ) (topological : IsTopological g order) wh
         of_item {i} e same =
             ap (carried_by_item g order rows s x) e ∙ same ∙ sym (ap (carried_by_item g order others s x) e)
 
+-- what is carried beside a time is found in the rows of earlier processes alone
 pub carried_rests_on_earlier : CarriedRestsOnEarlier
 carried_rests_on_earlier g order rows others s x topological l same =
     carried_same g order topological rows others (place order (producer g x)) same s x l (omega arith)

@@ -59,6 +59,7 @@ pub sent_variable : (g : Graph) (x v : ℕ) → Contains (sent_value g (item_at 
     (c : ℕ) × (c < condition_count g) × (v ≡ value_variable c) × (process_of g c ≡ producer g x)
 sent_variable g x v j = of_item (item_at g x) refl j
   where
+    -- by the kind of the item: a start and a broadcast carry no value, a message carries one if its edge asks for it
     of_item : (i : Item) → item_at g x ≡ i → Contains (sent_value g i) v →
         (c : ℕ) × (c < condition_count g) × (v ≡ value_variable c) × (process_of g c ≡ producer g x)
     of_item (Start p) is j = absurd (Contains-nil v j)
@@ -97,7 +98,7 @@ module _ (g : Graph) (order : List ℕ) (rows : List (List Column)) (s : Scenari
     pub decides : Contains (deciding g s.values q) condition
     pub is : m ≡ number_known s (value_variable condition)
 
-  -- what the broadcast of one told, from another node
+  -- what the broadcast of such a condition told, from another node
   pub record FromBroadcast (q : ℕ) (m : Literal) : Type 0 where
     pub condition : ℕ
     pub decides : Contains (deciding g s.values q) condition
@@ -163,6 +164,7 @@ module _ (g : Graph) (order : List ℕ) (rows : List (List Column)) (s : Scenari
       let r = Contains-map_parts (λ (c : ℕ). number_known s (value_variable c)) (deciding g s.values q) m j in
       record { condition = r.0; decides = r.1; is = sym r.2 }
 
+  -- a literal that is heard stands in the row of the broadcast of a condition of another node
   in_heard : (q : ℕ) (m : Literal) → Contains (heard g rows s q) m → FromBroadcast q m
   in_heard q m j =
       let r = Contains-flat_map_parts (λ c. if node_of g (process_of g c) == node_of g q then []
@@ -178,6 +180,7 @@ module _ (g : Graph) (order : List ℕ) (rows : List (List Column)) (s : Scenari
       let t = in_if (is_message g r.0) (carried_by_row rows s (message_item g r.0)) m r.2 in
       record { edge = r.0; input = r.1; message = t.0; row = from_told (message_item g r.0) m t.1 }
 
+  -- what a process before p on its node carries on is of one of the kinds of a process
   in_passed : (p q : ℕ) (m : Literal) → Contains (before_on_node g order p) q → Contains (passed g rows s q) m →
       FromProcess p q m
   in_passed p q m before j = elim (Contains-append_cases (decided g s q ++ heard g rows s q)
@@ -196,6 +199,7 @@ module _ (g : Graph) (order : List ℕ) (rows : List (List Column)) (s : Scenari
       ]
 
   module _ (topological : IsTopological g order) where
+    -- what is carried beside a start that is not frozen is what a process up to it gives
     in_free : (p : ℕ) (m : Literal) → active g s.values p ≡ true → (process_at g p).frozen ≡ false →
         Contains (flat_map (passed g rows s) (before_on_node g order p) ++ decided g s p ++ heard g rows s p
         ++ received g rows s p) m → FromFree p m
@@ -223,6 +227,7 @@ module _ (g : Graph) (order : List ℕ) (rows : List (List Column)) (s : Scenari
         here : FromProcess p p m → FromFree p m
         here f = record { free = free; process = p; stands = up_to_itself g order topological p; told = f }
 
+    -- each literal that is carried beside the start of an active process is of one of the kinds of a start
     pub from_start_of : (p : ℕ) (m : Literal) → active g s.values p ≡ true →
         Contains (carried_at_start g order rows s p) m → FromStart p m
     from_start_of p m on j = elim (cases_Bool (process_at g p).frozen) [
@@ -230,6 +235,7 @@ module _ (g : Graph) (order : List ℕ) (rows : List (List Column)) (s : Scenari
       | inr f ↦ more (in_free p m on f (subst (λ ls. Contains ls m) (cond-false _ _ _ f) j))
     ]
 
+    -- each that is carried beside its end is of a start or is the count of the process
     pub from_end_of : (p : ℕ) (m : Literal) → active g s.values p ≡ true →
         Contains (carried_at_end g order rows s p) m → FromEnd p m
     from_end_of p m on j =
@@ -242,6 +248,7 @@ module _ (g : Graph) (order : List ℕ) (rows : List (List Column)) (s : Scenari
     in_sent x m j = let r = Contains-map_parts (number_known s) (sent_value g (item_at g x)) m j in
         record { variable = r.0; stands = r.1; is = sym r.2 }
 
+    -- an item in the queue leaves what decides its producer, the value it sends, and what its producer's end carries
     in_queued : (y : ℕ) (m : Literal) → Contains (queued g order rows s y) m → FromQueued y m
     in_queued y m j = elim (Contains-append_cases (decided g s (producer g y)
         ++ (if active g s.values (producer g y) then sent_by_value g s y else []))
@@ -261,6 +268,7 @@ module _ (g : Graph) (order : List ℕ) (rows : List (List Column)) (s : Scenari
               (from_end_of (producer g y) m (producer_active g s.values (item_at g y) q.0) r.1)
         ]
 
+    -- each that is carried beside an active send is of one of the kinds of a send
     pub from_send_of : (x : ℕ) (m : Literal) → item_active g s.values (item_at g x) ≡ true →
         Contains (carried_at_send g order rows s x) m → FromSend x m
     from_send_of x m on j = elim (Contains-append_cases
@@ -293,6 +301,7 @@ module _ (g : Graph) (order : List ℕ) (rows : List (List Column)) (s : Scenari
           of_number (value_variable f.condition)
           (inr (omega arith, omega (arith, numbers-Contains (condition_count g) f.condition r.0))) f.is
 
+      -- by where the literal comes from: the value of a condition, a broadcast, a message, or a count of faults
       process_is : (p q : ℕ) → q < process_count g → place order q ≤ bound → FromProcess p q m → IsOf bound m
       process_is p q l at (by_value f) = value_is q f
       process_is p q l at (by_broadcast f) = let e = hears_earlier g order topological s q f.condition f.decides in
@@ -320,6 +329,7 @@ module _ (g : Graph) (order : List ℕ) (rows : List (List Column)) (s : Scenari
       queued_is y l at (left_sent on f) = sent_is y f
       queued_is y l at (left_end on free f) = end_is (producer g y) l at f
 
+      -- by where the literal comes from: what decides the producer, the queue before x, or the producer's end
       send_is : (x : ℕ) → producer g x < process_count g → place order (producer g x) ≤ bound → FromSend x m →
           IsOf bound m
       send_is x l at (of_producer f v) = value_is (producer g x) v
@@ -330,6 +340,8 @@ module _ (g : Graph) (order : List ℕ) (rows : List (List Column)) (s : Scenari
       send_is x l at (of_end free f) = end_is (producer g x) l at f
       send_is x l at (of_value f) = sent_is x f
 
+      -- each literal carried by an active item of a process up to a place is a number of the scenario, or stands in
+      -- an earlier row
       pub carried_is : (x : ℕ) → x < item_count g → place order (producer g x) ≤ bound →
           item_active g s.values (item_at g x) ≡ true → Contains (carried g order rows s x) m → IsOf bound m
       carried_is x l at on j = elim (item_cases g x l) [

@@ -42,12 +42,16 @@ use Rattle.cpg_run.proofs.CarriedFrom.{of_value, sent_variable, from_start_of, f
 use Rattle.cpg_run.proofs.CarryingTimed.{carrying_times, carrying_active}
 use Rattle.cpg_run.proofs.SameSends.{producer_active}
 
+-- given tables whose columns are carrying rows
+-- `z`: the columns of the tables are the rows, and each row carries no more than it may.
 module _ (g : Graph) (urgency order : List ℕ) (frozen : List (Option ℕ)) (rows : List (List Column))
     (tables : List NodeTable) (z : AreTablesCarrying g urgency order frozen rows tables) where
+  -- such tables have the times of the runs
   pub run_times : HasRunTimes g order frozen tables
   run_times s t x law run =
       ap (λ cs. times_in cs s) (z.columns x) ∙ carrying_times g urgency order frozen z.timed rows z.found x s t law run
 
+  -- so the laws of tables that have the times of the runs apply to them
   pub given : Given g order frozen tables
   given = record {
     formed = z.timed.admitted.formed;
@@ -68,6 +72,7 @@ module _ (g : Graph) (urgency order : List ℕ) (frozen : List (Option ℕ)) (ro
     value_known p q m l j f = subst (Contains (known_at_start g order tables s p)) (sym f.is)
         (known_value g order frozen tables given s law urgency z.timed.admitted.urgent p q f.condition l j f.decides)
 
+    -- what a process up to p on its node gives to the start of p is known at that start
     process_known : (p q : ℕ) (m : Literal) → p < process_count g → Contains (up_to g order p) q →
         FromProcess g order rows s p q m →
         Contains (known_at_start g order tables s p) m
@@ -101,11 +106,13 @@ module _ (g : Graph) (urgency order : List ℕ) (frozen : List (Option ℕ)) (ro
         subst (Contains (known_at_start g order tables s p)) (sym is)
         (known_end g order tables s p q (exactly q (number_of s q)) before (told_count g order tables s q c.0 c.1))
 
+    -- what is carried beside a start is known at the start
     start_known : (p : ℕ) (m : Literal) → p < process_count g → FromStart g order rows s p m →
         Contains (known_at_start g order tables s p) m
     start_known p m l (own f) = value_known p p m l (up_to_itself g order z.timed.admitted.topological p) f
     start_known p m l (more f) = process_known p f.process m l f.stands f.told
 
+    -- what is carried beside an end is known at the end
     end_known : (p : ℕ) (m : Literal) → p < process_count g → active g s.values p ≡ true → FromEnd g order rows s p m →
         Contains (known_at_end g order tables s p) m
     end_known p m l on (from_start f) =
@@ -113,6 +120,7 @@ module _ (g : Graph) (urgency order : List ℕ) (frozen : List (Option ℕ)) (ro
     end_known p m l on (its_count is) = subst (Contains (known_at_end g order tables s p)) (sym is)
         (known_count g order frozen tables given s law p l on)
 
+    -- the value by which an item is sent is known at the end of its producer
     sent_known : (x : ℕ) (m : Literal) → active g s.values (producer g x) ≡ true → FromSent g order rows s x m →
         Contains (known_at_end g order tables s (producer g x)) m
     sent_known x m on f =
@@ -134,6 +142,7 @@ module _ (g : Graph) (urgency order : List ℕ) (frozen : List (Option ℕ)) (ro
       | inr is ↦ subst (λ p. Contains (known_at_end g order tables s p) m) (sym is) k
     ]
 
+    -- what an item of a process up to p leaves to those behind it is known at the end of p
     queued_known : (p y : ℕ) (m : Literal) → p < process_count g → producer g y < process_count g →
         Contains (up_to g order p) (producer g y) →
         FromQueued g order rows s y m →
@@ -144,6 +153,7 @@ module _ (g : Graph) (urgency order : List ℕ) (frozen : List (Option ℕ)) (ro
     queued_known p y m l n j (left_end on free f) =
         end_grows p (producer g y) m j (end_known (producer g y) m n (producer_active g s.values (item_at g y) on) f)
 
+    -- what is carried beside a send is known at the end of its producer
     send_known : (x : ℕ) (m : Literal) → x < item_count g → is_sent g x ≡ true →
         item_active g s.values (item_at g x) ≡ true →
         FromSend g order rows s x m →
@@ -183,6 +193,7 @@ module _ (g : Graph) (urgency order : List ℕ) (frozen : List (Option ℕ)) (ro
           (subst (λ i. Contains (carried_by_item g order rows s x i) m) c.3 j)))
     ]
 
+  -- in each scenario the literals of a column that matches are supported by what its node knows
   pub supported : Supported g order tables
   supported s law x l c j =
       let r = Contains-filter_parts (λ (c : Column). matches c.cube s) (columns_of tables x) c j in

@@ -73,6 +73,9 @@ narrower_spoken k cube m rising i part within literals kept =
           ])
     ]
 
+-- given carrying rows and the reach of the graph
+-- `timed`: the graph is admitted, and `frozen` has its frozen times. `all`: each row carries no more than it may.
+-- `is`: r is the reach, the variables on which the time of an item may depend.
 module _ (g : Graph) (urgency order : List ℕ) (frozen : List (Option ℕ)) (timed : IsTimed g urgency order frozen)
     (rows : List (List Column)) (all : AreCarrying g urgency order frozen rows)
     (r : Reach) (is : IsReach g order r) where
@@ -89,6 +92,7 @@ module _ (g : Graph) (urgency order : List ℕ) (frozen : List (Option ℕ)) (ti
   start_by_rule p v l j = by_rule p v (omega (arith, l))
       (subst (λ i. Contains (reach_by_item g order r p i) v) (sym (item_at-start g p l)) j)
 
+  -- the reach of a message or a broadcast is that of its send
   sent_reach : (x v : ℕ) (i : Item) → is_sent_item g i ≡ true → Contains (send_reach g order r x) v →
       Contains (reach_by_item g order r x i) v
   sent_reach x v (Start p) e j = absurd (true≢false (sym e))
@@ -107,12 +111,14 @@ module _ (g : Graph) (urgency order : List ℕ) (frozen : List (Option ℕ)) (ti
   inputs_part : ℕ → List ℕ
   inputs_part p = flat_map (input_reach g r) (inputs g p)
 
+  -- the reach of a start that is not frozen has all of these parts
   free_reach : (p v : ℕ) → (process_at g p).frozen ≡ false →
       Contains (conditions_part p ++ ends_part p ++ inputs_part p) v →
       Contains (start_reach g order r p) v
   unfolding conditions_part ends_part inputs_part
   free_reach p v free j = subst (λ vs. Contains vs v) (sym (cond-false _ _ _ free)) j
 
+  -- it has the conditions of each process up to it on its node, and the reach of their hearing
   of_conditions : (p q c v : ℕ) → (process_at g p).frozen ≡ false → Contains (up_to g order p) q →
       Contains (conditions_of g q) c →
       Contains (value_variable c ∷ hearing_reach g r (node_of g p) c) v →
@@ -124,6 +130,7 @@ module _ (g : Graph) (urgency order : List ℕ) (frozen : List (Option ℕ)) (ti
       (flat_map (conditions_of g) (before_on_node g order p ++ p ∷ [])) c v
       (Contains-flat_map (conditions_of g) (before_on_node g order p ++ p ∷ []) q c j d) i)))
 
+  -- it has the reach of each end before it on its node
   of_ends : (p q v : ℕ) → (process_at g p).frozen ≡ false → Contains (before_on_node g order p) q →
       Contains (end_reach r q) v →
       Contains (start_reach g order r p) v
@@ -133,6 +140,7 @@ module _ (g : Graph) (urgency order : List ℕ) (frozen : List (Option ℕ)) (ti
       (Contains-append_right (conditions_part p) (ends_part p) v
       (Contains-flat_map (end_reach r) (before_on_node g order p) q v j i)))
 
+  -- it has the reach of each message to its process
   of_message : (p e v : ℕ) → (process_at g p).frozen ≡ false → Contains (inputs g p) e → is_message g e ≡ true →
       Contains (reach_of r (message_item g e)) v →
       Contains (start_reach g order r p) v
@@ -167,6 +175,7 @@ module _ (g : Graph) (urgency order : List ℕ) (frozen : List (Option ℕ)) (ti
     value_in q f = variable_of (value_variable f.condition) (map value_variable (conditions_of g q)) f.is
         (Contains-map value_variable (conditions_of g q) f.condition (condition_in q f.condition f.decides))
 
+    -- what a process up to p on its node gives to the start of p is on the reach of that start
     process_in : (p q : ℕ) → p < process_count g → place order p ≤ bound → (process_at g p).frozen ≡ false →
         Contains (up_to g order p) q →
         FromProcess g order rows s p q m →
@@ -198,6 +207,7 @@ module _ (g : Graph) (urgency order : List ℕ) (frozen : List (Option ℕ)) (ti
         of_ends p q m.variable free before
         (variable_of q (end_reach r q) e (Contains-append_right (reach_of r q) (q ∷ []) q (Contains-first q [])))
 
+    -- a frozen process has its conditions on its reach by one rule, any other by the rule for all that decides it
     own_in : (p : ℕ) → FromValue g order rows s p m → Contains (start_reach g order r p) m.variable
     own_in p f = elim (cases_Bool (process_at g p).frozen) [
       | inl b ↦ subst (λ vs. Contains vs m.variable) (sym (cond-true _ _ _ b)) (value_in p f)
@@ -208,11 +218,13 @@ module _ (g : Graph) (urgency order : List ℕ) (frozen : List (Option ℕ)) (ti
           (Contains-first (value_variable f.condition) (hearing_reach g r (node_of g p) f.condition)))
     ]
 
+    -- what is carried beside a start is on the reach of the start
     start_in : (p : ℕ) → p < process_count g → place order p ≤ bound → FromStart g order rows s p m →
         Contains (start_reach g order r p) m.variable
     start_in p l at (own f) = own_in p f
     start_in p l at (more f) = process_in p f.process l at f.free f.stands f.told
 
+    -- what is carried beside an end is on the reach of the end
     end_in_reach : (p : ℕ) → p < process_count g → place order p ≤ bound → FromEnd g order rows s p m →
         Contains (end_reach r p) m.variable
     end_in_reach p l at (from_start f) =
@@ -232,6 +244,7 @@ module _ (g : Graph) (urgency order : List ℕ) (frozen : List (Option ℕ)) (ti
         (end_reach r (producer g x) ++ flat_map (reach_of r) (queued_before g order x)))
         (sent_value g (item_at g x)) v j
 
+    -- the reach of a send that is not frozen has the reach of its producer's end
     of_producers_end : (x v : ℕ) → is_frozen g x ≡ false → Contains (end_reach r (producer g x)) v →
         Contains (send_reach g order r x) v
     unfolding front
@@ -239,6 +252,7 @@ module _ (g : Graph) (urgency order : List ℕ) (frozen : List (Option ℕ)) (ti
         (subst (λ vs. Contains vs v) (sym (cond-false _ _ _ free))
         (Contains-append_left (end_reach r (producer g x)) (flat_map (reach_of r) (queued_before g order x)) v j))
 
+    -- it has the reach of each item before it in the queue
     of_queue_before : (x y v : ℕ) → is_frozen g x ≡ false → Contains (queued_before g order x) y →
         Contains (reach_of r y) v →
         Contains (send_reach g order r x) v
@@ -265,6 +279,7 @@ module _ (g : Graph) (urgency order : List ℕ) (frozen : List (Option ℕ)) (ti
           (producer g x ∷ []) m.variable (start_by_rule (producer g x) m.variable l (own_in (producer g x) f)))
     ]
 
+    -- what an item leaves to those behind it is on the reach of its send
     queued_in : (y : ℕ) → producer g y < process_count g → place order (producer g y) ≤ bound →
         FromQueued g order rows s y m →
         Contains (send_reach g order r y) m.variable
@@ -272,6 +287,7 @@ module _ (g : Graph) (urgency order : List ℕ) (frozen : List (Option ℕ)) (ti
     queued_in y l at (left_sent on f) = sent_in y f
     queued_in y l at (left_end on free f) = of_producers_end y m.variable free (end_in_reach (producer g y) l at f)
 
+    -- what is carried beside a send is on the reach of the send
     send_in : (x : ℕ) → x < item_count g → is_sent g x ≡ true → place order (producer g x) ≤ bound →
         FromSend g order rows s x m →
         Contains (send_reach g order r x) m.variable
@@ -286,6 +302,7 @@ module _ (g : Graph) (urgency order : List ℕ) (frozen : List (Option ℕ)) (ti
         (end_in_reach (producer g x) (producer_in_range g order timed.admitted.topological x l) at f)
     send_in x l e at (of_value f) = sent_in x f
 
+    -- what is carried beside an item is on its reach
     carried_in : (x : ℕ) → x < item_count g → place order (producer g x) ≤ bound →
         item_active g s.values (item_at g x) ≡ true →
         Contains (carried g order rows s x) m →
@@ -311,6 +328,7 @@ module _ (g : Graph) (urgency order : List ℕ) (frozen : List (Option ℕ)) (ti
 
   -- ---- rows, process after process
 
+  -- if the rows of earlier items speak of their reach, so does the row of the item
   row_speaks : (bound x : ℕ) → SpeakOfReach bound → x < item_count g → place order (producer g x) ≤ bound →
       (c : Column) → Contains (row_at rows x) c → (m : Literal) →
       Contains c.cube m →
@@ -332,6 +350,7 @@ module _ (g : Graph) (urgency order : List ℕ) (frozen : List (Option ℕ)) (ti
       (row.carries s c least.1.lawful j least.1.holds) in
       subst (Contains (reach_of r x)) told.2 (carried_in s least.1.lawful bound speak told.0 x l at on told.1)
 
+  -- the rows of all items of earlier processes speak of their reach
   speak_below : (n bound : ℕ) → bound ≤ n → SpeakOfReach bound
   unfolding SpeakOfReach
   speak_below zero bound h y e c j m i = absurd (omega (arith, e.1, h))

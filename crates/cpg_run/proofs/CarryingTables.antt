@@ -19,9 +19,14 @@ use Rattle.cpg_run.specs.Carrying.{AreTablesCarrying, CarryingTablesAreLawful}
 use Rattle.cpg_run.proofs.CarryingKnown.{run_times, given, supported}
 use Rattle.cpg_run.proofs.CarryingReach.{rows_in_reach}
 
+-- given tables whose columns are carrying rows, and the reach of the graph
+-- `z`: the columns of the tables are the rows, and each row carries no more than it may. `is`: r is the graph's
+-- reach, the variables on which the time of an item may depend.
 module _ (g : Graph) (urgency order : List ℕ) (frozen : List (Option ℕ)) (rows : List (List Column))
     (tables : List NodeTable) (z : AreTablesCarrying g urgency order frozen rows tables) (r : Reach)
     (is : IsReach g order r) where
+  -- each row is formed: its literals are on the item's reach, none is whole, and its columns match something, in
+  -- order
   row_formed : (x : ℕ) → x < item_count g → IsFormed g urgency (reach_of r x) (row_at rows x)
   row_formed x l = record {
     in_reach = every (λ (c : Column). All (λ (m : Literal). Contains (reach_of r x) m.variable) c.cube) (row_at rows x)
@@ -43,12 +48,14 @@ module _ (g : Graph) (urgency order : List ℕ) (frozen : List (Option ℕ)) (ro
   rules = all_rules g order frozen tables (given g urgency order frozen rows tables z)
       (supported g urgency order frozen rows tables z)
 
+  -- an item has no more columns than its reach has views
   within_views : process_count g ≤ 128 → (x : ℕ) → x < item_count g →
       length (columns_of tables x) ≤ views g (reach_of r x)
   within_views few x l = columns_within_views g few (reach_of r x) urgency (columns_of tables x) (exact.formed x l)
       (row_keeps g tables x (λ s i lawful.
       (rules Rule.Activity (λ e. cc) s lawful x l (Some i), rules Rule.Single (λ e. cc) s lawful x l (Some i))))
 
+-- tables of carrying rows are exact, supported and lawful, and no wider than the views allow
 pub carrying_tables_are_lawful : CarryingTablesAreLawful
 carrying_tables_are_lawful g urgency order frozen rows tables r z is = record {
   exact = exact g urgency order frozen rows tables z r is;

@@ -1,5 +1,5 @@
--- Carrying rows have the times of the runs; a column of theirs matches only if its item is active, so what never is has
--- none.
+-- Carrying rows have the times of the runs. A column of theirs matches only if its item is active, so an item that is
+-- never active has no column.
 use Rattle.std.proofs.Common.{ℕ, ◌<◌, ◌≤◌, ◌≡◌, true, false, List, [], ◌∷◌, length, filter, get_or, Contains, Option}
 use Rattle.std.proofs.Common.{None, option_to_list, arith, refl, sym, ap, ◌∙◌, subst, inl, inr}
 use Rattle.std.proofs.lemmas.Bool.{cases_lt, both_ways}
@@ -21,6 +21,8 @@ use Rattle.cpg_run.specs.Carried.{row_at}
 use Rattle.cpg_run.specs.RowLaws.{IsTimed, HaveTimesOf}
 use Rattle.cpg_run.specs.Carrying.{AreCarrying}
 
+-- given carrying rows
+-- `timed`: the graph is admitted, and `frozen` has its frozen times. `all`: each row carries no more than it may.
 module _ (g : Graph) (urgency order : List ℕ) (frozen : List (Option ℕ)) (timed : IsTimed g urgency order frozen)
     (rows : List (List Column)) (all : AreCarrying g urgency order frozen rows) where
   -- beyond the items there is nothing
@@ -32,12 +34,14 @@ module _ (g : Graph) (urgency order : List ℕ) (frozen : List (Option ℕ)) (ti
   time_past s t run x l = get_or_past t.times x None
       (omega (arith, ap length run.times, length-map-range_with_len (time_by g order frozen s t) 0 (item_count g), l))
 
+  -- every row has the times of the runs
   pub carrying_times : (x : ℕ) → HaveTimesOf g order frozen x (row_at rows x)
   carrying_times x s t law run = elim (cases_lt x (item_count g)) [
     | inl l ↦ (all.each x l).times s t law run
     | inr past ↦ ap (λ cs. times_in cs s) (row_past x past) ∙ sym (ap option_to_list (time_past s t run x past))
   ]
 
+  -- a column matches only in scenarios in which its item is active
   pub carrying_active : (x : ℕ) (c : Column) → Contains (row_at rows x) c → (s : Scenario) → IsScenario g s →
       matches c.cube s ≡ true →
       (x < item_count g) ×
@@ -50,6 +54,7 @@ module _ (g : Graph) (urgency order : List ℕ) (frozen : List (Option ℕ)) (ti
       (subst (λ ns. Contains ns c.time) (carrying_times x s r.0 law r.1) there)) in
       (parts.0, parts.1)
 
+  -- an item that is active in no scenario has no column
   pub never_columns : (x : ℕ) → ((s : Scenario) → IsScenario g s → item_active g s.values (item_at g x) ≡ false) →
       row_at rows x ≡ []
   never_columns x never = elim (cases_lt x (item_count g)) [

@@ -32,35 +32,41 @@ use Rattle.cpg_run.specs.Rows.{IsCubeOf}
 -- ---- literals that all hold in a scenario
 
 module _ (u : Scenario) where
+  -- the first of two lists of literals holds if both hold together
   pub holds_left : (xs ys : List Literal) → matches (xs ++ ys) u ≡ true → matches xs u ≡ true
   holds_left xs ys h = all_from (holds u) xs (λ m j. from_all (holds u) (xs ++ ys) m h (Contains-append_left xs ys m j))
 
+  -- the second of two lists of literals holds if both hold together
   pub holds_right : (xs ys : List Literal) → matches (xs ++ ys) u ≡ true → matches ys u ≡ true
   holds_right xs ys h =
       all_from (holds u) ys (λ m j. from_all (holds u) (xs ++ ys) m h (Contains-append_right xs ys m j))
 
+  -- if the literals of all elements hold, those of each element hold
   pub holds_each : {X : Type 0} (f : X → List Literal) (xs : List X) (x : X) → matches (flat_map f xs) u ≡ true →
       Contains xs x →
       matches (f x) u ≡ true
   holds_each f xs x h j =
       all_from (holds u) (f x) (λ m i. from_all (holds u) (flat_map f xs) m h (Contains-flat_map f xs x m j i))
 
+  -- if two lists of literals hold, they hold together
   pub holds_both : (xs ys : List Literal) → matches xs u ≡ true → matches ys u ≡ true → matches (xs ++ ys) u ≡ true
   holds_both xs ys h k = all_from (holds u) (xs ++ ys) (λ m j. elim (Contains-append_cases xs ys m j) [
     | inl i ↦ from_all (holds u) xs m h i
     | inr i ↦ from_all (holds u) ys m k i
   ])
 
+  -- if the literals of each element hold, those of all elements hold together
   pub holds_all : {X : Type 0} (f : X → List Literal) (xs : List X) →
       ((x : X) → Contains xs x → matches (f x) u ≡ true) →
       matches (flat_map f xs) u ≡ true
   holds_all f xs h = all_from (holds u) (flat_map f xs)
       (λ m j. let r = Contains-flat_map_parts f xs m j in from_all (holds u) (f r.0) m (h r.0 r.1) r.2)
 
-  -- what was known of another scenario is so here
+  -- a number that is known of another scenario, and holds here, is the same here
   pub same_number : (s : Scenario) (v : ℕ) → holds u (number_known s v) ≡ true → number_of u v ≡ number_of s v
   same_number s v h = omega (arith, holds-low u (number_known s v) h, holds-high u (number_known s v) h)
 
+  -- numbers that are known of another scenario, and hold here, are the same here
   pub same_numbers : (s : Scenario) (vs : List ℕ) → matches (map (number_known s) vs) u ≡ true → (v : ℕ) →
       Contains vs v →
       number_of u v ≡ number_of s v
@@ -71,6 +77,7 @@ module _ (u : Scenario) where
   pub number_holds : (v : ℕ) → holds u (number_known u v) ≡ true
   number_holds v = holds-from u (number_known u v) (omega arith) (omega arith)
 
+-- no number of a scenario is above the top of its variable
 pub number_at_most : (g : Graph) → process_count g ≤ 128 → (s : Scenario) → IsScenario g s → (v : ℕ) →
     number_of s v ≤ top g.faults v
 number_at_most g few s law v = elim (variable_or_not g v) [
@@ -80,9 +87,10 @@ number_at_most g few s law v = elim (variable_or_not g v) [
 
 -- ---- what a cube of literals matches
 
+-- given a cube of literals and a scenario
 module _ (g : Graph) (few : process_count g ≤ 128) (literals cube : List Literal) (is : IsCubeOf g.faults literals cube)
     (s : Scenario) (law : IsScenario g s) where
-  -- a scenario in which the literals hold
+  -- the cube matches each scenario in which the literals hold
   pub cube_matches : matches literals s ≡ true → matches cube s ≡ true
   cube_matches h = all_from (holds s) cube (λ l j.
       let v : ℕ = l.variable in
@@ -107,7 +115,7 @@ module _ (g : Graph) (few : process_count g ≤ 128) (literals cube : List Liter
         high_in-ge g.faults cube s v (number_at_most g few s law v) h,
       )))
 
--- its literals don't go past the whole range
+-- the literals of a cube lie within the whole ranges of their variables
 pub cube_within : (k : ℕ) (literals cube : List Literal) → IsCubeOf k literals cube → (l : Literal) → Contains cube l →
     l.high ≤ top k l.variable
 cube_within k literals cube is l j =

@@ -10,6 +10,7 @@ use Rattle.cpg_order.proofs.Moments.{moment_before_last}
 use Rattle.cpg_run.specs.Known.{AreEarly}
 use Rattle.cpg_run.proofs.Rising.{AreLow, last_le}
 
+-- frozen times no later than their items could be, above a base of 0, are below 2 ^ 58
 pub early_from_low : (g : Graph) (order : List ℕ) (frozen : List (Option ℕ)) → IsWithinLimits g →
     IsTopological g order → length frozen ≡ item_count g → AreLow 0 g order frozen → AreEarly frozen
 early_from_low g order frozen within topological count low x time e = elim (cases_lt x (item_count g)) [

@@ -46,11 +46,13 @@ end_below g order frozen s t run p n e =
     omega (arith, run.finish, greatest_above (flat_map option_to_list t.ends) n (in_list t.ends p n e))
 
 module _ (g : Graph) (order : List ℕ) (top : IsTopological g order) where
+  -- if the graph has a process, one of its processes is active
   some_active : (o : List Bool) (n p : ℕ) → place order p < n → p < process_count g →
       (q : ℕ) × (q < process_count g) × (active g o q ≡ true)
   some_active o zero p m l = absurd (omega arith)
   some_active o (suc n) p m l = go (some_active o n) (inputs g p) refl
     where
+      -- by the inputs of p: if there are none, p itself is the process; else the source of the first is earlier
       go : ((q : ℕ) → place order q < n → q < process_count g →
           (r : ℕ) × (r < process_count g) × (active g o r ≡ true)) →
           (es : List ℕ) → inputs g p ≡ es → (q : ℕ) × (q < process_count g) × (active g o q ≡ true)
@@ -65,6 +67,7 @@ module _ (g : Graph) (order : List ℕ) (top : IsTopological g order) where
           (source_in_order g order top f (inputs_parts g p f k).0)
 
   module _ (frozen : List (Option ℕ)) (s : Scenario) (t : Times) (run : IsRun g order frozen s t) where
+    -- if a graph has processes, one of them ends at the finish
     pub finish_is_end : 0 < process_count g → (p : ℕ) × (p < process_count g) × (get_or t.ends p None ≡ Some t.finish)
     finish_is_end pos =
         let a = some_active s.values (suc (place order 0)) 0 (omega arith) pos in

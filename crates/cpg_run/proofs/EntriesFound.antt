@@ -27,6 +27,7 @@ not_before_place {X} xs i d apart l j =
     apart j.0 i d below l
     (get_or_default xs j.0 d x (omega (arith, below, l)) ∙ sym (get_or-take i xs j.0 x below) ∙ j.2)
 
+-- given the rows and an item x, whose entries are found scenario by scenario
 module _ (g : Graph) (order : List ℕ) (frozen : List (Option ℕ)) (rows : List (List Column)) (x : ℕ) where
   -- the entries of the scenarios so far
   pub record AreEntriesAmong (done : List Scenario) (entries : List Column) : Type 0 where
@@ -36,6 +37,7 @@ module _ (g : Graph) (order : List ℕ) (frozen : List (Option ℕ)) (rows : Lis
     pub all : (s : Scenario) (e : Column) → Contains done s → IsEntryIn g order frozen rows x s e → lows g e.cube ≡ s →
         Contains (map (λ d. lows g d.cube) entries) s
 
+  -- before the first scenario there are no entries
   pub none_yet : AreEntriesAmong [] []
   none_yet = record {
     each = λ e j. absurd (Contains-nil e j);
@@ -45,7 +47,7 @@ module _ (g : Graph) (order : List ℕ) (frozen : List (Option ℕ)) (rows : Lis
   }
 
   module _ (done : List Scenario) (entries : List Column) (so_far : AreEntriesAmong done entries) (s : Scenario) where
-    -- one that is the least of no cube of its own
+    -- a scenario that is the least of no cube of its own is passed over
     pass_over : ((e : Column) → IsEntryIn g order frozen rows x s e → lows g e.cube ≡ s → ⊥) →
         AreEntriesAmong (done ++ s ∷ []) entries
     pass_over never = record {
@@ -69,7 +71,7 @@ module _ (g : Graph) (order : List ℕ) (frozen : List (Option ℕ)) (rows : Lis
     passed_other cube is other =
         pass_over (λ e entry least. other (same_least g (carried g order rows s x) cube e.cube is entry.cube ∙ least))
 
-    -- one that is has this entry
+    -- a scenario that is the least of its cube has this entry
     pub taken : (e : Column) → IsEntryIn g order frozen rows x s e → lows g e.cube ≡ s → (Contains done s → ⊥) →
         AreEntriesAmong (done ++ s ∷ []) (entries ++ e ∷ [])
     taken e is least new = record {

@@ -32,11 +32,13 @@ use Rattle.cpg_run.proofs.SameSends.{carried_decides}
 
 -- ---- lists
 
+-- a property of each element is one of all
 pub every : {X : Type 0} (P : X → Type 0) (xs : List X) → ((x : X) → Contains xs x → P x) → All P xs
 every P xs h k d l = h (get_or xs k d) (Contains-get_or xs k d l)
 
 -- at most one element passes of a list of which no two pass
 module _ {X : Type 0} (R : X → X → Type 0) (p : X → Bool) where
+  -- no two elements of `ys` pass together, so there is at most one
   two_at_most : (xs ys : List X) → ((y : X) → Contains ys y → Contains xs y × (p y ≡ true)) → AllPairs R ys →
       ((x y : X) → Contains xs x → Contains xs y → p x ≡ true → p y ≡ true → R x y → ⊥) →
       length ys ≤ 1
@@ -47,12 +49,14 @@ module _ {X : Type 0} (R : X → X → Type 0) (p : X → Bool) where
       let b = from z (Contains-rest y (z ∷ ys) z (Contains-first z ys)) in
       absurd (never y z a.0 b.0 a.1 b.1 (pairs 0 1 y (omega arith) (omega arith)))
 
+  -- if no two elements pass, at most one does
   pub one_passes : (xs : List X) → AllPairs R xs →
       ((x y : X) → Contains xs x → Contains xs y → p x ≡ true → p y ≡ true → R x y → ⊥) →
       length (filter p xs) ≤ 1
   one_passes xs pairs never =
       two_at_most xs (filter p xs) (λ y j. Contains-filter_parts p xs y j) (AllPairs-filter R p xs pairs) never
 
+-- a list of at most one element has no other than the one that is known to be in it
 pub the_one : {X : Type 0} (xs : List X) (x : X) → length xs ≤ 1 → Contains xs x → xs ≡ x ∷ []
 the_one [] x l j = absurd (Contains-nil x j)
 the_one (y ∷ []) x l j =
@@ -61,16 +65,23 @@ the_one (y ∷ z ∷ xs) x l j = absurd (omega arith)
 
 -- ---- the cube of what is carried in a scenario
 
+-- given an item whose earlier rows have the times of the runs
+-- `timed`: the graph is admitted, and `frozen` has its frozen times. `earlier`: the rows of the items before x have
+-- the times of the runs.
 module _ (g : Graph) (urgency order : List ℕ) (frozen : List (Option ℕ)) (rows : List (List Column)) (x : ℕ)
     (timed : IsTimed g urgency order frozen) (l : x < item_count g)
     (earlier : AreRowsFor g order frozen x rows) where
   few : process_count g ≤ 128
   few = timed.admitted.formed.few_processes
 
+  -- what is carried in a scenario holds in it
   holds_here : (s : Scenario) → item_active g s.values (item_at g x) ≡ true →
       matches (carried g order rows s x) s ≡ true
   holds_here s on = carried_holds g order rows s timed.admitted.topological few x l on
 
+  -- given a scenario in which the item is active, and a cube of what is carried there
+  -- `on`: the item is active in s. `is`: the cube has the ranges of the literals that are carried in s, and no
+  -- others.
   module _ (s : Scenario) (law : IsScenario g s) (on : item_active g s.values (item_at g x) ≡ true)
       (cube : List Literal) (is : IsCubeOf g.faults (carried g order rows s x) cube) where
     -- it is a cube of the graph, which matches the scenario
@@ -82,9 +93,11 @@ module _ (g : Graph) (urgency order : List ℕ) (frozen : List (Option ℕ)) (ro
           (carried_known g order rows s timed.admitted.topological few x l earlier.cubes on r.0 r.1));
     }
 
+    -- the cube matches its own scenario
     pub cube_own : matches cube s ≡ true
     cube_own = cube_matches g few (carried g order rows s x) cube is s law (holds_here s on)
 
+    -- some scenario of the graph matches it
     pub cube_met : is_met g.faults cube ≡ true
     cube_met = met_by g few cube cube_known s law cube_own
 
@@ -135,6 +148,7 @@ module _ (g : Graph) (urgency order : List ℕ) (frozen : List (Option ℕ)) (ro
           let r = a_run g order frozen (lows g e.cube) timed.admitted.topological in
           sym ((entry_same u lu h).time r.0 w r.1 other) ∙ (are.each e j).time r.0 r.1
 
+      -- the cube of an entry that matches is that of what is carried in the scenario
       pub entry_cube : (u : Scenario) → IsScenario g u → matches e.cube u ≡ true →
           IsCubeOf g.faults (carried g order rows u x) e.cube
       entry_cube = let a = are.each e j in cube_there_too (lows g e.cube) a.lawful a.active e.cube a.cube
@@ -146,7 +160,7 @@ module _ (g : Graph) (urgency order : List ℕ) (frozen : List (Option ℕ)) (ro
         (λ d e i j h k ne.
         ne (same_least g (carried g order rows u x) d.cube e.cube (entry_cube d i u lu h) (entry_cube e j u lu k)))
 
-    -- one does if the item is active
+    -- if the item is active, one of the entries matches
     a_match : (u : Scenario) (w : Times) → IsScenario g u → IsRun g order frozen u w →
         item_active g u.values (item_at g x) ≡ true →
         (e : Column) × Contains entries e × (matches e.cube u ≡ true)
@@ -173,6 +187,7 @@ module _ (g : Graph) (urgency order : List ℕ) (frozen : List (Option ℕ)) (ro
             (run_unique g order timed.admitted.topological frozen u w t other run)
             (has_time g order frozen u w other x l on)
 
+    -- entries have the times of the runs
     pub entries_times : HaveTimesOf g order frozen x entries
     entries_times u w lu other = elim (cases_Bool (item_active g u.values (item_at g x))) [
       | inl on ↦
@@ -192,6 +207,7 @@ module _ (g : Graph) (urgency order : List ℕ) (frozen : List (Option ℕ)) (ro
           ∙ sym (ap option_to_list (time_is g order frozen u w other x l ∙ cond-false _ _ _ off))
     ]
 
+    -- entries can be merged
     pub entries_mergeable : AreMergeable g entries
     entries_mergeable = record {
       cubes = every (λ (c : Column). IsCube g c.cube) entries entry_known;
@@ -207,6 +223,7 @@ module _ (g : Graph) (urgency order : List ℕ) (frozen : List (Option ℕ)) (ro
       );
     }
 
+-- entries can be merged and have the times of the runs
 pub entries_have_times : EntriesHaveTimes
 entries_have_times g urgency order frozen rows x entries timed l earlier are = (
   entries_mergeable g urgency order frozen rows x timed l earlier entries are,

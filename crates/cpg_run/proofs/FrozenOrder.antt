@@ -72,6 +72,7 @@ module _ (g : Graph) (order : List ℕ) (topological : IsTopological g order) wh
   listed p x k c = made_by p x (from_order (process_count g) order topological.all p k)
       (Contains-filter_parts (is_frozen g) (p ∷ queue_of g p) x c).0
 
+  -- the items of one process rise by `items_rise`, and those of different processes by the places in the order
   all_rise : Rises Sooner (frozen_along g order)
   all_rise = Rises-flat_map Sooner (frozen_items_of g) order
       (λ p c. items_rise p (from_order (process_count g) order topological.all p c))
@@ -95,6 +96,7 @@ module _ (g : Graph) (order : List ℕ) (topological : IsTopological g order) wh
       moment g order (get_or items i 0) < moment g order (get_or items j 0)
   later_moment items is i j l m = rises_at Sooner items (subst (Rises Sooner) (sym is) all_rise) i j 0 l m
 
+  -- the items along the order are frozen items of the graph
   pub frozen_listed : (x : ℕ) → Contains (frozen_along g order) x → (x < item_count g) × (is_frozen g x ≡ true)
   frozen_listed x c =
       let r = Contains-flat_map_parts (frozen_items_of g) order x c in
@@ -111,6 +113,7 @@ module _ (g : Graph) (order : List ℕ) (topological : IsTopological g order) wh
       Contains-rest (producer g x) (queue_of g (producer g x)) x (queue-Contains g (producer g x) x h sent refl)
   among x h f (inr (inr c)) = absurd (true≢false (sym f ∙ ap (is_frozen_item g) c.3))
 
+  -- every frozen item of the graph is among them
   pub lists_frozen : (x : ℕ) → x < item_count g → is_frozen g x ≡ true → Contains (frozen_along g order) x
   lists_frozen x h f =
       Contains-flat_map (frozen_items_of g) order (producer g x) x (Contains-order (process_count g) order

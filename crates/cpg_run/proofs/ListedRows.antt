@@ -14,6 +14,9 @@ use Rattle.cpg_run.proofs.CarryingTimed.{carrying_times, never_columns}
 use Rattle.cpg_run.proofs.RowsTimed.{all_before, rows_times}
 use Rattle.cpg_run.specs.Carrying.{ContainsKept, IsCarryingRow, AreCarrying, ListedRowsCarry}
 
+-- given the rows of groups of listed scenarios
+-- `timed`: the graph is admitted, and `frozen` has its frozen times. `found`: each row is found from those before it,
+-- as the merge of its entries.
 module _ (g : Graph) (urgency order : List ℕ) (frozen : List (Option ℕ)) (rows : List (List Column))
     (timed : IsTimed g urgency order frozen) (found : AreRows g urgency order frozen rows) where
   -- a column that matches is as wide as an entry that matches, whose cube is what is carried
@@ -32,6 +35,7 @@ module _ (g : Graph) (urgency order : List ℕ) (frozen : List (Option ℕ)) (ro
       let wide = row.merge.wider s r.0 c law q.0 j q.1 h in
       record { low = λ v. omega (arith, (wide v).0, is.low v); high = λ v. omega (arith, (wide v).1, is.high v) }
 
+  -- the row of each item has the times of the runs, and no column that says more than what is carried
   carrying_row : (x : ℕ) → x < item_count g → IsCarryingRow g urgency order frozen rows x
   carrying_row x l = record {
     times = rows_times g urgency order frozen timed rows found x l;
@@ -50,9 +54,11 @@ module _ (g : Graph) (urgency order : List ℕ) (frozen : List (Option ℕ)) (ro
     merged = λ p l. (found.each p (omega (arith, l))).merge.merged;
   }
 
+-- the rows of groups of listed scenarios carry no more than they may
 pub listed_rows_carry : ListedRowsCarry
 listed_rows_carry g urgency order frozen rows timed found = carrying g urgency order frozen rows timed found
 
+-- they have the times of the runs, and no column of an item that is never active
 pub rows_have_times : RowsHaveTimes
 rows_have_times g urgency order frozen rows timed found x =
     let all = listed_rows_carry g urgency order frozen rows timed found in

@@ -12,11 +12,13 @@ use Rattle.cpg_run.specs.Most.{IsMost}
 use Rattle.cpg_run.proofs.Bounded.{passing_le}
 
 module _ (f : ℕ → ℕ) where
+  -- two kinds of the same numbers have the same least bound
   pub most_same : (P Q : ℕ → Type 0) (v : ℕ) → ((y : ℕ) → P y → Q y) → ((y : ℕ) → Q y → P y) → IsMost P f v →
       IsMost Q f v
   most_same P Q v to from m =
       record { above = λ y q. m.above y (from y q); least = λ b h. m.least b (λ y p. h y (to y p)) }
 
+  -- for the elements of a list it is the greatest of their values
   pub most_of_list : (xs : List ℕ) → IsMost (Contains xs) f (greatest (map f xs))
   most_of_list xs = record {
     above = λ y c. greatest_above (map f xs) (f y) (Contains-map f xs y c);

@@ -21,6 +21,10 @@ use Rattle.cpg_run.proofs.Starts.{decided_in_run, start_is}
 use Rattle.cpg_run.proofs.Steps.{ready_other, ready_idle, ready_active, free_other, free_idle, free_here, knows_idle}
 use Rattle.cpg_run.proofs.Steps.{knows_active}
 
+-- given all that holds before a place, and when the node there has heard what decides its process
+-- `at`: process p stands at place i. `on`, `long`, `far`: its node is one of the graph, and the two lists have an
+-- entry for each node. `a`: times, ends, ready times and free slots are those of the run before place i. `heard`: the
+-- greatest time at which the node hears a condition that decides p, by what is known.
 module _ (g : Graph) (order : List ℕ) (topological : IsTopological g order) (frozen : List (Option ℕ)) (s : Scenario)
     (t : Times) (run : IsRun g order frozen s t)
     (i p : ℕ) (l : p < process_count g) (at : place order p ≡ i) (on : node_of g p < length g.nodes)
@@ -31,10 +35,12 @@ module _ (g : Graph) (order : List ℕ) (topological : IsTopological g order) (f
   abbrev node : ℕ
   node = node_of g p
 
+  -- what is known of when the node has heard what decides the process is so in the run
   heard_in_run : IsMost (λ c. (c < condition_count g) × (decides g s.values p c ≡ true))
       (heard_there g t (node_of g p)) heard
   heard_in_run = decided_in_run g order t i known a.knows topological s p l at heard is_heard
 
+  -- with the new time of the process's node, every node is ready as the next place asks
   readies_next : (v : ℕ) → IsReady g order s t (i + 1) (node_of g p) v → (n : ℕ) → n < length g.nodes →
       IsReady g order s t (i + 1) n (get_or (set readies (node_of g p) v) n 0)
   readies_next v ready n k = elim (cases_eq n (node_of g p)) [
@@ -45,6 +51,7 @@ module _ (g : Graph) (order : List ℕ) (topological : IsTopological g order) (f
         (ready_other g order topological frozen s t run i p l at n (get_or readies n 0) other (a.nodes_ready n k))
   ]
 
+  -- after an inactive process all holds before the next place, with its node ready once it has heard what decides it
   pub at_idle : (v : ℕ) → active g s.values p ≡ false → v ≡ max (get_or readies (node_of g p) 0) heard →
       IsAt g order s t (i + 1) known (set readies (node_of g p) v) frees
   at_idle v idle is = record {
@@ -55,10 +62,14 @@ module _ (g : Graph) (order : List ℕ) (topological : IsTopological g order) (f
         λ n k. free_idle g order topological frozen s t run i p l at n (get_or frees n 0) idle (a.slots_free n k);
   }
 
+  -- given a start of the process that is found from what holds before the place
+  -- `acts`: the process is active. `ready_at`: its node is ready at the later of its ready time and `heard`. `found`:
+  -- the start is the greatest of this, the release, the inputs known, and the frozen time.
   module _ (acts : active g s.values p ≡ true) (ready start : ℕ)
       (ready_at : ready ≡ max (get_or readies (node_of g p) 0) heard)
       (found : start ≡ max (max (max ready (process_at g p).release) (greatest (input_bounds g s known p)))
       (frozen_in frozen p)) where
+    -- the start that is found is that of the run
     pub start_right : start ≡ time_in t p
     start_right = found ∙ ap (λ r.
         max (max (max r (process_at g p).release) (greatest (input_bounds g s known p))) (frozen_in frozen p)) ready_at
@@ -66,14 +77,19 @@ module _ (g : Graph) (order : List ℕ) (topological : IsTopological g order) (f
         (a.nodes_ready (node_of g p) on) is_heard
 
     module _ (end : ℕ) (ends : end ≡ start + duration g p (fault_of s p)) where
+      -- so is the end
       pub end_right : end ≡ end_in t p
       end_right = ends ∙ ap (λ n. n + duration g p (fault_of s p)) start_right
           ∙ sym (end_active g order frozen s t run p l acts)
 
+      -- given what is known once the start and the end are set
+      -- `times_long`, `ends_long`: the lists have an entry for each item and each process. `started`, `ended`:
+      -- `begun` is what was known, with the start and the end of p set.
       module _ (begun : Times) (times_long : length known.times ≡ item_count g)
           (ends_long : length known.ends ≡ process_count g)
           (started : begun.times ≡ set known.times p (Some start))
           (ended : begun.ends ≡ set known.ends p (Some end)) where
+        -- with the start and the end set, the process can send
         pub can_send : (free : ℕ) → free ≡ get_or frees (node_of g p) 0 → CanSend g order s t p begun free
         can_send free is = record {
           ends = ap (λ es. unwrap_or (get_or es p None) 0) ended
@@ -87,6 +103,7 @@ module _ (g : Graph) (order : List ℕ) (topological : IsTopological g order) (f
               (a.slots_free (node_of g p) on));
         }
 
+        -- once all that it sends has its times, all holds before the next place
         pub at_active : (new : Times) (free : ℕ) → HasSent g order s t p (length (queue_of g p)) begun new free →
             KeepsEnds begun new
             → IsAt g order s t (i + 1) new (set readies (node_of g p) end) (set frees (node_of g p) free)

@@ -17,6 +17,7 @@ module _ (g : Graph) (order : List ℕ) where
     first : (comes_before order (producer g y) (producer g x) ≡ true) ⊎
         ((producer g y ≡ producer g x) × (rank_of_item (item_at g y) < rank_of_item (item_at g x)))
 
+  -- the parts of the test are taken apart: y is sent, it has the same home as x, and its rank is lower
   goes_before : (y x : ℕ) → is_queued_before g order y x ≡ true → GoesBefore y x
   goes_before y x e =
       let a = and_parts (is_sent g y && (home g y == home g x)) _ e in
@@ -42,6 +43,7 @@ module _ (g : Graph) (order : List ℕ) where
     | inr c ↦ omega (arith, ap (place order) c.0)
   ]
 
+  -- what goes before an item that goes before another goes before that one too
   chain : (z y x : ℕ) → GoesBefore z y → GoesBefore y x → GoesBefore z x
   chain z y x a b = record {
     sent = a.sent;
@@ -57,6 +59,7 @@ module _ (g : Graph) (order : List ℕ) where
     ];
   }
 
+  -- what stands before an item in its queue is an item of the graph that goes before it
   in_queue : (x y : ℕ) → Contains (queued_before g order x) y →
       Contains (numbers_below (item_count g)) y × (is_queued_before g order y x ≡ true)
   in_queue x y j = Contains-filter_parts (λ y. is_queued_before g order y x) (numbers_below (item_count g)) y j
@@ -66,6 +69,7 @@ module _ (g : Graph) (order : List ℕ) where
       place order (producer g y) ≤ place order (producer g x)
   producer_no_later x y j = place_of y x (goes_before y x (in_queue x y j).1)
 
+  -- what stands before an item's predecessor in the queue stands before the item
   pub queue_chain : (x y z : ℕ) → Contains (queued_before g order x) y → Contains (queued_before g order y) z →
       Contains (queued_before g order x) z
   queue_chain x y z j i =

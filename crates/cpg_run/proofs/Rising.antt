@@ -62,19 +62,23 @@ pub record AreLow (base : ℕ) (g : Graph) (order : List ℕ) (frozen : List (Op
   pub low : (x time : ℕ) → x < item_count g → get_or frozen x None ≡ Some time →
       time ≤ bound base (moment g order x) + 32000000000
 
+-- `base`: the number of time units that the bounds of all moments start from
 module _ (base : ℕ) (g : Graph) (order : List ℕ) (frozen : List (Option ℕ)) (s : Scenario) (t : Times) where
   -- what is settled before a moment is small
   pub record SmallBefore (m : ℕ) : Type 0 where
     pub items : (x : ℕ) → x < item_count g → moment g order x < m → time_in t x ≤ bound base m
     pub ends : (p : ℕ) → p < process_count g → moment_of_end g order p < m → end_in t p ≤ bound base m
 
+  -- given a run under frozen times that are low
   module _ (within : IsWithinLimits g) (topological : IsTopological g order) (lawful : IsScenario g s)
       (low : AreLow base g order frozen) (run : IsRun g order frozen s t) where
+    -- a frame of an earlier moment arrives no later than a round after the bound
     frame_le : (m x : ℕ) → SmallBefore m → x < item_count g → moment g order x < m →
         frame_there g t x ≤ bound base m + 16000000000
     frame_le m x a l h = omega (arith, a.items x l h, slot_length-le g (home g x), round-le g within)
 
     module _ (m p : ℕ) (a : SmallBefore m) (at : place order p * phases g ≤ m) where
+      -- a message has been sent at an earlier moment, and for any other input its source has ended by one
       input_le : (e : ℕ) → Contains (inputs g p) e → input_there g t e ≤ bound base m + 16000000000
       input_le e c =
           let h = (inputs_parts g p e c).0 in
@@ -91,6 +95,7 @@ module _ (base : ℕ) (g : Graph) (order : List ℕ) (frozen : List (Option ℕ)
                 ))
           ]
 
+      -- a process before p on its node has an earlier moment
       ended_le : (q : ℕ) → Contains (before_on_node g order p) q → end_in t q ≤ bound base m + 16000000000
       ended_le q c =
           let b = on_node_before g order p q c in
@@ -100,6 +105,7 @@ module _ (base : ℕ) (g : Graph) (order : List ℕ) (frozen : List (Option ℕ)
                 (omega (arith, end_sooner g order topological p q b.1)),
           )
 
+      -- a condition of the node itself is heard at an earlier end, any other by an earlier broadcast
       heard_le : (c : ℕ) → Contains (flat_map (deciding g s.values) (before_on_node g order p ++ p ∷ [])) c →
           heard_there g t (node_of g p) c ≤ bound base m + 16000000000
       heard_le c d =
@@ -127,6 +133,7 @@ module _ (base : ℕ) (g : Graph) (order : List ℕ) (frozen : List (Option ℕ)
           start_bounds_le g order s t p (bound base m + 16000000000) (omega arith) (λ e c k. input_le e c)
           (λ q c k. ended_le q c) heard_le
 
+    -- a send has to wait for nothing after the bound of its moment and two rounds
     send_le : (m x : ℕ) → SmallBefore m → moment g order x ≤ m → x < item_count g →
         phase (item_at g x) ≡ rank_of_item (item_at g x) + 2 →
         greatest (send_bounds g order s t x) ≤ bound base m + 32000000000
@@ -143,6 +150,7 @@ module _ (base : ℕ) (g : Graph) (order : List ℕ) (frozen : List (Option ℕ)
         omega
         (arith, round-le g within, a.items y k (omega (arith, queued_sooner g order topological y x k sends q.1))))
 
+    -- no item has to wait for anything after the bound of its moment and two rounds
     unfrozen_le : (m x : ℕ) → SmallBefore m → moment g order x ≤ m → x < item_count g → ItemCases g x →
         unfrozen_time g order s t x ≤ bound base m + 32000000000
     unfrozen_le m x a before l (inl c) =
@@ -157,6 +165,7 @@ module _ (base : ℕ) (g : Graph) (order : List ℕ) (frozen : List (Option ℕ)
         (send_le m x a before l
         (subst (λ i. phase i ≡ rank_of_item i + 2) (sym c.3) (let r : 2 ≡ 0 + 2 = omega arith in r)))
 
+    -- an item's time is at most `b` if its unfrozen time and its frozen time are
     time_le : (x b : ℕ) → x < item_count g → unfrozen_time g order s t x ≤ b →
         ((time : ℕ) → get_or frozen x None ≡ Some time → time ≤ b) → time_in t x ≤ b
     time_le x b l h k = elim (cases_Bool (item_active g s.values (item_at g x))) [
@@ -183,6 +192,7 @@ module _ (base : ℕ) (g : Graph) (order : List ℕ) (frozen : List (Option ℕ)
       within.faults,
     )
 
+    -- an end is at most the longest duration behind its start
     end_le : (p b : ℕ) → p < process_count g → time_in t p ≤ b → end_in t p ≤ b + 600000000000
     end_le p b l h =
         let e : end_in t p ≡ unwrap_or (end_by g s t p) 0 =
@@ -193,6 +203,7 @@ module _ (base : ℕ) (g : Graph) (order : List ℕ) (frozen : List (Option ℕ)
           duration-le g p (fault_of s p) within l (fault_le p l),
         )
 
+    -- before each moment, times and ends are no later than the bound of the moment
     pub small_before : (m : ℕ) → SmallBefore m
     small_before zero = record { items = λ x l h. absurd (omega arith); ends = λ p l h. absurd (omega arith) }
     small_before (suc m) =
@@ -210,12 +221,13 @@ module _ (base : ℕ) (g : Graph) (order : List ℕ) (frozen : List (Option ℕ)
           );
         }
 
+    -- the time that an item would have if it were not frozen is no later than the item could be
     pub unfrozen_low : (x : ℕ) → x < item_count g →
         unfrozen_time g order s t x ≤ bound base (moment g order x) + 32000000000
     unfrozen_low x l =
         unfrozen_le (moment g order x) x (small_before (moment g order x)) (omega arith) l (item_cases g x l)
 
--- the last moment is no later than this
+-- the last moment is at most 128 * 259
 pub last_le : (g : Graph) → IsWithinLimits g → last g ≤ 128 * 259
 last_le g within = product (process_count g) (phases g) within.few_processes (omega (arith, within.few_edges))
   where

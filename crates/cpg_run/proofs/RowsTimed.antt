@@ -14,6 +14,8 @@ use Rattle.cpg_run.proofs.EntriesMerge.{entries_times}
 
 -- ---- the rows of later processes may change
 
+-- given two lists that have the same rows before an item's
+-- `same`: both lists have the same rows of all items whose producers stand before that of x in the order.
 module _ (g : Graph) (urgency order : List ℕ) (frozen : List (Option ℕ)) (timed : IsTimed g urgency order frozen)
     (rows others : List (List Column)) (x : ℕ) (l : x < item_count g)
     (same : SameRowsBefore g order (place order (producer g x)) rows others) where
@@ -21,6 +23,7 @@ module _ (g : Graph) (urgency order : List ℕ) (frozen : List (Option ℕ)) (ti
   carried_alike s =
       carried_same g order timed.admitted.topological rows others (place order (producer g x)) same s x l (omega arith)
 
+  -- an entry by the one list of rows is an entry by the other
   pub entry_alike : (s : Scenario) (e : Column) → IsEntryIn g order frozen rows x s e →
       IsEntryIn g order frozen others x s e
   entry_alike s e is = record {
@@ -38,6 +41,7 @@ module _ (g : Graph) (urgency order : List ℕ) (frozen : List (Option ℕ)) (ti
     cube = subst (λ ls. IsCubeOf g.faults ls e.cube) (sym (carried_alike s)) is.cube;
   }
 
+  -- the entries by the one list of rows are those by the other
   pub entries_alike : (entries : List Column) → AreEntriesOf g order frozen rows x entries →
       AreEntriesOf g order frozen others x entries
   entries_alike entries are = record {
@@ -46,6 +50,7 @@ module _ (g : Graph) (urgency order : List ℕ) (frozen : List (Option ℕ)) (ti
     all = λ s e is least. are.all s e (entry_back s e is) least;
   }
 
+  -- a row that is the same in both lists is found from both
   pub row_alike : row_at rows x ≡ row_at others x → IsRowOf g urgency order frozen rows x →
       IsRowOf g urgency order frozen others x
   row_alike own is = record {
@@ -56,8 +61,11 @@ module _ (g : Graph) (urgency order : List ℕ) (frozen : List (Option ℕ)) (ti
 
 -- ---- rows have the times of the runs
 
+-- given rows and the frozen times of the graph
+-- `timed`: the graph is admitted, and `frozen` has its frozen times.
 module _ (g : Graph) (urgency order : List ℕ) (frozen : List (Option ℕ)) (timed : IsTimed g urgency order frozen)
     (rows : List (List Column)) where
+  -- rows that are found from earlier ones, up to a place, have the times of the runs
   rows_below : (n bound : ℕ) → bound ≤ n →
       ((y : ℕ) → IsEarlier g order bound y → IsRowOf g urgency order frozen rows y) →
       AreRowsBefore g order frozen bound rows
@@ -77,6 +85,7 @@ module _ (g : Graph) (urgency order : List ℕ) (frozen : List (Option ℕ)) (ti
       AreRowsBefore g order frozen bound rows
   rows_before bound found = rows_below bound bound (omega arith) found
 
+  -- a row that is found from earlier rows with the times of the runs has these times too
   pub row_times : (x : ℕ) → x < item_count g → AreRowsBefore g order frozen (place order (producer g x)) rows →
       IsRowOf g urgency order frozen rows x →
       HaveTimesOf g order frozen x (row_at rows x)
@@ -84,8 +93,10 @@ module _ (g : Graph) (urgency order : List ℕ) (frozen : List (Option ℕ)) (ti
       is.merge.times s law ∙ entries_times g urgency order frozen rows x timed l earlier is.entries is.are s t law run
 
   module _ (all : AreRows g urgency order frozen rows) where
+    -- all rows before a place have the times of the runs
     pub all_before : (bound : ℕ) → AreRowsBefore g order frozen bound rows
     all_before bound = rows_before bound (λ y e. all.each y e.0)
 
+    -- each row has the times of the runs
     pub rows_times : (x : ℕ) → x < item_count g → HaveTimesOf g order frozen x (row_at rows x)
     rows_times x l = row_times x l (all_before (place order (producer g x))) (all.each x l)

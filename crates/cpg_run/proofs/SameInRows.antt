@@ -16,7 +16,7 @@ use Rattle.cpg_run.proofs.Runs.{time_is, has_time, time_parts}
 use Rattle.cpg_run.specs.Carried.{row_at, carried_by_row}
 use Rattle.cpg_run.specs.RowLaws.{HaveTimesOf}
 
--- a list that a function makes one of is one, and one that it makes nothing of is nothing
+-- if a map has one result, its list has one element; if it has none, its list is empty
 pub one_of_map : {X : Type 0} (f : X → ℕ) (xs : List X) (z : ℕ) → map f xs ≡ z ∷ [] →
     (x : X) × (xs ≡ x ∷ []) × (f x ≡ z)
 one_of_map f [] z e = absurd (omega (arith, ap length e))
@@ -27,6 +27,7 @@ none_of_map : {X : Type 0} (f : X → ℕ) (xs : List X) → map f xs ≡ [] →
 none_of_map f [] e = refl
 none_of_map f (x ∷ xs) e = absurd (omega (arith, ap length e))
 
+-- a list of one element has no other
 pub only_one : {X : Type 0} (x y : X) → Contains (x ∷ []) y → x ≡ y
 only_one x y j = elim (Contains-cases x [] y j) [ inl e ↦ e | inr none ↦ absurd (Contains-nil y none) ]
 
@@ -34,6 +35,9 @@ only_one x y j = elim (Contains-cases x [] y j) [ inl e ↦ e | inr none ↦ abs
 matching_in : List (List Column) → Scenario → ℕ → List Column
 matching_in rows s y = filter (λ (c : Column). matches c.cube s) (row_at rows y)
 
+-- given a row with the times of the runs
+-- `times`: in each scenario the columns of y's row that match have the time of the run, and none matches if it has
+-- none.
 module _ (g : Graph) (order : List ℕ) (frozen : List (Option ℕ)) (rows : List (List Column)) (y : ℕ)
     (l : y < item_count g) (times : HaveTimesOf g order frozen y (row_at rows y)) where
   -- an inactive item's row tells nothing
@@ -54,6 +58,7 @@ module _ (g : Graph) (order : List ℕ) (frozen : List (Option ℕ)) (rows : Lis
     pub matched : matches column.cube s ≡ true
     pub tells : carried_by_row rows s y ≡ column.cube
 
+  -- an active item has such a column
   pub the_match : (s : Scenario) → IsScenario g s → (t : Times) → IsRun g order frozen s t →
       item_active g s.values (item_at g y) ≡ true → Match s t
   unfolding matching_in
@@ -71,6 +76,7 @@ module _ (g : Graph) (order : List ℕ) (frozen : List (Option ℕ)) (rows : Lis
         tells = ap (flat_map (λ (c : Column). c.cube)) r.1 ∙ append-nil r.0.cube;
       }
 
+  -- given two scenarios with their runs
   module _ (s u : Scenario) (ls : IsScenario g s) (lu : IsScenario g u) (t w : Times) (run : IsRun g order frozen s t)
       (other : IsRun g order frozen u w) where
     -- the item is active in the second scenario too, at the same time, and its row tells the same
@@ -79,7 +85,7 @@ module _ (g : Graph) (order : List ℕ) (frozen : List (Option ℕ)) (rows : Lis
       pub time : get_or t.times y None ≡ get_or w.times y None
       pub tells : carried_by_row rows u y ≡ carried_by_row rows s y
 
-    -- if what its row tells in the first holds in the second
+    -- this is so if what the row tells in the first scenario holds in the second
     pub told_alike : item_active g s.values (item_at g y) ≡ true → matches (carried_by_row rows s y) u ≡ true → SameTold
     told_alike on h =
         let m = the_match s ls t run on in

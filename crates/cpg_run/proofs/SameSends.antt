@@ -44,7 +44,7 @@ producer_active g values (Message e) a =
     (and_parts _ _ (and_parts (is_sent_item g (Message e)) (live g values e) a).1).0
 producer_active g values (Broadcast c) a = (and_parts (is_sent_item g (Broadcast c)) _ a).1
 
--- the source's value is told of a conditional edge
+-- the value of the source of a conditional edge is one of those by which the edge is sent
 pub value_in_source : (g : Graph) (e c : ℕ) (wanted : Bool) → c < condition_count g → process_of g c ≡ source g e →
     (edge_at g e).when ≡ Some wanted →
     Contains (source_value g e) (value_variable c)
@@ -55,11 +55,15 @@ value_in_source g e c wanted h at is =
     (sym (subst (λ q. condition_of g q ≡ Some c) at (condition_of_process_of g c h)))
     (Contains-first (value_variable c) []))
 
+-- given two scenarios with their runs, and rows with the times of the runs before a place
+-- `z` has the facts on both: s and u are scenarios, t and w are their runs under the frozen times, and the rows up to
+-- the place `bound` have the times of the runs.
 module _ (g : Graph) (urgency order : List ℕ) (frozen : List (Option ℕ)) (rows : List (List Column)) (bound : ℕ)
     (s u : Scenario) (t w : Times)
     (z : Two g urgency order frozen rows bound s u t w) where
   -- ---- whether an item is sent
 
+  -- an edge takes the value of its source in both or in neither, if that value holds in the second
   takes_is_same : (e : ℕ) → e < edge_count g → matches (map (number_known s) (source_value g e)) u ≡ true →
       (o : Option Bool) →
       (edge_at g e).when ≡ o →
@@ -71,7 +75,8 @@ module _ (g : Graph) (urgency order : List ℕ) (frozen : List (Option ℕ)) (ro
       ∙ number_of-value u c))
       (Some wanted) is
 
-  -- an item whose producer is as active, and whose value is the same if it is
+  -- an item is active in both or in neither if its producer is, and if the value by which it is sent holds in the
+  -- second
   item_is_same : (x : ℕ) → x < item_count g → active g s.values (producer g x) ≡ active g u.values (producer g x) →
       (active g s.values (producer g x) ≡ true → matches (sent_by_value g s x) u ≡ true) →
       item_active g s.values (item_at g x) ≡ item_active g u.values (item_at g x)
@@ -92,6 +97,7 @@ module _ (g : Graph) (urgency order : List ℕ) (frozen : List (Option ℕ)) (ro
           item_active g s.values (item_at g x) ≡ item_active g u.values (item_at g x)
       at {i} e same = ap (item_active g s.values) e ∙ same ∙ sym (ap (item_active g u.values) e)
 
+      -- an edge is live if its source is active and its value is the one that is asked for; both agree
       edge : (e : ℕ) → e < edge_count g → active g s.values (source g e) ≡ active g u.values (source g e) →
           (active g s.values (source g e) ≡ true → matches (map (number_known s) (source_value g e)) u ≡ true) →
           live g s.values e ≡ live g u.values e
@@ -101,6 +107,7 @@ module _ (g : Graph) (urgency order : List ℕ) (frozen : List (Option ℕ)) (ro
             ∙ sym (ap (λ b. b && takes (edge_at g e).when (value_of g u.values (source g e))) (sym same ∙ off))
       ]
 
+  -- the value by which an item is sent is the same in the second scenario if it holds there
   value_told_same : (x : ℕ) → matches (sent_by_value g s x) u ≡ true → sent_by_value g u x ≡ sent_by_value g s x
   value_told_same x h = same_map (number_known u) (number_known s) (sent_value g (item_at g x))
       (λ v j. ap (exactly v) (same_numbers u s (sent_value g (item_at g x)) h v j))
@@ -113,6 +120,7 @@ module _ (g : Graph) (urgency order : List ℕ) (frozen : List (Option ℕ)) (ro
     sent : item_active g s.values (item_at g y) ≡ true → is_frozen g y ≡ false →
         matches (carried_at_end g order rows s (producer g y)) u ≡ true
 
+  -- what an item before x in the queue carries has three parts, and each of them holds in u
   leaves_parts : (y : ℕ) → matches (queued g order rows s y) u ≡ true → Leaves y
   leaves_parts y h =
       let front = holds_left u
@@ -131,6 +139,7 @@ module _ (g : Graph) (urgency order : List ℕ) (frozen : List (Option ℕ)) (ro
             then carried_at_end g order rows s (producer g y) else []) h);
       }
 
+  -- if what an item leaves holds in the second scenario, the item is active in both scenarios or in neither
   leaves_active : (y : ℕ) → y < item_count g → Leaves y →
       item_active g s.values (item_at g y) ≡ item_active g u.values (item_at g y)
   leaves_active y l h =
@@ -142,18 +151,21 @@ module _ (g : Graph) (urgency order : List ℕ) (frozen : List (Option ℕ)) (ro
   end_count p h = from_all (holds u) (number_known s p ∷ []) (number_known s p) (holds_right u
       (carried_at_start g order rows s p) (number_known s p ∷ []) h) (Contains-first (number_known s p) [])
 
+  -- if what is carried beside an end holds in the second scenario, the start is the same in both
   end_start : (p : ℕ) → p < process_count g → place order p ≤ bound → active g s.values p ≡ true →
       matches (carried_at_end g order rows s p) u ≡ true →
       SameStart g urgency order frozen rows bound s u t w z p
   end_start p l at on h = start_alike g urgency order frozen rows bound s u t w z p l at on
       (holds_left u (carried_at_start g order rows s p) (number_known s p ∷ []) h)
 
+  -- if what is carried beside an end holds in the second scenario, the same is carried there
   end_told : (p : ℕ) → p < process_count g → place order p ≤ bound → active g s.values p ≡ true →
       matches (carried_at_end g order rows s p) u ≡ true →
       carried_at_end g order rows u p ≡ carried_at_end g order rows s p
   end_told p l at on h =
       end_told_same g urgency order frozen rows bound s u t w z p (end_start p l at on h) (end_count p h)
 
+  -- what an item leaves to those behind it is the same in both if it holds in the second
   leaves_same : (y : ℕ) → y < item_count g → place order (producer g y) ≤ bound → Leaves y →
       queued g order rows u y ≡ queued g order rows s y
   leaves_same y l at h =
@@ -200,11 +212,14 @@ module _ (g : Graph) (urgency order : List ℕ) (frozen : List (Option ℕ)) (ro
       else flat_map (queued g order rows s) (queued_before g order x) ++ carried_at_end g order rows s (producer g x))
       (sent_by_value g s x) h
 
+  -- if what is carried beside a send that is not frozen holds in the second scenario, so does what the queue left,
+  -- and what is carried beside the producer's end
   free_front : (x : ℕ) → is_frozen g x ≡ false → matches (carried_at_send g order rows s x) u ≡ true →
       matches (flat_map (queued g order rows s) (queued_before g order x)
       ++ carried_at_end g order rows s (producer g x)) u ≡ true
   free_front x free h = subst (λ ls. matches ls u ≡ true) (cond-false _ _ _ free) (front_of x h)
 
+  -- what an item before it in the queue left holds in the second scenario
   queued_holds : (x : ℕ) → is_frozen g x ≡ false → matches (carried_at_send g order rows s x) u ≡ true → (y : ℕ) →
       Contains (queued_before g order x) y →
       matches (queued g order rows s y) u ≡ true
@@ -212,11 +227,13 @@ module _ (g : Graph) (urgency order : List ℕ) (frozen : List (Option ℕ)) (ro
       (holds_left u (flat_map (queued g order rows s) (queued_before g order x))
       (carried_at_end g order rows s (producer g x)) (free_front x free h)) j
 
+  -- what is carried beside the end of its producer holds in the second scenario
   end_holds : (x : ℕ) → is_frozen g x ≡ false → matches (carried_at_send g order rows s x) u ≡ true →
       matches (carried_at_end g order rows s (producer g x)) u ≡ true
   end_holds x free h = holds_right u (flat_map (queued g order rows s) (queued_before g order x))
       (carried_at_end g order rows s (producer g x)) (free_front x free h)
 
+  -- if what is carried beside a frozen send holds in the second scenario, the send is the same in both
   frozen_send : (x : ℕ) → x < item_count g → is_frozen g x ≡ true → item_active g s.values (item_at g x) ≡ true →
       matches (carried_at_send g order rows s x) u ≡ true → SameSend x
   frozen_send x l f on h =
@@ -231,6 +248,10 @@ module _ (g : Graph) (urgency order : List ℕ) (frozen : List (Option ℕ)) (ro
             ∙ sym (cond-true _ _ _ f)) (value_told_same x (value_of_send x h));
       }
 
+  -- given a send that is not frozen, such that what is carried beside it holds in the second scenario
+  -- `sent`: x is an item that is sent. `at`: its producer stands up to the place `bound`. `free`: it isn't frozen.
+  -- `on`: it is active in s. `h`: what is carried beside it in s holds in u. `sooner`: the theorem holds for earlier
+  -- moments.
   module _ (x : ℕ) (within : x < item_count g) (sent : is_sent g x ≡ true) (at : place order (producer g x) ≤ bound)
       (free : is_frozen g x ≡ false) (on : item_active g s.values (item_at g x) ≡ true)
       (h : matches (carried_at_send g order rows s x) u ≡ true) (sooner : Sooner (moment g order x)) where
@@ -256,6 +277,7 @@ module _ (g : Graph) (urgency order : List ℕ) (frozen : List (Option ℕ)) (ro
               (mine.sent acts f))
         ]) value
 
+    -- an active item before it in the queue has the same time in both
     queued_same : (y : ℕ) → Contains (queued_before g order x) y → item_active g s.values (item_at g y) ≡ true →
         get_or t.times y None ≡ get_or w.times y None
     unfolding Sooner
@@ -272,6 +294,7 @@ module _ (g : Graph) (urgency order : List ℕ) (frozen : List (Option ℕ)) (ro
     start : SameStart g urgency order frozen rows bound s u t w z (producer g x)
     start = end_start (producer g x) producer_within at producer_on (end_holds x free h)
 
+    -- the producer's end agrees, and so do the times of the active items before x in the queue
     bounds_same : send_bounds g order s t x ≡ send_bounds g order u w x
     bounds_same = ap₂ ◌∷◌
         (ap (next_slot g (home g x)) (end_is_same g urgency order frozen rows bound s u t w z
@@ -286,6 +309,7 @@ module _ (g : Graph) (urgency order : List ℕ) (frozen : List (Option ℕ)) (ro
         (λ y j.
         leaves_active y (queued_parts g order z.timed.admitted.topological x y within sent j).within (leaves y j))))
 
+    -- the item is active in u too, its bounds agree, and so does each part of what is carried
     free_send : SameSend x
     free_send =
         let also = sym (item_is_same x within (producer_on ∙ sym start.acts) (λ a. value_of_send x h)) ∙ on in
@@ -305,6 +329,7 @@ module _ (g : Graph) (urgency order : List ℕ) (frozen : List (Option ℕ)) (ro
               (value_told_same x (value_of_send x h));
         }
 
+  -- before each moment: if what is carried beside a send holds in the second scenario, the send is the same in both
   sends_below : (n : ℕ) → Sooner n
   unfolding Sooner
   sends_below zero y b l e at on h = absurd (omega (arith, b))
@@ -313,6 +338,7 @@ module _ (g : Graph) (urgency order : List ℕ) (frozen : List (Option ℕ)) (ro
     | inr free ↦ free_send y l e at free on h (λ v c. sends_below n v (omega (arith, b, c)))
   ]
 
+  -- if what is carried beside a send holds in the second scenario, the send is the same in both
   send_alike : (x : ℕ) → x < item_count g → is_sent g x ≡ true → place order (producer g x) ≤ bound →
       item_active g s.values (item_at g x) ≡ true →
       matches (carried_at_send g order rows s x) u ≡ true → SameSend x
@@ -326,6 +352,7 @@ module _ (g : Graph) (urgency order : List ℕ) (frozen : List (Option ℕ)) (ro
     pub time : get_or t.times x None ≡ get_or w.times x None
     pub told : carried g order rows u x ≡ carried g order rows s x
 
+  -- a send that is the same in both is an item that is the same in both
   from_send : (x : ℕ) (i : Item) → item_at g x ≡ i →
       carried_by_item g order rows u x i ≡ carried_at_send g order rows u x →
       carried_by_item g order rows s x i ≡ carried_at_send g order rows s x →
@@ -337,7 +364,7 @@ module _ (g : Graph) (urgency order : List ℕ) (frozen : List (Option ℕ)) (ro
         ∙ sym (ap (carried_by_item g order rows s x) item ∙ b);
   }
 
-  -- an item with what is carried beside it is the same in both
+  -- if what is carried beside an item holds in the second scenario, the item is the same in both
   pub item_alike : (x : ℕ) → x < item_count g → place order (producer g x) ≤ bound →
       item_active g s.values (item_at g x) ≡ true → matches (carried g order rows s x) u ≡ true → SameItem x
   item_alike x l at on h = elim (item_cases g x l) [
@@ -362,6 +389,8 @@ module _ (g : Graph) (urgency order : List ℕ) (frozen : List (Option ℕ)) (ro
         (subst (λ i. matches (carried_by_item g order rows s x i) u ≡ true) c.3 h))
   ]
 
+-- what is carried beside a time decides it: in each scenario in which it holds, the item has the same time, and the
+-- same is carried
 pub carried_decides : CarriedDecides
 carried_decides g urgency order frozen rows s u x timed l earlier ls lu on h =
     let two : (t w : Times) → IsRun g order frozen s t → IsRun g order frozen u w →

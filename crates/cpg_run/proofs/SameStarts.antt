@@ -62,6 +62,9 @@ pub record Two (g : Graph) (urgency order : List ℕ) (frozen : List (Option ℕ
   pub run : IsRun g order frozen s t
   pub other : IsRun g order frozen u w
 
+-- given two scenarios with their runs, and rows with the times of the runs before a place
+-- `z` has the facts on both: s and u are scenarios, t and w are their runs under the frozen times, and the rows up to
+-- the place `bound` have the times of the runs.
 module _ (g : Graph) (urgency order : List ℕ) (frozen : List (Option ℕ)) (rows : List (List Column)) (bound : ℕ)
     (s u : Scenario) (t w : Times)
     (z : Two g urgency order frozen rows bound s u t w) where
@@ -79,7 +82,7 @@ module _ (g : Graph) (urgency order : List ℕ) (frozen : List (Option ℕ)) (ro
       ∙ has_frozen_time g order frozen z.timed.frozen_times u z.second w z.other x l f also
       ∙ sym (has_time g order frozen u w z.other x l also)
 
-  -- another has the same time if its bounds are the same
+  -- an item that is active in both has the same time if its bounds are the same
   pub free_time_same : (x : ℕ) → x < item_count g → item_active g s.values (item_at g x) ≡ true →
       item_active g u.values (item_at g x) ≡ true →
       unfrozen_time g order s t x ≡ unfrozen_time g order u w x → get_or t.times x None ≡ get_or w.times x None
@@ -99,12 +102,14 @@ module _ (g : Graph) (urgency order : List ℕ) (frozen : List (Option ℕ)) (ro
   -- ---- if what decides a process holds
 
   module _ (p : ℕ) (d : matches (decided g s p) u ≡ true) where
+    -- the condition of a value that decides the process has the same number in both
     value_same : (c : ℕ) → Contains (deciding g s.values p) c →
         number_of u (value_variable c) ≡ number_of s (value_variable c)
     value_same c j = same_number u s (value_variable c)
         (from_all (holds u) (decided g s p) (number_known s (value_variable c)) d
         (Contains-map (λ (c : ℕ). number_known s (value_variable c)) (deciding g s.values p) c j))
 
+    -- a condition that decides the process has the same value in both
     agrees : (c : ℕ) → c < condition_count g → decides g s.values p c ≡ true →
         get_or s.values c false ≡ get_or u.values c false
     agrees c l e = one_value _ _ (sym (number_of-value s c) ∙
@@ -115,6 +120,7 @@ module _ (g : Graph) (urgency order : List ℕ) (frozen : List (Option ℕ)) (ro
     unfolding k
     activation_is_same = activation_same g urgency k.urgent p s.values u.values z.first.values z.second.values agrees
 
+    -- the process is active in both scenarios or in neither
     pub active_is_same : active g s.values p ≡ active g u.values p
     active_is_same = ap is_active activation_is_same
 
@@ -122,6 +128,7 @@ module _ (g : Graph) (urgency order : List ℕ) (frozen : List (Option ℕ)) (ro
     unfolding k
     deciding_is_same = deciding_same g urgency k.urgent p s.values u.values agrees
 
+    -- the same conditions decide it, with the same values
     pub decided_is_same : decided g u p ≡ decided g s p
     decided_is_same = ap (map (λ (c : ℕ). number_known u (value_variable c))) (sym deciding_is_same)
         ∙ same_map (λ (c : ℕ). number_known u (value_variable c)) (λ (c : ℕ). number_known s (value_variable c))
@@ -164,12 +171,14 @@ module _ (g : Graph) (urgency order : List ℕ) (frozen : List (Option ℕ)) (ro
           unfolding k
           hears_at c j = let r = hears_earlier g order k.topological s p c j in (r.0, omega (arith, r.1, at))
 
+          -- the broadcast of a condition that decides it, from another node, has the same time in both
           pub hears_time : (c : ℕ) → Contains (deciding g s.values p) c →
               (node_of g (process_of g c) == node_of g p) ≡ false →
               get_or t.times (broadcast_item g c) None ≡ get_or w.times (broadcast_item g c) None
           unfolding Told
           hears_time c j far = (hears c j far (hears_at c j)).time
 
+          -- those broadcasts told the same
           pub heard_is_same : heard g rows u p ≡ heard g rows s p
           unfolding Told
           heard_is_same = ap (flat_map (λ c. if node_of g (process_of g c) == node_of g p then []
@@ -219,6 +228,7 @@ module _ (g : Graph) (urgency order : List ℕ) (frozen : List (Option ℕ)) (ro
                 (holds_each u (λ e. if is_message g e then carried_by_row rows s (message_item g e) else [])
                 (inputs g p) e m j))
 
+            -- the message of a live input has the same time in both
             pub receives_time : (e : ℕ) → Contains (inputs g p) e → is_message g e ≡ true → live g s.values e ≡ true →
                 get_or t.times (message_item g e) None ≡ get_or w.times (message_item g e) None
             unfolding Told
@@ -239,6 +249,7 @@ module _ (g : Graph) (urgency order : List ℕ) (frozen : List (Option ℕ)) (ro
                       (z.times (message_item g e) at) s z.first t z.run (message_acts s.values e l is ∙ off))
                 ]
 
+            -- the messages to the process told the same
             pub received_is_same : received g rows u p ≡ received g rows s p
             received_is_same = same_flat_map
                 (λ e. if is_message g e then carried_by_row rows u (message_item g e) else [])
@@ -251,6 +262,7 @@ module _ (g : Graph) (urgency order : List ℕ) (frozen : List (Option ℕ)) (ro
 
   -- ---- ends
 
+  -- a process has the same fault count in both if its number holds in the second
   count_same : (p : ℕ) → p < process_count g → holds u (number_known s p) ≡ true → fault_of s p ≡ fault_of u p
   unfolding k
   count_same p l h = sym (number_of-fault s p (omega (arith, l, k.formed.few_processes))) ∙ sym (same_number u s p h)
@@ -262,6 +274,7 @@ module _ (g : Graph) (urgency order : List ℕ) (frozen : List (Option ℕ)) (ro
     pub time : get_or t.times p None ≡ get_or w.times p None
     pub told : carried_at_start g order rows u p ≡ carried_at_start g order rows s p
 
+  -- a start that is the same has the same end, if the count holds in the second
   pub end_is_same : (p : ℕ) → p < process_count g → active g s.values p ≡ true → SameStart p →
       holds u (number_known s p) ≡ true →
       end_in t p ≡ end_in w p
@@ -269,6 +282,7 @@ module _ (g : Graph) (urgency order : List ℕ) (frozen : List (Option ℕ)) (ro
       ∙ ap₂ (λ o f. unwrap_or o 0 + duration g p f) same.time (count_same p l h)
       ∙ sym (end_active g order frozen u w z.other p l same.acts)
 
+  -- and the same is carried beside that end
   pub end_told_same : (p : ℕ) → SameStart p → holds u (number_known s p) ≡ true →
       carried_at_end g order rows u p ≡ carried_at_end g order rows s p
   end_told_same p same h = ap₂ (λ ls n. ls ++ exactly p n ∷ []) same.told (same_number u s p h)
@@ -281,6 +295,7 @@ module _ (g : Graph) (urgency order : List ℕ) (frozen : List (Option ℕ)) (ro
     heard : matches (heard g rows s q) u ≡ true
     executed : active g s.values q ≡ true → matches (executed g rows s q) u ≡ true
 
+  -- what a process before p on its node carries has three parts, and each of them holds in u
   passes_parts : (q : ℕ) → matches (passed g rows s q) u ≡ true → Passes q
   passes_parts q h =
       let front = holds_left u (decided g s q ++ heard g rows s q)
@@ -298,11 +313,13 @@ module _ (g : Graph) (urgency order : List ℕ) (frozen : List (Option ℕ)) (ro
       (holds_right u (if (process_at g q).frozen then [] else received g rows s q) (number_known s q ∷ []) h)
       (Contains-first (number_known s q) [])
 
+  -- if what an execution that is not frozen adds holds in the second scenario, so does what the messages to it told
   executed_received : (q : ℕ) → (process_at g q).frozen ≡ false → matches (executed g rows s q) u ≡ true →
       matches (received g rows s q) u ≡ true
   executed_received q free h = subst (λ b. matches (if b then [] else received g rows s q) u ≡ true) free
       (holds_left u (if (process_at g q).frozen then [] else received g rows s q) (number_known s q ∷ []) h)
 
+  -- what an execution adds is the same in both if it holds in the second
   executed_is_same : (q : ℕ) → q < process_count g → place order q ≤ bound → Passes q → active g s.values q ≡ true →
       executed g rows u q ≡ executed g rows s q
   executed_is_same q l at h on =
@@ -315,6 +332,7 @@ module _ (g : Graph) (urgency order : List ℕ) (frozen : List (Option ℕ)) (ro
             ∙ sym (cond-false _ _ _ free)
       ])
 
+  -- what a node carries on from a process is the same in both if it holds in the second
   passed_is_same : (q : ℕ) → q < process_count g → place order q ≤ bound → Passes q →
       passed g rows u q ≡ passed g rows s q
   passed_is_same q l at h = ap₂ ◌++◌
@@ -339,11 +357,13 @@ module _ (g : Graph) (urgency order : List ℕ) (frozen : List (Option ℕ)) (ro
     heard : matches (heard g rows s p) u ≡ true
     received : matches (received g rows s p) u ≡ true
 
+  -- if what is carried beside a start that is not frozen holds in the second scenario, its parts hold together
   free_parts : (p : ℕ) → (process_at g p).frozen ≡ false → matches (carried_at_start g order rows s p) u ≡ true →
       matches (flat_map (passed g rows s) (before_on_node g order p) ++ decided g s p ++ heard g rows s p
       ++ received g rows s p) u ≡ true
   free_parts p free h = subst (λ ls. matches ls u ≡ true) (cond-false _ _ _ free) h
 
+  -- what is carried beside a start that is not frozen holds if its parts do
   free_from : (p : ℕ) → (process_at g p).frozen ≡ false →
       matches (flat_map (passed g rows s) (before_on_node g order p)) u ≡ true →
       matches (decided g s p) u ≡ true →
@@ -355,6 +375,7 @@ module _ (g : Graph) (urgency order : List ℕ) (frozen : List (Option ℕ)) (ro
       (holds_both u (flat_map (passed g rows s) (before_on_node g order p) ++ decided g s p) (heard g rows s p)
       (holds_both u (flat_map (passed g rows s) (before_on_node g order p)) (decided g s p) a b) c) d)
 
+  -- what a process before it on its node carries on holds in the second scenario
   passes_at : (p : ℕ) → (process_at g p).frozen ≡ false → matches (carried_at_start g order rows s p) u ≡ true →
       (q : ℕ) → Contains (before_on_node g order p) q →
       matches (passed g rows s q) u ≡ true
@@ -364,6 +385,7 @@ module _ (g : Graph) (urgency order : List ℕ) (frozen : List (Option ℕ)) (ro
       (holds_left u (flat_map (passed g rows s) (before_on_node g order p) ++ decided g s p ++ heard g rows s p)
       (received g rows s p) (free_parts p free h)))) j
 
+  -- all parts of what is carried beside the start hold in the second scenario
   starts_parts : (p : ℕ) → (process_at g p).frozen ≡ false → matches (carried_at_start g order rows s p) u ≡ true →
       Starts p
   starts_parts p free h =
@@ -382,6 +404,9 @@ module _ (g : Graph) (urgency order : List ℕ) (frozen : List (Option ℕ)) (ro
             (received g rows s p) (free_parts p free h);
       }
 
+  -- given a start that is not frozen, such that what is carried beside it holds in the second scenario
+  -- `at`: p stands up to the place `bound`. `free`: its start isn't frozen. `on`: it is active in s. `h`: what is
+  -- carried beside its start in s holds in u. `earlier`: the theorem holds for the processes that stand before p.
   module _ (p : ℕ) (within : p < process_count g) (at : place order p ≤ bound) (free : (process_at g p).frozen ≡ false)
       (on : active g s.values p ≡ true)
       (h : matches (carried_at_start g order rows s p) u ≡ true) (earlier : Before (place order p)) where
@@ -434,6 +459,7 @@ module _ (g : Graph) (urgency order : List ℕ) (frozen : List (Option ℕ)) (ro
         ∙ ap (map (end_in w)) (same_filter (active g s.values) (active g u.values) (before_on_node g order p)
         (λ q j. active_is_same q (parts.before q j).decided))
 
+    -- each condition that the start waits for is heard at the same time in both
     hearing_at : (c : ℕ) → Contains (flat_map (deciding g s.values) (up_to g order p)) c →
         heard_there g t (node_of g p) c ≡ heard_there g w (node_of g p) c
     hearing_at c j =
@@ -461,6 +487,8 @@ module _ (g : Graph) (urgency order : List ℕ) (frozen : List (Option ℕ)) (ro
         ∙ ap (map (heard_there g w (node_of g p))) (same_flat_map (deciding g s.values) (deciding g u.values)
         (up_to g order p) (λ q j. deciding_is_same q (decided_up_to q j)))
 
+    -- the time of a message is carried with it, and the end of any other source stands by the theorem for earlier
+    -- ones
     input_at : (e : ℕ) → Contains (inputs g p) e → live g s.values e ≡ true → input_there g t e ≡ input_there g w e
     input_at e j v =
         let r = inputs_parts g p e j in
@@ -485,6 +513,7 @@ module _ (g : Graph) (urgency order : List ℕ) (frozen : List (Option ℕ)) (ro
     bounds_same : start_bounds g order s t p ≡ start_bounds g order u w p
     bounds_same = ap₂ (λ xs ys. (process_at g p).release ∷ xs ++ ys) (ap₂ ◌++◌ inputs_same processor_same) hearing_same
 
+    -- the process is active in u too, its bounds agree, and so does each part of what is carried
     free_start : SameStart p
     free_start =
         let also = sym (active_is_same p parts.decided) ∙ on in
@@ -508,6 +537,7 @@ module _ (g : Graph) (urgency order : List ℕ) (frozen : List (Option ℕ)) (ro
 
   -- ---- each start
 
+  -- if what is carried beside a frozen start holds in the second scenario, the start is the same in both
   frozen_start : (p : ℕ) → p < process_count g → (process_at g p).frozen ≡ true → active g s.values p ≡ true →
       matches (carried_at_start g order rows s p) u ≡ true → SameStart p
   frozen_start p l f on h =
@@ -521,6 +551,7 @@ module _ (g : Graph) (urgency order : List ℕ) (frozen : List (Option ℕ)) (ro
         told = cond-true _ _ _ f ∙ decided_is_same p d ∙ sym (cond-true _ _ _ f);
       }
 
+  -- before each place: if what is carried beside a start holds in the second scenario, the start is the same in both
   starts_below : (n : ℕ) → n ≤ suc bound → Before n
   unfolding Before
   starts_below zero m q b l on h = absurd (omega (arith, b))
@@ -530,7 +561,7 @@ module _ (g : Graph) (urgency order : List ℕ) (frozen : List (Option ℕ)) (ro
         (λ r c. starts_below n (omega (arith, m)) r (omega (arith, b, c)))
   ]
 
-  -- a start with what is carried beside it has the same time in both
+  -- if what is carried beside a start holds in the second scenario, the start is the same in both
   pub start_alike : (p : ℕ) → p < process_count g → place order p ≤ bound → active g s.values p ≡ true →
       matches (carried_at_start g order rows s p) u ≡ true → SameStart p
   unfolding Before

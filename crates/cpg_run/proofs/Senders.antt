@@ -14,6 +14,7 @@ use Rattle.cpg_bus.specs.Share.{HasSlot}
 use Rattle.cpg_bus.specs.Plan.{queue_of}
 use Rattle.cpg_bus.proofs.Queued.{in_queue}
 
+-- if two of n numbers differ, n is greater than 1
 pub many_nodes : (a b n : ℕ) → a < n → b < n → a ≢ b → 1 < n
 many_nodes a b n h k other = elim (cases_order a b) [
   | inl e ↦ absurd (other e)
@@ -23,19 +24,23 @@ many_nodes a b n h k other = elim (cases_order a b) [
 
 module _ (g : Graph) where
   module _ (slots : HasSenderSlots g) where
+    -- the node that sends a message has a slot
     pub message_slot : (e : ℕ) → e < edge_count g → is_message g e ≡ true → HasSlot g (node_of g (source g e))
     message_slot e l is = subst (λ i. HasSlot g (node_of g (producer_of_item g i))) (item_at-message g e l)
         (slots (message_item g e) (omega arith) (ap (is_sent_item g) (item_at-message g e l) ∙ is))
 
+    -- on more than one node, the node of each condition has a slot
     pub broadcast_slot : (c : ℕ) → c < condition_count g → 1 < length g.nodes → HasSlot g (node_of g (process_of g c))
     broadcast_slot c l many = subst (λ i. HasSlot g (node_of g (producer_of_item g i))) (item_at-broadcast g c)
         (slots (broadcast_item g c) (omega arith)
         (ap (is_sent_item g) (item_at-broadcast g c) ∙ lt-ltb 1 (length g.nodes) many))
 
+    -- a node that has something to send has a slot
     pub queued_slot : (p x : ℕ) → Contains (queue_of g p) x → HasSlot g (node_of g p)
     queued_slot p x c = let q = in_queue g p x c in subst (λ r. HasSlot g (node_of g r)) q.by (slots x q.within q.sent)
 
   module _ (values : List Bool) (p x : ℕ) (queued : Contains (queue_of g p) x) where
+    -- each broadcast in the queue of an active process is active
     pub broadcast_active : active g values p ≡ true → process_count g + edge_count g ≤ x →
         item_active g values (item_at g x) ≡ true
     broadcast_active acts late = let q = in_queue g p x queued in elim (item_cases g x q.within) [
@@ -46,6 +51,7 @@ module _ (g : Graph) where
           (ap (active g values) (sym (ap (producer_of_item g) c.3) ∙ q.by) ∙ acts)
     ]
 
+    -- a message in the queue is active if and only if its edge is live
     pub message_active : x < process_count g + edge_count g →
         item_active g values (item_at g x) ≡ live g values (x - process_count g)
     message_active early = let q = in_queue g p x queued in elim (item_cases g x q.within) [
@@ -56,16 +62,18 @@ module _ (g : Graph) where
       | inr (inr c) ↦ absurd (omega (arith, c.2))
     ]
 
+    -- the numbers of what a process sends come after those of all starts
     pub queued_above : process_count g ≤ x
     queued_above = (in_queue g p x queued).above
 
--- the greatest of those that pass, with 0 for the others
+-- the greatest of those that pass is the greatest of all, with 0 for the others
 pub greatest_passing : (f : ℕ → ℕ) (test : ℕ → Bool) (xs : List ℕ) →
     greatest (map (λ x. if test x then f x else 0) xs) ≡ greatest (map f (filter test xs))
 greatest_passing f test [] = refl
 greatest_passing f test (x ∷ xs) = greatest-cons (if test x then f x else 0) (map (λ y. if test y then f y else 0) xs)
     ∙ go (test x) (greatest_passing f test xs)
   where
+    -- an item that passes the test counts with its number, and any other counts 0
     go : (b : Bool) → greatest (map (λ y. if test y then f y else 0) xs) ≡ greatest (map f (filter test xs))
         → max (if b then f x else 0) (greatest (map (λ y. if test y then f y else 0) xs))
         ≡ greatest (map f (if b then x ∷ filter test xs else filter test xs))

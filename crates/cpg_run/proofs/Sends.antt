@@ -32,7 +32,7 @@ use Rattle.cpg_run.proofs.Mosts.{most_same}
 use Rattle.cpg_bus.proofs.Queued.{in_queue, queue-Contains, queue_rises, below_first, in_first, rank_at}
 use Rattle.cpg_run.proofs.Starts.{greatest_option, both_ways_equal}
 
--- the first k + 1 elements
+-- an element of the first k + 1 is one of the first k, or the next
 pub take_next : (xs : List ℕ) (k y : ℕ) → k < length xs → Contains (take (k + 1) xs) y →
     Contains (take k xs) y ⊎ (y ≡ get_or xs k 0)
 take_next xs k y l c =
@@ -44,6 +44,7 @@ take_next xs k y l c =
           elim (Contains-cases (get_or xs k 0) [] y b) [ inl e ↦ inr (sym e) | inr none ↦ absurd (Contains-nil y none) ]
     ]
 
+-- an element of the first k, or the next, is one of the first k + 1
 pub in_next : (xs : List ℕ) (k y : ℕ) → k < length xs → Contains (take k xs) y ⊎ (y ≡ get_or xs k 0) →
     Contains (take (k + 1) xs) y
 in_next xs k y l c =
@@ -55,10 +56,13 @@ in_next xs k y l c =
           (Contains-append_right (take k xs) (get_or xs k 0 ∷ []) (get_or xs k 0) (Contains-first (get_or xs k 0) []))
     ])
 
+-- the first elements of a list are elements of it
 pub Contains-take : (n : ℕ) (xs : List ℕ) (x : ℕ) → Contains (take n xs) x → Contains xs x
 Contains-take n xs x c =
     subst (λ ys. Contains ys x) (take-append-drop n xs) (Contains-append_left (take n xs) (drop n xs) x c)
 
+-- given a process under a topological order
+-- the queue of p has the items that p sends over the bus, in the order in which they are sent
 module _ (g : Graph) (order : List ℕ) (topological : IsTopological g order) (s : Scenario) (p : ℕ)
     (l : p < process_count g) where
   -- ---- what a node has sent before an item
@@ -67,9 +71,11 @@ module _ (g : Graph) (order : List ℕ) (topological : IsTopological g order) (s
     abbrev here : ℕ
     here = get_or (queue_of g p) k 0
 
+    -- the item at place k of the queue is one that the process sends
     pub here_sent : Contains (queue_of g p) here
     here_sent = Contains-get_or (queue_of g p) k 0 inside
 
+    -- an active item before this one in the queue was sent before it
     queued_is_by : (y : ℕ) → Contains (queued_before g order here) y → item_active g s.values (item_at g y) ≡ true →
         IsSentBy g order s p k y
     queued_is_by y c acts =
@@ -90,6 +96,7 @@ module _ (g : Graph) (order : List ℕ) (topological : IsTopological g order) (s
               (or_cases _ _ b.1),
         )
 
+    -- the tests of `is_queued_before` hold: y is sent, has the same home, and stands before the item at place k
     by_is_queued : (y : ℕ) → IsSentBy g order s p k y → Contains (queued_before g order here) y
     by_is_queued y h =
         let x = in_queue g p here here_sent in
@@ -111,6 +118,9 @@ module _ (g : Graph) (order : List ℕ) (topological : IsTopological g order) (s
 
     -- ---- when it is sent
 
+    -- given an active item, and the time from which the slots are free
+    -- `run`: t is the run of the scenario. `is_free`: the slots are free once the items before this one in the queue
+    -- are sent, and all that the node has sent before. `acts`: the item here is active.
     module _ (frozen : List (Option ℕ)) (t : Times) (run : IsRun g order frozen s t) (free : ℕ)
         (is_free : IsMost (IsSentBy g order s p k) (free_after g t) free)
         (acts : item_active g s.values (item_at g here) ≡ true) where
@@ -135,6 +145,8 @@ module _ (g : Graph) (order : List ℕ) (topological : IsTopological g order) (s
       bounds_found = send_bounds_le g order s t here found (omega (arith, at_producer))
           (λ y c a. omega (arith, is_free.above y (queued_is_by y c a)))
 
+      -- the first free slot after the producer's end, or the frozen time if that is later, is the item's time in the
+      -- run
       pub send_is : max (max (next_slot g (node_of g p) (end_in t p)) free) (frozen_in frozen here) ≡ time_in t here
       send_is = let x = in_queue g p here here_sent in
           both_ways_equal found (time_in t here)
@@ -142,6 +154,7 @@ module _ (g : Graph) (order : List ℕ) (topological : IsTopological g order) (s
           (arith, free_by, item_time, at_producer, producer_below g order frozen s t run here x.within acts x.sent))
           (omega (arith, item_time, bounds_found))
 
+      -- the slots are free again a round after that item
       pub free_next : IsMost (IsSentBy g order s p (k + 1)) (free_after g t) (time_in t here + round g)
       free_next = let x = in_queue g p here here_sent in record {
         above = λ y h. elim h.1 [
@@ -177,6 +190,7 @@ module _ (g : Graph) (order : List ℕ) (topological : IsTopological g order) (s
 
   -- ---- one item more has its time
 
+  -- at first none of what a process sends has its time
   pub nothing_sent : (t known : Times) (free : ℕ) → CanSend g order s t p known free →
       HasSent g order s t p 0 known known free
   nothing_sent t known free can = record {
@@ -189,12 +203,16 @@ module _ (g : Graph) (order : List ℕ) (topological : IsTopological g order) (s
         can.slots_free;
   }
 
+  -- given that the first k items of the queue have their times
+  -- `inside`: there is another item in the queue. `has`: the first k items have their times in `known`, where `old`
+  -- is what was known before p sent anything, and `free` is when its slots are free.
   module _ (frozen : List (Option ℕ)) (t : Times) (run : IsRun g order frozen s t) (old known : Times) (k free : ℕ)
       (inside : k < length (queue_of g p))
       (has : HasSent g order s t p k old known free) where
     abbrev item : ℕ
     item = get_or (queue_of g p) k 0
 
+    -- after an inactive item, one item more has its time, which is none
     pub sent_idle : ((x : ℕ) → Contains (queue_of g p) x → get_or old.times x None ≡ None) →
         item_active g s.values (item_at g item) ≡ false →
         HasSent g order s t p (k + 1) old known free
@@ -212,6 +230,7 @@ module _ (g : Graph) (order : List ℕ) (topological : IsTopological g order) (s
           slots_free = free_same k inside t free idle has.slots_free;
         }
 
+    -- after an active item whose time is set, one item more has its time, and the slots are free a round later
     pub sent_active : (new : Times) (time : ℕ) → item < length known.times →
         new.times ≡ set known.times item (Some time) →
         item_active g s.values (item_at g item) ≡ true

@@ -19,6 +19,7 @@ use Rattle.cpg_run.proofs.EarlyTimes.{early_from_low}
 use Rattle.cpg_run.proofs.Rising.{bound, AreLow, unfrozen_low}
 use Rattle.cpg_run.proofs.FrozenOrder.{later_moment, frozen_listed, lists_frozen}
 
+-- with nothing frozen, no item has a frozen time
 pub none_frozen : (g : Graph) (x : ℕ) → get_or (nothing_frozen g) x None ≡ None
 none_frozen g x = elim (cases_lt x (item_count g)) [
   | inl l ↦ get_or-replicate (item_count g) x None None l
@@ -80,6 +81,7 @@ module _ (g : Graph) (order : List ℕ) (topological : IsTopological g order) wh
   }
 
   module _ (items : List ℕ) where
+    -- without any frozen time, none of the items is settled yet
     pub settled_first : (frozen : List (Option ℕ)) (h : Graph) → items ≡ frozen_along g order →
         frozen ≡ nothing_frozen h → h ≡ g →
         AreSettled g order items 0 frozen
@@ -95,11 +97,13 @@ module _ (g : Graph) (order : List ℕ) (topological : IsTopological g order) wh
         none x = ap (λ f. get_or f x None) is ∙ none_frozen h x
 
     module _ (n : ℕ) (frozen : List (Option ℕ)) (a : AreSettled g order items n frozen) where
+      -- each item along the order is a frozen item of the graph
       pub item_frozen : (i : ℕ) → i < length items →
           (get_or items i 0 < item_count g) × (is_frozen g (get_or items i 0) ≡ true)
       item_frozen i l = frozen_listed g order topological (get_or items i 0)
           (subst (λ xs. Contains xs (get_or items i 0)) a.all (Contains-get_or items i 0 l))
 
+      -- the next item along the order is an item of the graph
       pub next_within : n < length items → get_or items n 0 < item_count g
       next_within l = (item_frozen n l).0
 
@@ -108,9 +112,11 @@ module _ (g : Graph) (order : List ℕ) (topological : IsTopological g order) wh
       next_unset l = a.others (get_or items n 0)
           (λ i k e. omega (arith, ap (moment g order) e, later_moment g order topological items a.all i n k l))
 
+      -- the times that are settled are early
       pub settled_early : IsWithinLimits g → AreEarly frozen
       settled_early within = early_from_low g order frozen within topological a.count a.low
 
+      -- with the next item's unfrozen time set, one item more is settled
       pub settled_more : IsWithinLimits g → n < length items → (more : List (Option ℕ)) →
           IsUnfrozenTime g order frozen (get_or items n 0) (get_or more (get_or items n 0) None)
           → ((y : ℕ) → y ≢ get_or items n 0 → get_or more y None ≡ get_or frozen y None) → length more ≡ length frozen →
@@ -148,6 +154,7 @@ module _ (g : Graph) (order : List ℕ) (topological : IsTopological g order) wh
             };
           }
 
+      -- once all items are settled, the times are the frozen times of the graph
       pub settled_all : n ≡ length items → AreFrozenTimes g order frozen
       settled_all e = record {
         count = a.count;

@@ -1,4 +1,4 @@
--- What is known before a place gives the start of the process there.
+-- What is known before a place gives the start that is found is the start of the process in the run there.
 use Rattle.std.proofs.Common.{◌≡◌, ◌∙◌, ℕ, ◌+◌, ◌<◌, ◌≤◌, max, true, ◌==◌, if◌then◌else◌, List, [], ◌∷◌, ◌++◌, length}
 use Rattle.std.proofs.Common.{get_or, filter, flat_map, Contains, Option, Some, None, option_to_list}
 use Rattle.std.proofs.Common.{unwrap_or, arith, refl, sym, ap, ap₂, inl, inr, subst, eq-eqb, eqb-true}
@@ -41,16 +41,20 @@ greatest_option (Some n) = greatest-cons n [] ∙ omega arith
 pub both_ways_equal : (a b : ℕ) → a ≤ b → b ≤ a → a ≡ b
 both_ways_equal a b h k = omega arith
 
+-- given what is known before place i: the times and ends of all processes before it, as they are in the run t
 module _ (g : Graph) (order : List ℕ) (t : Times) (i : ℕ) (known : Times) (knows : Knows g order t i known) where
+  -- what is known of the time of an item before the place is its time in the run
   pub known_item : (x : ℕ) → x < item_count g → place order (producer g x) < i → time_in known x ≡ time_in t x
   known_item x l h = ap (λ o. unwrap_or o 0) (knows.times x l h)
 
+  -- what is known of the end of a process before the place is its end in the run
   pub known_end : (q : ℕ) → q < process_count g → place order q < i → end_in known q ≡ end_in t q
   known_end q l h = ap (λ o. unwrap_or o 0) (knows.ends q l h)
 
   known_frame : (x : ℕ) → x < item_count g → place order (producer g x) < i → frame_there g known x ≡ frame_there g t x
   known_frame x l h = ap (λ n. n + slot_length g (home g x)) (known_item x l h)
 
+  -- an input whose source is before the place is available when it is so in the run
   pub known_input_of : (e : ℕ) → e < edge_count g → source g e < process_count g → place order (source g e) < i →
       input_there g known e ≡ input_there g t e
   known_input_of e h l less = ap₂ (λ v w. if is_message g e then v else w)
@@ -58,6 +62,7 @@ module _ (g : Graph) (order : List ℕ) (t : Times) (i : ℕ) (known : Times) (k
       (omega (arith, ap (λ j. place order (producer_of_item g j)) (item_at-message g e h))))
       (known_end (source g e) l less)
 
+  -- a condition of a process before the place is heard by a node when it is so in the run
   pub known_heard_of : (node c : ℕ) → c < condition_count g → place order (process_of g c) < i →
       heard_there g known node c ≡ heard_there g t node c
   known_heard_of node c h less = ap₂ (λ v w. if node_of g (process_of g c) == node then v else w)
@@ -65,6 +70,7 @@ module _ (g : Graph) (order : List ℕ) (t : Times) (i : ℕ) (known : Times) (k
       (known_frame (broadcast_item g c) (omega arith)
       (omega (arith, ap (λ j. place order (producer_of_item g j)) (item_at-broadcast g c))))
 
+  -- what is known of a run whose times are small is small
   pub known_small : length known.times ≡ item_count g → length known.ends ≡ process_count g → AreSmall t →
       AreSmall known
   known_small items processes small = record {
@@ -87,24 +93,29 @@ module _ (g : Graph) (order : List ℕ) (t : Times) (i : ℕ) (known : Times) (k
     ];
   }
 
+  -- given the process at the place
   module _ (topological : IsTopological g order) (s : Scenario) (p : ℕ) (l : p < process_count g)
       (at : place order p ≡ i) where
+    -- each input of the process at the place is available when it is so in the run
     pub known_input : (e : ℕ) → Contains (inputs g p) e → input_there g known e ≡ input_there g t e
     known_input e c =
         let h = (inputs_parts g p e c).0 in
         known_input_of e h (source_in_order g order topological e h)
         (omega (arith, input_goes_up g order topological p e c))
 
+    -- a condition that decides a process up to the place is that of an earlier process
     pub decided_sooner : (q c : ℕ) → place order q ≤ i → c < condition_count g → decides g s.values q c ≡ true →
         place order (process_of g c) < i
     decided_sooner q c h k d = omega (arith, decides_earlier g order topological s.values q c k d)
 
+    -- an earlier process on the node of p is before p on its node
     before_in : (q : ℕ) → q < process_count g → place order q < i → node_of g q ≡ node_of g p →
         Contains (before_on_node g order p) q
     before_in q k less same =
         Contains-filter (λ (r : ℕ). node_of g r == node_of g p) (before order p) q (eq-eqb _ _ same)
         (Contains-before order q p (Contains-order (process_count g) order topological.all q k) (omega arith))
 
+    -- a condition that decides a process up to p on its node is one that p's start waits for
     in_hearing : (q c : ℕ) → Contains (before_on_node g order p ++ p ∷ []) q → c < condition_count g →
         decides g s.values q c ≡ true
         → Contains (flat_map (deciding g s.values) (before_on_node g order p ++ p ∷ [])) c
@@ -123,6 +134,9 @@ module _ (g : Graph) (order : List ℕ) (t : Times) (i : ℕ) (known : Times) (k
           (λ c d. omega (arith, h c d, known_heard_of (node_of g p) c d.0 (decided_sooner p c (omega arith) d.0 d.1)));
     }
 
+    -- given when the node is ready, and when it has heard what decides the process, which is active
+    -- `run`, `acts`: t is the run, and p is active in it. `is_ready`: the node is ready once the active processes
+    -- before p have ended and it has heard what decides them. `is_heard`: it has heard what decides p.
     module _ (frozen : List (Option ℕ)) (run : IsRun g order frozen s t) (acts : active g s.values p ≡ true)
         (ready heard : ℕ) (is_ready : IsReady g order s t i (node_of g p) ready)
         (is_heard : IsMost (λ c. (c < condition_count g) × (decides g s.values p c ≡ true))
@@ -156,6 +170,7 @@ module _ (g : Graph) (order : List ℕ) (t : Times) (i : ℕ) (known : Times) (k
           (λ e k. let r = Contains-filter_parts (live g s.values) (inputs g p) e k in
           omega (arith, known_input e r.0, input_below g order frozen s t run p e l acts r.0 r.1)) c)
 
+      -- a condition that decides p is heard by `heard`, and one that decides a process before p by `ready`
       heard_found : (c : ℕ) → Contains (flat_map (deciding g s.values) (before_on_node g order p ++ p ∷ [])) c →
           heard_there g t (node_of g p) c ≤ found
       heard_found c k =
@@ -181,6 +196,7 @@ module _ (g : Graph) (order : List ℕ) (t : Times) (i : ℕ) (known : Times) (k
             ]
           ]
 
+      -- by the kind of the bound: the release, an input, an end before p on its node, or a condition heard
       bounds_found : greatest (start_bounds g order s t p) ≤ found
       bounds_found = start_bounds_le g order s t p found (omega arith)
           (λ e c a. omega (

@@ -58,9 +58,13 @@ message_start e q h = true≢false (sym (ap starts_one h))
 broadcast_start : (c q : ℕ) → Broadcast c ≡ Start q → ⊥
 broadcast_start c q h = true≢false (sym (ap starts_one h))
 
+-- given the run of a scenario and the process at a place
+-- `topological`: the order has each process once, behind the sources of its inputs. `run`: t is the run of s under
+-- the frozen times. `at`: process p stands at place i.
 module _ (g : Graph) (order : List ℕ) (topological : IsTopological g order) (frozen : List (Option ℕ)) (s : Scenario)
     (t : Times) (run : IsRun g order frozen s t)
     (i p : ℕ) (l : p < process_count g) (at : place order p ≡ i) where
+  -- a process before the next place is before this one, or is the process here
   up_to : (q : ℕ) → q < process_count g → place order q < i + 1 → (place order q < i) ⊎ (q ≡ p)
   up_to q k h = elim (cases_lt (place order q) i) [
     | inl less ↦ inl less
@@ -70,6 +74,7 @@ module _ (g : Graph) (order : List ℕ) (topological : IsTopological g order) (f
 
   -- ---- when nodes are ready
 
+  -- another node is ready for the next place when it was for this one
   pub ready_other : (node v : ℕ) → node ≢ node_of g p → IsReady g order s t i node v →
       IsReady g order s t (i + 1) node v
   ready_other node v other r = record {
@@ -83,6 +88,8 @@ module _ (g : Graph) (order : List ℕ) (topological : IsTopological g order) (f
         (λ q c k less same m d. y q c k (omega arith) same m d);
   }
 
+  -- the node of the process is ready at the earliest time by which it was ready, has heard what decides the process
+  -- and, if that is active, has ended it
   pub ready_here : (r h v : ℕ) → IsReady g order s t i (node_of g p) r →
       IsMost (λ c. (c < condition_count g) × (decides g s.values p c ≡ true)) (heard_there g t (node_of g p)) h
       → max r h ≤ v → (active g s.values p ≡ true → end_in t p ≤ v) →
@@ -104,12 +111,14 @@ module _ (g : Graph) (order : List ℕ) (topological : IsTopological g order) (f
         least b (omega arith) (λ acts. x p l (omega arith) refl acts);
   }
 
+  -- after an inactive process its node is ready once it was and has heard what decides the process
   pub ready_idle : (r h v : ℕ) → active g s.values p ≡ false → v ≡ max r h → IsReady g order s t i (node_of g p) r →
       IsMost (λ c. (c < condition_count g) × (decides g s.values p c ≡ true)) (heard_there g t (node_of g p)) h
       → IsReady g order s t (i + 1) (node_of g p) v
   ready_idle r h v idle is ready heard = ready_here r h v ready heard (omega arith)
       (λ acts. absurd (true≢false (sym acts ∙ idle))) (λ b m acts. omega arith)
 
+  -- after an active process its node is ready at its end
   pub ready_active : (r h v : ℕ) → active g s.values p ≡ true → v ≡ end_in t p → max r h ≤ v →
       IsReady g order s t i (node_of g p) r →
       IsMost (λ c. (c < condition_count g) × (decides g s.values p c ≡ true)) (heard_there g t (node_of g p)) h
@@ -119,6 +128,7 @@ module _ (g : Graph) (order : List ℕ) (topological : IsTopological g order) (f
 
   -- ---- when slots are free
 
+  -- the slots of another node are free as before
   pub free_other : (node v : ℕ) → node ≢ node_of g p → IsFree g order s t i node v → IsFree g order s t (i + 1) node v
   free_other node v other m =
       most_same (free_after g t) (IsSentBefore g order s node i) (IsSentBefore g order s node (i + 1)) v
@@ -132,6 +142,7 @@ module _ (g : Graph) (order : List ℕ) (topological : IsTopological g order) (f
       ))
       m
 
+  -- after an inactive process the slots of every node are free as before
   pub free_idle : (node v : ℕ) → active g s.values p ≡ false → IsFree g order s t i node v →
       IsFree g order s t (i + 1) node v
   free_idle node v idle m =
@@ -150,6 +161,7 @@ module _ (g : Graph) (order : List ℕ) (topological : IsTopological g order) (f
   in_whole : (y : ℕ) → Contains (queue_of g p) y → Contains (take (length (queue_of g p)) (queue_of g p)) y
   in_whole y c = subst (λ ys. Contains ys y) (sym (take_all (length (queue_of g p)) (queue_of g p) (omega arith))) c
 
+  -- the slots of the process's node are free after all that it sends
   pub free_here : (v : ℕ) → IsMost (IsSentBy g order s p (length (queue_of g p))) (free_after g t) v →
       IsFree g order s t (i + 1) (node_of g p) v
   free_here v m = most_same (free_after g t) (IsSentBy g order s p (length (queue_of g p)))
@@ -175,9 +187,11 @@ module _ (g : Graph) (order : List ℕ) (topological : IsTopological g order) (f
 
   -- ---- what is known
 
+  -- an inactive item has no time
   no_time : (x : ℕ) → x < item_count g → item_active g s.values (item_at g x) ≡ false → get_or t.times x None ≡ None
   no_time x k idle = time_is g order frozen s t run x k ∙ cond-false _ _ _ idle
 
+  -- after an inactive process, what was known is all that has to be known
   pub knows_idle : (known : Times) → active g s.values p ≡ false → Knows g order t i known →
       Knows g order t (i + 1) known
   knows_idle known idle knows = record {
@@ -197,6 +211,11 @@ module _ (g : Graph) (order : List ℕ) (topological : IsTopological g order) (f
     no_ends = λ q k h. knows.no_ends q k (omega arith);
   }
 
+  -- given what is known before the place, with the start, the end and the sends of the process set
+  -- `acts`: p is active. `knows`: what is known is that of the run before place i. `places`, `ends`: the lists have
+  -- an entry for each item and each process. `starts`, `stops`: `begun` is what was known, with start and end of p
+  -- set. `start_is`, `end_is`: both are those of the run. `sent`, `keeps`: `new` also has the times of all that p
+  -- sends, and no other end.
   module _ (acts : active g s.values p ≡ true) (known begun new : Times) (start end free : ℕ)
       (knows : Knows g order t i known)
       (places : length known.times ≡ item_count g) (ends : length known.ends ≡ process_count g)
@@ -223,6 +242,7 @@ module _ (g : Graph) (order : List ℕ) (topological : IsTopological g order) (f
         ∙ ap Some start_is
         ∙ sym (has_time g order frozen s t run p (omega arith) (start_acts g order frozen s t run p l acts))
 
+    -- the start of p has been set, an item that is sent has been set by the send, and a local one has no time
     its_item : (x : ℕ) → x < item_count g → producer g x ≡ p → get_or new.times x None ≡ get_or t.times x None
     its_item x k by = elim (cases_eq x p) [
       | inl e ↦ subst (λ z. get_or new.times z None ≡ get_or t.times z None) (sym e) its_start
@@ -251,6 +271,7 @@ module _ (g : Graph) (order : List ℕ) (topological : IsTopological g order) (f
     other_end q other =
         ap (λ ts. get_or ts q None) (keeps.ends ∙ stops) ∙ get_or-set_other known.ends p q (Some end) None other
 
+    -- with its start, its end and the times of all that it sends, all is known before the next place
     pub knows_active : Knows g order t (i + 1) new
     knows_active = record {
       times = λ x k h. elim (up_to (producer g x) (producer_in_range g order topological x k) h) [

@@ -78,6 +78,8 @@ columns_at rows x = elim (cases_lt x (length rows)) [
       ∙ sym (ap (λ (row : Row). row.columns) (get_or_past rows x no_row past))
 ]
 
+-- given the rows that are found about a graph within the limits
+-- `is`: one row stands for each item, each carries no more than it may, and all frozen times are early.
 module _ (g : Graph) (within : IsWithinLimits g) (urgency order : List ℕ) (admitted : Admitted g urgency order)
     (frozen : List (Option ℕ)) (rows : List Row)
     (is : AreRowsFound g urgency order frozen rows) where
@@ -100,6 +102,7 @@ module _ (g : Graph) (within : IsWithinLimits g) (urgency order : List ℕ) (adm
     of_rows : AreTablesCarrying g urgency order frozen columns tables
     of_rows = record { timed = timed; found = is.found; columns = λ x. have x ∙ sym (columns_at rows x) }
 
+    -- tables with these rows are exact and lawful
     pub lawful : (r : Reach) → IsReach g order r → AreExactAndLawful g urgency order frozen r tables
     lawful r reached = carrying_tables_are_lawful g urgency order frozen columns tables r of_rows reached
 
@@ -108,6 +111,7 @@ module _ (g : Graph) (within : IsWithinLimits g) (urgency order : List ℕ) (adm
   all_rows : flat_map (λ (t : NodeTable). t.starts ++ t.sends) (one_table rows) ≡ rows
   all_rows = append-nil (rows ++ []) ∙ append-nil rows
 
+  -- the columns of item x are those of its own row, since the row at place x is that of item x
   one_has : (x : ℕ) → columns_of (one_table rows) x ≡ (row_for rows x).columns
   one_has x = ap (λ rs. columns_in rs x) all_rows ∙ elim (cases_lt x (item_count g)) [
     | inl l ↦ let first : ℕ = 0 in ap (columns_in rows) (let e : x ≡ first + x = omega arith in e) ∙
@@ -117,6 +121,7 @@ module _ (g : Graph) (within : IsWithinLimits g) (urgency order : List ℕ) (adm
         ∙ sym (ap (λ (row : Row). row.columns) (get_or_past rows x no_row (omega (arith, past, long))))
   ]
 
+  -- a row has no more columns than its item's reach has views
   row_views : (r : Reach) → IsReach g order r → (x : ℕ) → x < item_count g →
       length (row_for rows x).columns ≤ views g (reach_of r x)
   row_views r reached x l = subst (λ cs. length cs ≤ views g (reach_of r x)) (one_has x)
@@ -134,6 +139,7 @@ module _ (g : Graph) (within : IsWithinLimits g) (urgency order : List ℕ) (adm
       let small : AreSmall r.0 = run_small g order frozen s r.0 within admitted.topological lawful is.early r.1 in
       subst (λ o. unwrap_or o 0 < 2 ^ 59) is_time (small.times x)
 
+  -- each column of a row can be written
   column_writable : (x : ℕ) → x < item_count g → (c : Column) → Contains (row_at columns x) c → IsWritable g c
   column_writable x l c k =
       let row : IsCarryingRow g urgency order frozen columns x = is.found.each x l in
@@ -205,6 +211,7 @@ module _ (g : Graph) (within : IsWithinLimits g) (urgency order : List ℕ) (adm
     reached : IsReach g order reach
     reached = (some_reach g order admitted.topological).1
 
+    -- an item with a row is too wide if it has too many views, or if the items up to it have too many columns
     wide_by_views : (x : ℕ) → 0 < rows_of_item g (item_at g x) → most_views < views g (reach_of reach x) →
         is_too_wide g reach x ≡ true
     wide_by_views x some many =
@@ -212,6 +219,7 @@ module _ (g : Graph) (within : IsWithinLimits g) (urgency order : List ℕ) (adm
         (or_left (nat_lt most_views (views g (reach_of reach x))) _
         (lt-ltb most_views (views g (reach_of reach x)) many))
 
+    -- an item with rows is too wide if the loads up to it are more than may be
     wide_by_loads : (x : ℕ) → 0 < rows_of_item g (item_at g x) →
         most_loads < sum_by (load g reach) (numbers_below (x + 1)) →
         is_too_wide g reach x ≡ true
@@ -220,6 +228,7 @@ module _ (g : Graph) (within : IsWithinLimits g) (urgency order : List ℕ) (adm
         (or_right (nat_lt most_views (views g (reach_of reach x))) _
         (lt-ltb most_loads (sum_by (load g reach) (numbers_below (x + 1))) many))
 
+    -- no item is too wide
     not_wide : (x : ℕ) → x < item_count g → is_too_wide g reach x ≡ true → ⊥
     not_wide x l wide = both_ways (is_too_wide g reach x) (narrow reach reached x l) wide
 
@@ -227,6 +236,7 @@ module _ (g : Graph) (within : IsWithinLimits g) (urgency order : List ℕ) (adm
     no_load : (x : ℕ) → rows_of_item g (item_at g x) ≡ 0 → load g reach x ≡ 0
     no_load x none = ap (λ n. views g (reach_of reach x) * n) none ∙ omega arith
 
+    -- by induction on n: the first item that went beyond the most would be too wide
     loads_few : (n : ℕ) → n ≤ item_count g → sum_by (load g reach) (numbers_below n) ≤ most_loads
     loads_few zero l = omega arith
     loads_few (suc n) l =
@@ -243,6 +253,7 @@ module _ (g : Graph) (within : IsWithinLimits g) (urgency order : List ℕ) (adm
           ]
         ])
 
+    -- each row has few enough columns
     row_few : (x : ℕ) → x < item_count g → length (row_for rows x).columns ≤ MOST_COLUMNS
     row_few x l = elim (cases_lt 0 (rows_of_item g (item_at g x))) [
       | inl some ↦ elim (cases_lt most_views (views g (reach_of reach x))) [
@@ -253,6 +264,7 @@ module _ (g : Graph) (within : IsWithinLimits g) (urgency order : List ℕ) (adm
           omega (arith, ap length (unsent_row x none_here.0 l none_here.1))
     ]
 
+    -- all rows of all tables together have few enough columns
     loads : sum_by (λ x. length (row_for rows x).columns * rows_of_item g (item_at g x)) (numbers_below (item_count g))
         ≤ MOST_LOAD
     loads = omega (
@@ -271,6 +283,7 @@ module _ (g : Graph) (within : IsWithinLimits g) (urgency order : List ℕ) (adm
       loads = loads;
     }
 
+  -- each column can be written, and the rest is what it means that the rows fit
   writable : DoRowsFit g rows → AreWritable g rows
   writable fits = record {
     items = is.items;
@@ -281,10 +294,12 @@ module _ (g : Graph) (within : IsWithinLimits g) (urgency order : List ℕ) (adm
     unsent = unsent_row;
   }
 
+-- rows that are found fit if no item is too wide
 pub found_rows_fit : FoundRowsFit
 found_rows_fit g urgency order frozen rows within admitted is narrow =
     fit g within urgency order admitted frozen rows is narrow
 
+-- rows that are found and fit can be written
 pub found_rows_are_writable : FoundRowsAreWritable
 found_rows_are_writable g urgency order frozen rows within admitted is fits =
     writable g within urgency order admitted frozen rows is fits

@@ -7,6 +7,7 @@ use Rattle.cpg_base.specs.Scenario.{zero_scenario, number_of_value, is_before, S
 use Rattle.cpg_base.proofs.ScenarioOrder.{not_before_by_parts}
 
 module _ (g : Graph) where
+  -- it is a scenario of the graph
   pub zero_lawful : IsScenario g (zero_scenario g)
   zero_lawful = record {
     values = length-replicate (condition_count g) false;
@@ -14,7 +15,7 @@ module _ (g : Graph) where
     budget = omega (arith, sum_by-replicate (λ (x : ℕ). x) (process_count g) 0);
   }
 
-  -- nothing comes before it
+  -- no scenario comes before it
   pub zero_first : (order : List ℕ) (s : Scenario) → is_before g order s (zero_scenario g) ≡ false
   zero_first order s = not_before_by_parts g (zero_scenario g) s order
       (λ p. omega (arith, same_all {X = ℕ} (process_count g) p 0))

@@ -20,17 +20,28 @@ use Rattle.cpg_run.specs.Laws.{Keeps}
 -- has views.
 -- Every rule is kept, except the one on dues if an end is past its due. Scenarios are compared by the urgency order.
 pub record IsBuiltFor (g : Graph) (urgency order : List ℕ) (b : Built) : Type 0 where
+  -- the head of the tables is that of the graph
   pub head : b.tables.head ≡ head_of g
+  -- each node has a row for each of its processes and for each item that it sends
   pub shape : HasShape g b.tables.nodes
+  -- the frozen times are those of the graph under the order
   pub frozen : AreFrozenTimes g order b.frozen
+  -- the variables on which the time of each item may depend
   pub reach : Reach
   pub reached : IsReach g order reach
+  -- the rows have the times of the runs, and their cubes speak of the reach alone
   pub exact : IsExact g urgency order b.frozen reach b.tables.nodes
+  -- a view is one way in which the variables of an item's reach may stand
   pub views : (x : ℕ) → x < item_count g → length (columns_of b.tables.nodes x) ≤ views g (reach_of reach x)
+  -- the greatest finish, with the least scenario and the least process that have it
   pub worst : IsWorst g urgency order b.frozen b.worst b.worst_in b.worst_by
+  -- how far an end is past its due at most, with the least scenario and the least process that have it
   pub excess : IsExcess g urgency order b.frozen b.excess b.excess_in b.excess_by
+  -- all rules but that on dues are kept in any case
   pub rules : (rule : Rule) → rule ≢ Rule.Due → Keeps rule g b.tables.nodes
+  -- the rule on dues is kept if nothing is late
   pub due : b.excess ≡ 0 → Keeps Rule.Due g b.tables.nodes
+  -- each node has the hear rows that are due: the sender's columns, later by the slot
   pub hears : (node : ℕ) (t : NodeTable) → slice_get b.tables.nodes node ≡ Some t →
       t.hears ≡ hear_rows g b.tables.nodes node
 

@@ -33,7 +33,7 @@ number_known s v = exactly v (number_of s v)
 abbrev pub decided : Graph → Scenario → ℕ → List Literal
 decided g s p = map (λ c. number_known s (value_variable c)) (deciding g s.values p)
 
--- what the broadcasts of those of other nodes told
+-- what the broadcasts told of those conditions that belong to processes of other nodes
 abbrev pub heard : Graph → List (List Column) → Scenario → ℕ → List Literal
 heard g rows s p =
     flat_map (λ c. if node_of g (process_of g c) == node_of g p then [] else carried_by_row rows s (broadcast_item g c))

@@ -27,13 +27,20 @@ pub record ContainsKept (k : ℕ) (cube literals : List Literal) : Type 0 where
 -- the columns of an item have the times of the runs, and if one matches it says no more than what is carried there
 pub record IsCarryingRow (g : Graph) (urgency order : List ℕ) (frozen : List (Option ℕ)) (rows : List (List Column))
     (x : ℕ) : Type 0 where
+  -- in each scenario the columns have the one time of the run, or none
   pub times : HaveTimesOf g order frozen x (row_at rows x)
+  -- a column that matches says no more than what is carried beside the time
   pub carries : (s : Scenario) (c : Column) → IsScenario g s → Contains (row_at rows x) c → IsTrue (matches c.cube s) →
       ContainsKept g.faults c.cube (carried g order rows s x)
+  -- the cubes are cubes of the graph
   pub cubes : All (λ c. IsCube g c.cube) (row_at rows x)
+  -- all numbers that the cubes name are among those that the faults allow
   pub within : AreWithin g.faults (row_at rows x)
+  -- no literal holds always
   pub not_whole : HaveNoWhole g.faults (row_at rows x)
+  -- each column matches some scenario
   pub met : AreMet g urgency (row_at rows x)
+  -- the columns are in the order of the first scenarios that they match
   pub ordered : AreOrdered g urgency (row_at rows x)
 
 -- a row for each item, those of starts merged
@@ -50,7 +57,7 @@ pub record AreTablesCarrying (g : Graph) (urgency order : List ℕ) (frozen : Li
   pub found : AreCarrying g urgency order frozen rows
   pub columns : (x : ℕ) → columns_of tables x ≡ row_at rows x
 
--- what such tables are
+-- such tables are exact and supported, keep the rules, and have no more columns than their items have views
 pub record AreExactAndLawful (g : Graph) (urgency order : List ℕ) (frozen : List (Option ℕ)) (r : Reach)
     (tables : List NodeTable) : Type 0 where
   pub exact : IsExact g urgency order frozen r tables
@@ -59,6 +66,7 @@ pub record AreExactAndLawful (g : Graph) (urgency order : List ℕ) (frozen : Li
   pub dues : NothingIsLate g order frozen → Keeps Rule.Due g tables
   pub views : process_count g ≤ 128 → (x : ℕ) → x < item_count g → length (columns_of tables x) ≤ views g (reach_of r x)
 
+-- tables of carrying rows are exact and lawful
 abbrev pub CarryingTablesAreLawful : Type 0
 CarryingTablesAreLawful = (g : Graph) (urgency order : List ℕ) (frozen : List (Option ℕ)) (rows : List (List Column))
     (tables : List NodeTable) (r : Reach) →

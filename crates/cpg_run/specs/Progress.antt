@@ -19,11 +19,11 @@ pub record IsActed (g : Graph) (s : Scenario) (node y : ℕ) : Type 0 where
   pub home : home g y ≡ node
   pub active : item_active g s.values (item_at g y) ≡ true
 
--- for a process before the place i
+-- an item that a node sends for a process before the place i
 abbrev pub IsSentBefore : Graph → List ℕ → Scenario → ℕ → ℕ → ℕ → Type 0
 IsSentBefore g order s node i y = IsActed g s node y × (place order (producer g y) < i)
 
--- for a process before p, or as one of the first k of what p sends
+-- an item that p's node sends for a process before p, or as one of the first k items in the queue of p
 abbrev pub IsSentBy : Graph → List ℕ → Scenario → ℕ → ℕ → ℕ → Type 0
 IsSentBy g order s p k y =
     IsActed g s (node_of g p) y × ((place order (producer g y) < place order p) ⊎ Contains (take k (queue_of g p)) y)
@@ -39,10 +39,13 @@ IsFree g order s t i node v = IsMost (IsSentBefore g order s node i) (free_after
 -- the active processes before the place i on a node have ended, and the node has heard all that decides one of the
 -- processes there, by this time
 pub record IsReady (g : Graph) (order : List ℕ) (s : Scenario) (t : Times) (i node v : ℕ) : Type 0 where
+  -- no active process before the place on the node ends later
   pub ends : (q : ℕ) → q < process_count g → place order q < i → node_of g q ≡ node → active g s.values q ≡ true →
       end_in t q ≤ v
+  -- no condition that decides a process there is heard later
   pub heard : (q c : ℕ) → q < process_count g → place order q < i → node_of g q ≡ node → c < condition_count g →
       decides g s.values q c ≡ true → heard_there g t node c ≤ v
+  -- no earlier time will do
   pub least : (b : ℕ)
       → ((q : ℕ) → q < process_count g → place order q < i → node_of g q ≡ node →
       active g s.values q ≡ true → end_in t q ≤ b)
@@ -53,10 +56,14 @@ pub record IsReady (g : Graph) (order : List ℕ) (s : Scenario) (t : Times) (i 
 
 -- what is known is that of the run as far as it is settled before the place i, and nothing else
 pub record Knows (g : Graph) (order : List ℕ) (t : Times) (i : ℕ) (known : Times) : Type 0 where
+  -- what comes from processes before the place has its time of the run
   pub times : (x : ℕ) → x < item_count g → place order (producer g x) < i →
       get_or known.times x None ≡ get_or t.times x None
+  -- nothing is known of the times of what comes from later processes
   pub later : (x : ℕ) → x < item_count g → i ≤ place order (producer g x) → get_or known.times x None ≡ None
+  -- the processes before the place have their ends of the run
   pub ends : (p : ℕ) → p < process_count g → place order p < i → get_or known.ends p None ≡ get_or t.ends p None
+  -- nothing is known of the ends of later processes
   pub no_ends : (p : ℕ) → p < process_count g → i ≤ place order p → get_or known.ends p None ≡ None
 
 -- a place for the time of each item, for the end of each process, and by node for when it is ready and its slots are
@@ -67,7 +74,7 @@ pub record HasPlaces (g : Graph) (known : Times) (ready free : List ℕ) : Type 
   pub ready_count : length ready ≡ length g.nodes
   pub free_count : length free ≡ length g.nodes
 
--- all of this before the place i
+-- before the place i: what is known, when each node is ready, and when its slots are free
 pub record IsAt (g : Graph) (order : List ℕ) (s : Scenario) (t : Times) (i : ℕ) (known : Times)
     (ready free : List ℕ) : Type 0 where
   pub knows : Knows g order t i known
@@ -81,11 +88,14 @@ pub record CanSend (g : Graph) (order : List ℕ) (s : Scenario) (t : Times) (p 
   pub none : (x : ℕ) → Contains (queue_of g p) x → get_or known.times x None ≡ None
   pub slots_free : IsFree g order s t (place order p) (node_of g p) free
 
--- the first k of what a process sends have their times
+-- the first k items in the queue of a process have their times
 pub record HasSent (g : Graph) (order : List ℕ) (s : Scenario) (t : Times) (p k : ℕ) (old new : Times)
     (free : ℕ) : Type 0 where
+  -- the first k have their times of the run
   pub sent : (x : ℕ) → Contains (take k (queue_of g p)) x → get_or new.times x None ≡ get_or t.times x None
+  -- everything else is as before
   pub others : (x : ℕ) → (Contains (take k (queue_of g p)) x → ⊥) → get_or new.times x None ≡ get_or old.times x None
+  -- and this is when the slots of the node are free after them
   pub slots_free : IsMost (IsSentBy g order s p k) (free_after g t) free
 
 -- sending changes no end
@@ -93,8 +103,8 @@ pub record KeepsEnds (old new : Times) : Type 0 where
   pub times : length new.times ≡ length old.times
   pub ends : new.ends ≡ old.ends
 
--- what is found of a run: its times so far, and by node when it is ready for its next process, but for what decides
--- that one, and from when on its slots are free
+-- what is found of a run: its times so far and, for each node, when it is ready for its next process, apart from what
+-- decides that process, and when its slots are free
 pub record ProgressState : Type 0 where
   pub known : Times
   pub ready : List ℕ

@@ -15,9 +15,13 @@ use Rattle.cpg_run.specs.Carried.{row_at, carried}
 
 -- a cube with the ranges that the literals leave together, on no other variables than theirs
 pub record IsCubeOf (k : ℕ) (literals cube : List Literal) : Type 0 where
+  -- its literals are in the order of their variables
   pub rising : IsRising cube
+  -- each of its literals is on a variable of theirs
   pub spoken : (l : Literal) → Contains cube l → (m : Literal) × Contains literals m × (m.variable ≡ l.variable)
+  -- the low of each variable is the greatest of their lows
   pub low : (v : ℕ) → low_in cube v ≡ kept_low literals v
+  -- the high of each variable is the least of their highs
   pub high : (v : ℕ) → high_in k cube v ≡ kept_high k literals v
 
 -- an entry of an item for a scenario in which it is active: its time in that scenario, with what is carried there

@@ -12,6 +12,7 @@ use Rattle.cpg_run.specs.Run.{Times, IsRun, input_bounds}
 use Rattle.cpg_run.specs.declared.setting.Setting.{Setting}
 use Rattle.cpg_run.specs.declared.stepping.Nodes.{Nodes}
 
+-- the graph is admitted, the order is topological, and the plan is that of the graph
 pub record IsSetting (setting : Setting) : Type 0 where
   pub admitted : AreAdmitted setting.problem.now setting.guards.now
   pub topological : IsTopological setting.problem.now setting.order.now

@@ -12,7 +12,7 @@ use cpg_base::{OutOfMemory, Problem, Scenario};
 use cpg_rules::GuardTrees;
 use std::alloc::Global;
 
-/// Whether a process is active in a scenario, by the guards of an admitted graph. The contract alone names `problem`.
+/// Whether a process is active in a scenario, by the guards of an admitted graph. Only the contract uses `problem`.
 pub fn is_active(problem: &Problem, guards: &GuardTrees, scenario: &Scenario, process: u32) -> bool
     requires admitted { AreAdmitted problem.now guards.now }
     requires scenario { IsScenario problem.now scenario.now }
@@ -23,7 +23,7 @@ pub fn is_active(problem: &Problem, guards: &GuardTrees, scenario: &Scenario, pr
     active
 }
 
-/// Whether an edge is live. The contract alone names `problem`.
+/// Whether an edge is live. Only the contract uses `problem`.
 pub(crate) fn is_live(
     problem: &Problem,
     guards: &GuardTrees,
@@ -39,7 +39,7 @@ pub(crate) fn is_live(
     live
 }
 
-/// The conditions that decide a process. The contract alone names `problem`.
+/// The conditions that decide a process. Only the contract uses `problem`.
 pub(crate) fn deciding(
     alloc: Global,
     problem: &Problem,
@@ -57,8 +57,8 @@ pub(crate) fn deciding(
     Ok(conditions)
 }
 
-/// Whether an item that an active process may send is active: each broadcast is, and a message with its edge. The contract
-/// alone names `process`.
+/// Whether an item that an active process may send is active: each broadcast is active, and a message is active if its
+/// edge is live. Only the contract uses `process`.
 pub(crate) fn is_item_active(
     problem: &Problem,
     guards: &GuardTrees,
@@ -74,6 +74,7 @@ pub(crate) fn is_item_active(
     ensures { result ≡ item_active problem.now scenario.now.values (item_at problem.now item) }
 {
     let processes = problem.processes().len() as u32;
+    // processes come first, then messages, then broadcasts: a broadcast of an active process is active
     if item >= processes + problem.edges().len() as u32 {
         return true;
     }

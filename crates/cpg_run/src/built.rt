@@ -18,7 +18,7 @@ pub struct Built {
     pub worst_in: Scenario,
     /// The least process that ends at it there; `None` exactly if there is no process.
     pub worst_by: Option<u32>,
-    /// How far an end is past its due at most, in time units.
+    /// The greatest excess: how far an end is past its due at most, in time units.
     pub excess: u64,
     /// The least scenario that has this excess.
     pub excess_in: Scenario,

@@ -21,7 +21,7 @@ impl Model for FrozenTimes {
 }
 
 impl FrozenTimes {
-    /// No time for any item.
+    /// Frozen times without a time for any item.
     pub fn none(alloc: Global, problem: &Problem) -> Result<FrozenTimes, OutOfMemory>
         ensures { IfOk result (λ frozen. frozen ≡ nothing_frozen problem.now) }
     {
@@ -49,7 +49,7 @@ impl FrozenTimes {
         self.times[item as usize] = Some(time);
     }
 
-    /// Equal frozen times.
+    /// A copy of the frozen times.
     pub fn copy(&self) -> Result<FrozenTimes, OutOfMemory>
         ensures { IfOk result (λ frozen. frozen ≡ self.now) }
     {

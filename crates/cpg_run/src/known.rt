@@ -1,4 +1,4 @@
-//! The times of a run as far as they are known.
+//! The times of a run that are known so far.
 ghost use Rattle.std.specs.Prelude.{◌≡◌, ◌<◌, IfOk, Some, None, get_or, length, slice_set};
 ghost use Rattle.std.specs.List.{flat_map};
 ghost use Rattle.std.specs.Option.{option_to_list};
@@ -26,7 +26,7 @@ impl Model for Known {
     ghost view = { λ k. record { times = k.times.items; ends = k.ends.items; finish = 0 } };
 }
 
-/// The greatest of these ends, or 0 of none.
+/// The greatest of these ends, or 0 if there is none.
 fn greatest_end(ends: &[Option<u64>]) -> u64
     ensures { result ≡ greatest (flat_map option_to_list ends.now) }
 {
@@ -40,7 +40,7 @@ fn greatest_end(ends: &[Option<u64>]) -> u64
 }
 
 impl Known {
-    /// Nothing is known of a graph's items.
+    /// Known times of a graph's items when none is known yet.
     pub(crate) fn none(alloc: Global, problem: &Problem) -> Result<Known, OutOfMemory>
         ensures { IfOk result (λ known. known ≡ no_times problem.now) }
     {
@@ -52,7 +52,7 @@ impl Known {
         })
     }
 
-    /// Equal times and ends.
+    /// A copy of the times and ends.
     pub(crate) fn copy(&self) -> Result<Known, OutOfMemory>
         ensures { IfOk result (λ known. known ≡ self.now) }
     {

@@ -30,7 +30,7 @@ pub fn carrying_tables_are_lawful()
     ensures { CarryingTablesAreLawful }
 {}
 
-/// The rows of groups of listed scenarios are such rows.
+/// The rows of groups of listed scenarios carry no more than they may.
 pub fn listed_rows_carry()
     ensures { ListedRowsCarry }
 {}

@@ -27,6 +27,7 @@ pub fn run_by(
     ensures { IfOk result (IsRunOf setting.now frozen.now scenario.now) }
 {
     let mut progress = RunProgress::none(alloc, setting.problem)?;
+    // place by place along the order: a process waits only for processes before it
     for place in 0..setting.problem.processes().len() as u32 {
         progress.step(alloc, setting, frozen, scenario, place)?;
     }

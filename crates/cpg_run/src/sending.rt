@@ -17,7 +17,8 @@ use crate::{FrozenTimes, Setting};
 use cpg_base::{Problem, Scenario};
 use cpg_bus::Plan;
 
-/// When an active item is sent: in a slot that is free, at the end of its producer or later.
+/// When an active item is sent: in a slot that is free, at the end of its producer or later, and at its frozen time if
+/// that is later.
 fn send_time(
     problem: &Problem,
     plan: &Plan,
@@ -38,8 +39,8 @@ fn send_time(
     next.max(free).max(frozen_time(frozen, item))
 }
 
-/// Sets the times of all that an active process sends, if the slots of its node are free from a time on, and tells from
-/// when on they are free then.
+/// Sets the times of all that an active process sends, if the slots of its node are free from a given time on. Returns
+/// the time from which they are free after that.
 pub(crate) fn send(
     setting: &Setting<'_>,
     frozen: &FrozenTimes,
@@ -55,7 +56,9 @@ pub(crate) fn send(
     requires process { process < process_count setting.now.problem.now }
     requires active { active setting.now.problem.now scenario.now.values process ≡ true }
     requires times { length known.old.times ≡ item_count setting.now.problem.now }
+    // what is known is that of the run before the process sends
     requires can { CanSendIn setting.now frozen.now scenario.now process known.old free }
+    // each item in the queue of the process has its time of the run, and `result` is when the slots are free
     ensures sent { HasSentIn setting.now frozen.now scenario.now process (length (queue_of setting.now.problem.now process)) known.old known.new result }
     ensures keeps { KeepsEnds known.old known.new }
 {
@@ -65,6 +68,7 @@ pub(crate) fn send(
     let round = plan.round(problem);
     let mut free = free;
     for item in plan.queue(problem, process) {
+        // the queue is in the order of sending; an inactive item takes no slot
         if is_item_active(problem, setting.guards, scenario, process, *item) {
             let time = send_time(problem, plan, frozen, node, *item, end, free);
             known.set_time(*item, time);

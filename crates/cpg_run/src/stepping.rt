@@ -1,4 +1,4 @@
-//! One process after another.
+//! A run is found one process after another.
 ghost use Rattle.std.specs.List.{flat_map};
 ghost use Rattle.std.specs.Option.{option_to_list};
 ghost use Rattle.std.specs.Prelude.{◌≡◌, ◌+◌, ◌<◌, ℕ, List, Option, None, IfOk, OnErr, OnOk, get_or, length};
@@ -18,7 +18,8 @@ use cpg_base::{OutOfMemory, Problem, Scenario};
 use std::alloc::Global;
 use std::marker::Model;
 
-/// By node when it is ready for its next process but for what decides that one, and from when on its slots are free.
+/// For each node: when it is ready for its next process, apart from what decides that process, and when its slots are
+/// free.
 #[derive(Drop)]
 struct Nodes {
     ready: Vec<u64>,
@@ -49,6 +50,7 @@ fn step(
     let problem = setting.problem;
     let process = setting.order.at(place);
     let node = problem.node_of(process) as usize;
+    // when the node has heard each condition that decides the process
     let heard = decided_there(
         alloc,
         problem,
@@ -59,10 +61,12 @@ fn step(
         process,
     )?;
     let ready = nodes.ready[node].max(heard);
+    // an inactive process takes no time, but its node has to know by then that it is inactive
     if !is_active(problem, setting.guards, scenario, process) {
         nodes.ready[node] = ready;
         return Ok(());
     }
+    // an active one: its start and end are set first, since what it sends waits for its end
     let start = start(setting, frozen, known, scenario, process, ready);
     let end = start + problem.duration(process, scenario.fault(process));
     known.set_time(process, start);
@@ -88,8 +92,9 @@ impl Model for RunProgress {
 }
 
 impl RunProgress {
-    /// Nothing is known before the first place.
+    /// The progress before the first place, when nothing is known.
     pub fn none(alloc: Global, problem: &Problem) -> Result<RunProgress, OutOfMemory>
+        // the progress is that of the run of any scenario, before the first place
         ensures { IfOk result (λ progress. (order : List ℕ) (frozen : List (Option ℕ)) (s : Scenario) → IsAlong problem.now order frozen s 0 progress) }
     {
         let nodes = problem.nodes().len();
@@ -102,7 +107,7 @@ impl RunProgress {
         })
     }
 
-    /// Equal progress.
+    /// A copy of the progress.
     pub fn copy(&self) -> Result<RunProgress, OutOfMemory>
         ensures { IfOk result (λ progress. progress ≡ self.now) }
     {
@@ -122,7 +127,7 @@ impl RunProgress {
         self.known.time_if(item)
     }
 
-    /// Goes on over the process at a place and all that it sends.
+    /// Finds the times of the process at a place and of all that it sends.
     pub fn step(
         &mut self,
         alloc: Global,
@@ -137,6 +142,7 @@ impl RunProgress {
         requires scenario { IsScenario setting.now.problem.now scenario.now }
         requires place { place < process_count setting.now.problem.now }
         requires along { IsAlong setting.now.problem.now setting.now.order.now frozen.now scenario.now place self.old }
+        // if it succeeds, the progress is that of the run before the next place
         ensures along { OnOk result (IsAlong setting.now.problem.now setting.now.order.now frozen.now scenario.now (place + 1) self.new) }
         ensures stays { OnErr result (self.new ≡ self.old) }
     {

@@ -4,8 +4,9 @@ ghost use Rattle.std.specs.Prelude.{◌≡◌, IfOk, None, get_or};
 use cpg_base::OutOfMemory;
 use std::marker::Model;
 
-/// When each item starts or is sent, when each process ends, and when all have ended, in time units: seen as a list with
-/// a time or `None` for each item, such a list with an end for each process, and the greatest end.
+/// The times of a run, in time units: when each item starts or is sent, when each process ends, and when all have ended.
+/// They are seen as a list with a time or `None` for each item, such a list with an end for each process, and the
+/// greatest end.
 #[derive(Drop)]
 pub struct RunTimes {
     times: Vec<Option<u64>>,
@@ -22,7 +23,7 @@ impl Model for RunTimes {
 }
 
 impl RunTimes {
-    /// The times of these lists.
+    /// Times with these lists and this finish.
     pub fn new(times: Vec<Option<u64>>, ends: Vec<Option<u64>>, finish: u64) -> RunTimes
         ensures { result ≡ record { times = times.items; ends = ends.items; finish = finish } }
     {
@@ -33,7 +34,7 @@ impl RunTimes {
         }
     }
 
-    /// The time of an item, and `None` exactly if it is inactive or no item.
+    /// The time of an item. `None` exactly if it is inactive or no item.
     pub fn time(&self, item: u32) -> Option<u64>
         ensures { result ≡ get_or self.now.times item None }
     {
@@ -43,7 +44,7 @@ impl RunTimes {
         }
     }
 
-    /// The end of a process, and `None` exactly if it is inactive or no process.
+    /// The end of a process. `None` exactly if it is inactive or no process.
     pub fn end(&self, process: u32) -> Option<u64>
         ensures { result ≡ get_or self.now.ends process None }
     {
@@ -60,7 +61,7 @@ impl RunTimes {
         self.finish
     }
 
-    /// Equal times.
+    /// A copy of the times.
     pub fn copy(&self) -> Result<RunTimes, OutOfMemory>
         ensures { IfOk result (λ copy. copy ≡ self.now) }
     {

@@ -22,7 +22,7 @@ use cpg_bus::Plan;
 use cpg_rules::GuardTrees;
 use std::alloc::Global;
 
-/// When a frame of a node is there.
+/// When a frame of a node arrives.
 fn frame_there(problem: &Problem, plan: &Plan, known: &Known, node: u32, item: u32) -> u64
     requires plan { plan.now ≡ plan_of problem.now }
     requires node { node < length problem.now.nodes }
@@ -43,6 +43,7 @@ fn input_there(problem: &Problem, plan: &Plan, known: &Known, edge: u32) -> u64
     ensures { result ≡ input_there problem.now known.now edge }
 {
     let sender = problem.source(edge);
+    // a message comes over the bus, any other input is on the node itself at the sender's end
     if problem.is_message(edge) {
         frame_there(
             problem,
@@ -67,6 +68,7 @@ fn heard_there(problem: &Problem, plan: &Plan, known: &Known, node: u32, conditi
 {
     let process = problem.process_of(condition);
     let sender = problem.node_of(process);
+    // a condition of the node itself is known at its process's end, any other comes by its broadcast
     if sender == node {
         known.end(process)
     } else {
@@ -103,7 +105,7 @@ fn live_there(
     }
 }
 
-/// When all of these inputs that are live are there.
+/// When all live inputs among these are there.
 fn latest_there(
     problem: &Problem,
     guards: &GuardTrees,
@@ -119,6 +121,7 @@ fn latest_there(
     requires small { AreSmall known.now }
     ensures { result ≡ greatest (map (λ e. if live problem.now scenario.now.values e then input_there problem.now known.now e else 0) edges.now) }
 {
+    // 0 if no edge is live
     let mut latest = 0;
     for edge in edges {
         latest = latest.max(live_there(problem, guards, plan, known, scenario, *edge));
@@ -183,9 +186,11 @@ pub(crate) fn decided_there(
     requires scenario { IsScenario problem.now scenario.now }
     requires process { process < process_count problem.now }
     requires small { AreSmall known.now }
+    // the greatest time at which the node hears one of the conditions that decide the process, 0 without any
     ensures { IfOk result (IsMost (λ c. (c < condition_count problem.now) ×
         (decides problem.now scenario.now.values process c ≡ true)) (heard_there problem.now known.now (node_of problem.now process))) }
 {
+    // the conditions on the scenario's way through the guard of the process
     let conditions = deciding(alloc, problem, guards, scenario, process)?;
     let heard = latest_heard(
         problem,
@@ -223,6 +228,7 @@ pub(crate) fn start(
 {
     let (problem, plan) = (setting.problem, setting.plan);
     let inputs = inputs_there(problem, setting.guards, plan, known, scenario, process);
+    // the greatest of when the node is ready, the release, the inputs and the frozen time
     let released = ready.max(problem.release(process));
     released.max(inputs).max(frozen_time(frozen, process))
 }

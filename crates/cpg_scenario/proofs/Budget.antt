@@ -20,12 +20,13 @@ use Rattle.cpg_scenario.specs.File.{is_natural, count_given, count_of, keeps_bud
 use Rattle.cpg_scenario.specs.File.{lengths_of, length_or, length_given, is_length_if, IsPlayed}
 use Rattle.cpg_scenario.proofs.Filling.{all_pass, one_fails, over_budget}
 
+-- a scenario is made of its values and faults
 pub scenario_is : (s : Scenario) (values : List Bool) (faults : List ℕ) → s.values ≡ values → s.faults ≡ faults →
     s ≡ record { values = values; faults = faults }
 scenario_is s values faults e k =
     ap₂ (λ (v : List Bool) (f : List ℕ). let t : Scenario = record { values = v; faults = f } in t) e k
 
--- what is taken as a length is at least 1, and at most the longest
+-- a length that is taken is at least 1, and at most the longest
 given_within : (longest : ℕ) (given : Option ℤ) → 1 ≤ longest → is_length_if longest given ≡ true →
     (1 ≤ length_or longest given) × (length_or longest given ≤ longest)
 given_within longest None l t = (l, omega arith)
@@ -34,7 +35,7 @@ given_within longest (Some (pos n)) l t = let parts = and_parts (nat_le 1 n) (na
 given_within longest (Some (negsuc n)) l t = absurd (true≢false (sym t))
 
 module _ (g : Graph) (ms : Members) where
-  -- a count is below 0, or above what is left after those before it
+  -- a count that is below 0, or above the rest of the fault number, breaks the budget
   pub budget_broken : (n left : ℕ) (given : ℤ) → n < process_count g → given ≡ count_given g ms n →
       left + sum_by (count_of g ms) (numbers_below n) ≡ g.faults →
       (is_natural given ≡ false) ⊎
@@ -46,6 +47,7 @@ module _ (g : Graph) (ms : Members) where
       (process_count g) n g.faults left l total (let same = ap natural e in omega arith)))
       cause
 
+  -- if no count is below 0, and the counts leave the rest of the fault number, the budget is kept
   pub budget_kept : (left : ℕ) → ((p : ℕ) → p < process_count g → is_natural (count_given g ms p) ≡ true) →
       left + sum_by (count_of g ms) (numbers_below (process_count g)) ≡ g.faults →
       keeps_budget g ms ≡ true
@@ -53,6 +55,7 @@ module _ (g : Graph) (ms : Members) where
       (all_pass (λ p. is_natural (count_given g ms p)) (process_count g) h)
       (le-leb (sum_by (count_of g ms) (numbers_below (process_count g))) g.faults (omega arith))
 
+  -- the scenario of a document that keeps the budget is one of the graph
   pub is_scenario : keeps_budget g ms ≡ true → IsScenario g (scenario_of g ms)
   is_scenario kept = record {
     values = length-map _ _ ∙ length-range_with_len 0 (condition_count g);
@@ -64,6 +67,7 @@ module _ (g : Graph) (ms : Members) where
         omega arith;
   }
 
+  -- the full lengths of a document's scenario are the durations with its counts
   pub full_are : full_lengths g (scenario_of g ms)
       ≡ map (λ p. duration g p (count_of g ms p)) (numbers_below (process_count g))
   full_are = same_map (λ p. duration g p (fault_of (scenario_of g ms) p)) (λ p. duration g p (count_of g ms p))
@@ -75,6 +79,7 @@ module _ (g : Graph) (ms : Members) where
   takes_time within p f l = let at : IsProcessWithin _ (process_at g p) = within.processes p _ l in
       omega (arith, at.works)
 
+  -- each length of a document that keeps them is from 1 to the duration of its process
   within_length : keeps_lengths g ms ≡ true → IsWithinLimits g → (q : ℕ) → q < process_count g →
       (1 ≤ get_or (lengths_of g ms) q 0) ×
       (get_or (lengths_of g ms) q 0 ≤ duration g q (fault_of (scenario_of g ms) q))
@@ -91,6 +96,7 @@ module _ (g : Graph) (ms : Members) where
             (subst (λ n. length_or (duration g q (count_of g ms q)) (length_given g ms q) ≤ n) (sym few) w.1),
       )
 
+  -- a document that keeps the budget and the lengths says a scenario to play
   pub is_played : IsWithinLimits g → keeps_budget g ms ≡ true → keeps_lengths g ms ≡ true →
       (s : Scenario) (ls : List ℕ) → s ≡ scenario_of g ms →
       ls ≡ lengths_of g ms →

@@ -27,7 +27,7 @@ use Rattle.cpg_scenario.specs.Causes.{IsOverBudget}
 use Rattle.cpg_scenario.specs.Causes.{IsNoLength, HasBadLength, IsIn, rank_of_cause, FirstCausesAreTold}
 use Rattle.cpg_scenario.proofs.Filling.{all_pass, one_fails}
 
--- ---- a test and what is so if it fails
+-- ---- a test, and the fact that holds if it fails
 
 abbrev Fails : Bool → Type 0 → Type 0
 Fails test Fact = (test ≡ false) ↔ Fact
@@ -40,7 +40,7 @@ both true b A B f g = (λ e. inr (g.0 e), λ s. elim s [ inl x ↦ absurd (true�
 through : (test : Bool) (A B : Type 0) → Fails test A → (A → B) → (B → A) → Fails test B
 through test A B f on back = (λ e. on (f.0 e), λ b. f.1 (back b))
 
--- three and four tests after one another
+-- one of three facts, grouped in the other way
 next : {A B C : Type 0} → (A ⊎ B) ⊎ C → A ⊎ (B ⊎ C)
 next (inl (inl x)) = inl x
 next (inl (inr y)) = inr (inl y)
@@ -55,6 +55,7 @@ three : (a b c : Bool) (A B C : Type 0) → Fails a A → Fails b B → Fails c 
 three a b c A B C f g h =
     through ((a && b) && c) ((A ⊎ B) ⊎ C) (A ⊎ (B ⊎ C)) (both (a && b) c (A ⊎ B) C (both a b A B f g) h) next back
 
+-- a test of four tests fails exactly if one of the four facts holds
 four : (a b c d : Bool) (A B C D : Type 0) → Fails a A → Fails b B → Fails c C → Fails d D →
     Fails (((a && b) && c) && d) (A ⊎ (B ⊎ (C ⊎ D)))
 four a b c d A B C D f g h i = through (((a && b) && c) && d) ((A ⊎ B) ⊎ (C ⊎ D)) (A ⊎ (B ⊎ (C ⊎ D)))
@@ -145,6 +146,7 @@ names_fail g ms = three _ _ _ _ _ _ (named g (option_and_then as_table (get_memb
 -- ---- values, counts and lengths
 
 module _ (g : Graph) (ms : Members) where
+  -- a value that is given to a process without a condition is a bad value
   bad_value : (p : ℕ) → p < process_count g → (given : Option Bool) → value_given g ms p ≡ given → (c : Option ℕ) →
       condition_of g p ≡ c → (not (is_some given) || is_some c) ≡ false →
       HasBadValue g ms
@@ -163,6 +165,7 @@ module _ (g : Graph) (ms : Members) where
   negative (pos n) = never ⊥ (λ h. h)
   negative (negsuc n) = always ⊤ tt
 
+  -- the test of the counts fails exactly if one is below 0
   counts_fail : Fails (list_all (λ p. is_natural (count_given g ms p)) (numbers_below (process_count g)))
       (HasNegativeCount g ms)
   counts_fail = (
@@ -188,6 +191,7 @@ module _ (g : Graph) (ms : Members) where
   no_length longest (pos n) = both _ _ _ _ (above 1 n) (above n longest)
   no_length longest (negsuc n) = always ⊤ tt
 
+  -- a length that fails its test is a bad length
   bad_length : (p : ℕ) → p < process_count g → (given : Option ℤ) → length_given g ms p ≡ given →
       is_length_if (duration g p (count_of g ms p)) given ≡ false →
       HasBadLength g ms
@@ -278,6 +282,7 @@ module _ (test : Cause → Bool) (played : Played) where
   stops : (c : Cause) (cs : List Cause) → test c ≡ false → told (c ∷ cs) ≡ Err (Bad c)
   stops c cs fail = rw fail refl
 
+  -- the cause that is returned is the first whose test fails
   told_first : (cs : List Cause) (n : ℕ) → Rise n cs → Pass n → (cause : Cause) → told cs ≡ Err (Bad cause) →
       IsFirstFailure cause
   told_first [] n rise before cause e = cc
@@ -287,6 +292,7 @@ module _ (test : Cause → Bool) (played : Played) where
         subst IsFirstFailure (same_bad c cause (sym (stops c cs fail) ∙ e)) (fail, subst Pass (sym rise.0) before)
   ]
 
+  -- the first cause whose test fails is returned
   first_told : (cs : List Cause) (n : ℕ) → Rise n cs → (cause : Cause) → n ≤ rank_of_cause cause →
       IsFirstFailure cause →
       told cs ≡ Err (Bad cause)
@@ -303,6 +309,7 @@ module _ (test : Cause → Bool) (played : Played) where
   told_well [] pass = refl
   told_well (c ∷ cs) pass = goes_on c cs (pass c) ∙ told_well cs pass
 
+  -- if the scenario is returned, no test fails
   well_told : (cs : List Cause) (n : ℕ) → Rise n cs → Pass n → (p : Played) → told cs ≡ Ok p → (c : Cause) →
       test c ≡ true
   well_told [] n rise before p e c = before c (let f = few c in omega (arith, f, rise))
@@ -336,7 +343,7 @@ module _ (g : Graph) (ms : Members) where
   passes : (cause : Cause) → (IsIn g (Some ms) cause → ⊥) → test cause ≡ true
   passes cause none = true_from_ne_false (test cause) (λ e. none ((fails cause).0 e))
 
--- a document is rejected for its first cause, and played if there is none
+-- a document is refused for its first cause, and played if there is none
 abbrev Judged : Graph → Option Members → Type 0
 Judged g document =
     ((cause : Cause) → played_if g document ≡ Err (Bad cause) ↔ (IsIn g document cause ×
@@ -355,6 +362,7 @@ judged g None = (
         subst (λ c. IsIn g None c × ((other : Cause) → rank_of_cause other < rank_of_cause c → IsIn g None other → ⊥)) e
         (refl, λ other l h. absurd (omega (arith, l)))
 
+    -- bytes that are no document have the first cause alone
     back : (cause : Cause) → IsIn g None cause → played_if g None ≡ Err (Bad cause)
     back Toml h = refl
     back Field h = absurd h
@@ -400,6 +408,7 @@ judged g (Some ms) = (
     behind Budget h = omega arith
     behind Length h = omega arith
 
+-- each file is refused for its first cause, and says a scenario if there is no cause
 pub first_causes_are_told : FirstCausesAreTold
 unfolding file_of
 first_causes_are_told g bytes = let is = judged g (document_of bytes) in record {

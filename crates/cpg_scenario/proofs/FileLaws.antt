@@ -9,6 +9,7 @@ use Rattle.cpg_scenario.specs.declared.fault.Cause.TheVariants.{Toml}
 use Rattle.cpg_scenario.specs.declared.fault.ScenarioFault.TheVariants.{Bad}
 use Rattle.cpg_scenario.specs.File.{played_of, file_of}
 
+-- bytes that are a document are read as its tables
 pub file_of-read : (g : Graph) (bytes : List ℕ) (ms : Members) → IsUtf8 bytes → parse_document bytes ≡ Some ms →
     file_of g bytes ≡ played_of g ms
 unfolding file_of
@@ -18,6 +19,7 @@ none_if : (b : Bool) (o : Option Members) → (b ≡ true → o ≡ None) → co
 none_if true o h = h refl
 none_if false o h = refl
 
+-- bytes that are no document are refused as no TOML
 pub file_of-refused : (g : Graph) (bytes : List ℕ) → (IsUtf8 bytes → parse_document bytes ≡ None) →
     file_of g bytes ≡ Err (Bad Toml)
 unfolding file_of

@@ -12,13 +12,16 @@ use Rattle.cpg_base.proofs.Lists.{from_all, all_from, Contains-numbers, numbers-
 
 -- ---- tests of all numbers below a bound
 
+-- a test that passes for each number below a bound passes for all
 pub all_pass : (p : ℕ → Bool) (n : ℕ) → ((i : ℕ) → i < n → p i ≡ true) → list_all p (numbers_below n) ≡ true
 all_pass p n h = all_from p (numbers_below n) (λ i c. h i (numbers-Contains n i c))
 
+-- a test that fails for one number below a bound doesn't pass for all
 pub one_fails : (p : ℕ → Bool) (n i : ℕ) → i < n → p i ≡ false → list_all p (numbers_below n) ≡ false
 one_fails p n i l e = false_from_ne_true (list_all p (numbers_below n))
     (λ t. both_ways _ e (from_all p (numbers_below n) i t (Contains-numbers n i l)))
 
+-- what holds of the numbers below n, and of n, holds of those below n + 1
 pub below_next : (P : ℕ → Type 0) (n : ℕ) → ((i : ℕ) → i < n → P i) → P n → (i : ℕ) → i < n + 1 → P i
 below_next P n h here i l =
     ⊎_elim (λ (k : i < n). h i k) (λ (k : n ≤ i). let e : n ≡ i = omega arith in subst P e here) (cases_lt i n)
@@ -30,10 +33,12 @@ pub record FilledTo {X : Type 0} (f : ℕ → X) (count : ℕ) (d : X) (n : ℕ)
   pub long : length xs ≡ count
   pub there : (i : ℕ) → i < n → get_or xs i d ≡ f i
 
+-- at the start nothing is filled in
 pub filled_first : {X : Type 0} (f : ℕ → X) (count : ℕ) (d : X) (xs : List X) → length xs ≡ count →
     FilledTo f count d 0 xs
 filled_first f count d xs l = record { long = l; there = λ i k. absurd (omega arith) }
 
+-- one more place is filled in
 pub filled_next : {X : Type 0} (f : ℕ → X) (count : ℕ) (d : X) (n : ℕ) (xs : List X) (x : X) → n < count → x ≡ f n →
     FilledTo f count d n xs →
     FilledTo f count d (n + 1) (set xs n x)
@@ -47,6 +52,7 @@ filled_next f count d n xs x l e h = record {
       (cases_lt i n);
 }
 
+-- when all places are filled in, the list has what the function gives
 pub filled_all : {X : Type 0} (f : ℕ → X) (count : ℕ) (d : X) (n : ℕ) (xs : List X) → count ≤ n →
     FilledTo f count d n xs →
     xs ≡ map f (numbers_below count)
@@ -55,8 +61,9 @@ filled_all f count d n xs l h =
     ext_get_or d xs (map f (numbers_below count)) (h.long ∙ sym long) (λ i k. h.there i (let w = h.long in omega arith)
     ∙ sym (get_or-map-below f count i d (let w = h.long in omega arith)))
 
--- ---- what is left of a budget
+-- ---- the rest of a budget
 
+-- a sum up to n + 1 is that up to n and the next number
 pub sum_next : (f : ℕ → ℕ) (n : ℕ) → sum_by f (numbers_below (n + 1)) ≡ sum_by f (numbers_below n) + f n
 sum_next f n = ap (sum_by f) (below_push n) ∙ sum_by-append f (numbers_below n) (n ∷ [])
     ∙ (let e = sum_by-cons f n [] in omega arith)
@@ -69,6 +76,7 @@ sum_grows f n (suc m) =
     let e = ap (λ k. sum_by f (numbers_below k)) (let h : n + suc m ≡ n + m + 1 = omega arith in h) in
     omega arith
 
+-- if one number is more than the rest of the budget, the sum is over the budget
 pub over_budget : (f : ℕ → ℕ) (count n budget left : ℕ) → n < count → left + sum_by f (numbers_below n) ≡ budget →
     left < f n →
     nat_le (sum_by f (numbers_below count)) budget ≡ false

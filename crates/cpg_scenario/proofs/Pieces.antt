@@ -18,12 +18,14 @@ AreSome [] = ⊤
 AreSome ([] ∷ ps) = ⊥
 AreSome ((c ∷ cs) ∷ ps) = AreSome ps
 
+-- pieces are written after other pieces
 with_pieces-append : (text : List ℕ) (ps qs : List (List ℕ)) →
     with_pieces text (ps ++ qs) ≡ with_pieces (with_pieces text ps) qs
 with_pieces-append text [] qs = refl
 with_pieces-append [] (p ∷ ps) qs = with_pieces-append p ps qs
 with_pieces-append (c ∷ cs) (p ∷ ps) qs = with_pieces-append (((c ∷ cs) ++ codes ", ") ++ p) ps qs
 
+-- after a text that isn't empty each piece follows a comma
 after_some : (c : ℕ) (cs : List ℕ) (ps : List (List ℕ)) →
     with_pieces (c ∷ cs) ps ≡ (c ∷ cs) ++ flat_map (λ p. codes ", " ++ p) ps
 after_some c cs [] = sym (append-nil (c ∷ cs))
@@ -31,6 +33,7 @@ after_some c cs (p ∷ ps) = after_some c ((cs ++ codes ", ") ++ p) ps
     ∙ ap (λ l. c ∷ l) (append_assoc (cs ++ codes ", ") p (flat_map (λ q. codes ", " ++ q) ps)
     ∙ append_assoc cs (codes ", ") (p ++ flat_map (λ q. codes ", " ++ q) ps))
 
+-- pieces that are written one after the other, none of them empty, are the list with commas
 pub finished : (ps : List (List ℕ)) → AreSome ps → or_none (with_pieces [] ps) ≡ listed ps
 finished [] h = refl
 finished ([] ∷ ps) h = absurd h
@@ -64,12 +67,13 @@ value_some : (name : List ℕ) (b : Bool) → AreSome (value_pieces name b)
 value_some name false = tt
 value_some name true = after_name name _ _
 
+-- no piece of a scenario is empty
 pub pieces_some : (g : Graph) (s : Scenario) (ps : List ℕ) → AreSome (flat_map (pieces_of g s) ps)
 pieces_some g s ps = AreSome-flat_map (pieces_of g s)
     (λ p. AreSome-append (fault_pieces (process_at g p).name (fault_of s p)) _ (faults_some (process_at g p).name
     (fault_of s p)) (value_some (process_at g p).name (value_at s (condition_of g p)))) ps
 
--- one more process, as at a step of the loop
+-- the pieces of one more process are written after those before it
 pub next_pieces : (f : ℕ → List (List ℕ)) (n : ℕ) (text next : List ℕ) →
     text ≡ with_pieces [] (flat_map f (numbers_below n)) →
     next ≡ with_pieces text (f n) →

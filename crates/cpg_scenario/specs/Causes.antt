@@ -69,6 +69,7 @@ pub record HasBadValue (g : Graph) (ms : Members) : Type 0 where
   pub given : value_given g ms process ≡ Some value
   pub none : condition_of g process ≡ None
 
+-- a number is below 0
 abbrev pub IsNegative : ℤ → Type 0
 IsNegative (pos n) = ⊥
 IsNegative (negsuc n) = ⊤

@@ -38,6 +38,7 @@ abbrev pub are_typed : Bool → Members → Bool
 are_typed flags no_members = true
 are_typed flags (member text d ms) = is_typed flags d && are_typed flags ms
 
+-- whether something is a table with entries of that type
 abbrev pub is_typed_table : Bool → Option Members → Bool
 is_typed_table flags None = false
 is_typed_table flags (Some ms) = are_typed flags ms
@@ -47,6 +48,7 @@ abbrev pub is_table_of : Bool → Option Data → Bool
 is_table_of flags None = true
 is_table_of flags (Some d) = is_typed_table flags (as_table d)
 
+-- whether the top has its keys alone, and its tables have entries of their types
 abbrev pub has_fields : Members → Bool
 has_fields ms = are_among top_keys ms
     && is_table_of false (get_member (codes "faults") ms)
@@ -59,6 +61,7 @@ has_fields ms = are_among top_keys ms
 abbrev pub entry_at : Members → List ℕ → List ℕ → Option Data
 entry_at ms key name = option_and_then (get_member name) (option_and_then as_table (get_member key ms))
 
+-- the names of the processes
 abbrev pub process_names : Graph → List (List ℕ)
 process_names g = map (λ p. p.name) g.processes
 
@@ -67,14 +70,17 @@ abbrev pub are_named : Graph → Option Members → Bool
 are_named g None = true
 are_named g (Some ms) = are_among (process_names g) ms
 
+-- whether all keys of the table at a key are names of processes
 abbrev pub names_at : Graph → Members → List ℕ → Bool
 names_at g ms key = are_named g (option_and_then as_table (get_member key ms))
 
+-- whether all keys of the three tables are names of processes
 abbrev pub has_names : Graph → Members → Bool
 has_names g ms = names_at g ms (codes "faults") && names_at g ms (codes "values") && names_at g ms (codes "lengths")
 
 -- ---- values
 
+-- the value that a process is given, if any
 abbrev pub value_given : Graph → Members → ℕ → Option Bool
 value_given g ms p = option_and_then as_bool (entry_at ms (codes "values") (name_of g p))
 
@@ -82,34 +88,42 @@ value_given g ms p = option_and_then as_bool (entry_at ms (codes "values") (name
 abbrev pub may_have_value : Graph → Members → ℕ → Bool
 may_have_value g ms p = not (is_some (value_given g ms p)) || is_some (condition_of g p)
 
+-- whether each process that is given a value has a condition
 abbrev pub has_conditions : Graph → Members → Bool
 has_conditions g ms = list_all (may_have_value g ms) (numbers_below (process_count g))
 
+-- the values of a document, false if none is given
 abbrev pub values_of : Graph → Members → List Bool
 values_of g ms = map (λ c. unwrap_or (value_given g ms (process_of g c)) false) (numbers_below (condition_count g))
 
 -- ---- faults
 
+-- whether a number is not below 0
 abbrev pub is_natural : ℤ → Bool
 is_natural (pos n) = true
 is_natural (negsuc n) = false
 
+-- the fault count that a process is given, or else 0
 abbrev pub count_given : Graph → Members → ℕ → ℤ
 count_given g ms p = unwrap_or (option_and_then as_integer (entry_at ms (codes "faults") (name_of g p))) (pos 0)
 
+-- the fault count of a process, or 0 if a number below 0 is given
 abbrev pub count_of : Graph → Members → ℕ → ℕ
 count_of g ms p = natural (count_given g ms p)
 
+-- whether no count is below 0, and they add up to at most the fault number
 abbrev pub keeps_budget : Graph → Members → Bool
 keeps_budget g ms = list_all (λ p.
     is_natural (count_given g ms p)) (numbers_below (process_count g))
     && nat_le (sum_by (count_of g ms) (numbers_below (process_count g))) g.faults
 
+-- the scenario of a document
 abbrev pub scenario_of : Graph → Members → Scenario
 scenario_of g ms = record { values = values_of g ms; faults = map (count_of g ms) (numbers_below (process_count g)) }
 
 -- ---- lengths
 
+-- the length that the execution of a process is given, if any
 abbrev pub length_given : Graph → Members → ℕ → Option ℤ
 length_given g ms p = option_and_then as_integer (entry_at ms (codes "lengths") (name_of g p))
 
@@ -118,24 +132,29 @@ abbrev pub is_length : ℕ → ℤ → Bool
 is_length longest (pos n) = nat_le 1 n && nat_le n longest
 is_length longest (negsuc n) = false
 
+-- whether a length that is given is in range
 abbrev pub is_length_if : ℕ → Option ℤ → Bool
 is_length_if longest None = true
 is_length_if longest (Some n) = is_length longest n
 
+-- whether each length that is given is in range
 abbrev pub keeps_lengths : Graph → Members → Bool
 keeps_lengths g ms = list_all (λ p. is_length_if (duration g p (count_of g ms p)) (length_given g ms p))
     (numbers_below (process_count g))
 
+-- the length that is given, or else the longest
 abbrev pub length_or : ℕ → Option ℤ → ℕ
 length_or longest None = longest
 length_or longest (Some n) = natural n
 
+-- the lengths of a document
 abbrev pub lengths_of : Graph → Members → List ℕ
 lengths_of g ms =
     map (λ p. length_or (duration g p (count_of g ms p)) (length_given g ms p)) (numbers_below (process_count g))
 
 -- ---- the file
 
+-- a scenario to play, or the refusal of a file
 abbrev pub Reading : Type 0
 Reading = Result Played ScenarioFault
 
@@ -148,6 +167,7 @@ played_of g ms = if not (has_fields ms) then Err (Bad Field)
     else if not (keeps_lengths g ms) then Err (Bad Length)
     else Ok (record { scenario = scenario_of g ms; lengths = lengths_of g ms })
 
+-- the scenario of a document, or the refusal of bytes that are no document
 abbrev pub played_if : Graph → Option Members → Reading
 played_if g None = Err (Bad Toml)
 played_if g (Some ms) = played_of g ms

@@ -11,7 +11,7 @@ abbrev pub with_pieces : List ℕ → List (List ℕ) → List ℕ
 with_pieces text [] = text
 with_pieces text (p ∷ ps) = with_pieces (led text ++ p) ps
 
--- the text, and `none` of none
+-- the text, or `none` if there is none
 abbrev pub or_none : List ℕ → List ℕ
 or_none [] = codes "none"
 or_none (c ∷ cs) = c ∷ cs

@@ -22,6 +22,7 @@ fn is_top_key(text: &str) -> bool
     text == "lengths"
 }
 
+/// Whether all keys of a document may stand at the top.
 fn are_top_keys(document: &Table) -> bool
     ensures { result ≡ are_among top_keys (table_view document.now) }
 {
@@ -44,6 +45,7 @@ fn is_typed(value: &Value, flags: bool) -> bool
     }
 }
 
+/// Whether all entries of a table are booleans, or else integers.
 fn are_typed(table: &Table, flags: bool) -> bool
     ensures { result ≡ are_typed flags (table_view table.now) }
 {
@@ -55,7 +57,7 @@ fn are_typed(table: &Table, flags: bool) -> bool
     true
 }
 
-/// What stands at a key.
+/// The value at a key.
 fn value_at<'a>(table: &'a Table, key: &str) -> Option<&'a Value>
     ensures { option_map (λ v. view v.now) result ≡ get_member key.now (table_view table.now) }
 {
@@ -76,9 +78,11 @@ fn table_at<'a>(document: &'a Table, key: &str) -> Option<&'a Table>
 fn is_table_of(document: &Table, key: &str, flags: bool) -> bool
     ensures { result ≡ is_table_of flags (get_member key.now (table_view document.now)) }
 {
+    // an absent key is right
     let Some(value) = value_at(document, key) else {
         return true;
     };
+    // the key has a table, or else it is refused
     match value.as_table() {
         Some(table) => are_typed(table, flags),
         None => false,
@@ -131,6 +135,7 @@ pub fn flag_at(document: &Table, key: &str, name: &str) -> Option<bool>
     }
 }
 
+/// Whether a text is the name of a process.
 fn is_process(problem: &Problem, text: &str) -> bool
     ensures { result ≡ list_any (bytes_eq text.now) (process_names problem.now) }
 {
@@ -142,6 +147,7 @@ fn is_process(problem: &Problem, text: &str) -> bool
     false
 }
 
+/// Whether all keys of a table are names of processes.
 fn are_processes(problem: &Problem, table: &Table) -> bool
     ensures { result ≡ are_among (process_names problem.now) (table_view table.now) }
 {
@@ -153,11 +159,13 @@ fn are_processes(problem: &Problem, table: &Table) -> bool
     true
 }
 
+/// Whether all keys of the table at a key are names of processes, if there is a table.
 fn names_at(problem: &Problem, document: &Table, key: &str) -> bool
     ensures { result ≡ names_at problem.now (table_view document.now) key.now }
 {
     match table_at(document, key) {
         Some(table) => are_processes(problem, table),
+        // without a table there are no keys
         None => true,
     }
 }

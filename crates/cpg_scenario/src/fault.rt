@@ -1,8 +1,8 @@
-//! Why a file is no scenario.
+//! Why a file isn't a scenario.
 
 use cpg_base::OutOfMemory;
 
-/// What is wrong with a scenario file. The first of these that is there is told.
+/// What is wrong with a scenario file. The first cause that is there is returned.
 #[derive(Clone, Copy, Debug, PartialEq, Eq)]
 pub enum Cause {
     /// The bytes aren't UTF-8, or no TOML document.
@@ -19,7 +19,7 @@ pub enum Cause {
     Length,
 }
 
-/// Why a file is no scenario.
+/// Why a file isn't a scenario.
 #[derive(Clone, Copy, Debug, PartialEq, Eq)]
 pub enum ScenarioFault {
     /// The file isn't one of the graph.

@@ -1,4 +1,4 @@
-//! Reading of a scenario file.
+//! Reading a scenario file.
 ghost use Rattle.std.specs.Prelude.{◌≡◌, ◌≢◌, ◌<◌, ◌≤◌, ◌⊎◌, Err, IfOk, IfSome, IfNone, length, map, true, false, pos};
 ghost use Rattle.std.specs.Bool.{OnTrue};
 ghost use Rattle.toml.specs.View.{table_view};
@@ -38,6 +38,7 @@ fn may_have_value(problem: &Problem, document: &Table, process: u32) -> bool
     requires { process < process_count problem.now }
     ensures { result ≡ may_have_value problem.now (table_view document.now) process }
 {
+    // no value is given, so no condition is needed
     if value_given(problem, document, process).is_none() {
         return true;
     }
@@ -67,7 +68,7 @@ fn set_values(problem: &Problem, document: &Table, scenario: &mut Scenario)
     }
 }
 
-/// The fault count that a process is given, and else 0.
+/// The fault count that a process is given, or else 0.
 fn count_given(problem: &Problem, document: &Table, process: u32) -> i64
     requires { process < process_count problem.now }
     ensures { result ≡ count_given problem.now (table_view document.now) process }
@@ -76,7 +77,7 @@ fn count_given(problem: &Problem, document: &Table, process: u32) -> i64
     integer_at(document, "faults", name).unwrap_or(0)
 }
 
-/// A count within what is left of the fault number.
+/// A count, if it is within the rest of the fault number.
 fn count_within(count: i64, left: u8) -> Option<u8>
     requires { left ≤ 8 }
     ensures some { IfSome result (λ n. (count ≡ pos n) × (n ≤ left)) }
@@ -116,6 +117,7 @@ fn length_within(given: Option<i64>, longest: u64) -> Option<u64>
     ensures some { IfSome result (λ n. (n ≡ length_or longest given) × (is_length_if longest given ≡ true)) }
     ensures none { IfNone result (is_length_if longest given ≡ false) }
 {
+    // no length is given
     let Some(given) = given else {
         return Some(longest);
     };
@@ -160,6 +162,7 @@ fn read_played(alloc: Global, problem: &Problem, document: &Table) -> Result<Pla
     ensures document { result ≢ Err ScenarioFault.OutOfMemory → result ≡ played_of problem.now (table_view document.now) }
     ensures played { IfOk result (λ p. IsPlayed problem.now p) }
 {
+    // each cause is looked for in the whole document before the next one
     if !has_fields(document) {
         return Err(ScenarioFault::Bad(Cause::Field));
     }
@@ -169,6 +172,7 @@ fn read_played(alloc: Global, problem: &Problem, document: &Table) -> Result<Pla
     if !has_conditions(problem, document) {
         return Err(ScenarioFault::Bad(Cause::Condition));
     }
+    // from here on the counts and values are set as they are tested
     let mut scenario = Scenario::zero(alloc, problem)?;
     if !set_faults(problem, document, &mut scenario) {
         return Err(ScenarioFault::Bad(Cause::Budget));
@@ -182,7 +186,7 @@ fn read_played(alloc: Global, problem: &Problem, document: &Table) -> Result<Pla
 }
 
 /// Reads what the bytes of a scenario file say of a graph: its faults and values, and the lengths of its executions. What
-/// isn't named has no faults, is false, and takes its longest time. A refusal tells the first cause that is there, each
+/// isn't named has no faults, is false, and takes its longest time. A refusal names the first cause that is there, each
 /// looked for in the whole file before the next.
 pub fn read_scenario(
     alloc: Global,
@@ -194,6 +198,7 @@ pub fn read_scenario(
 {
     match toml::table_from_slice(alloc, bytes) {
         Ok(document) => read_played(alloc, problem, &document),
+        // the parser gave up: it ran out of memory, or the bytes are no document
         Err(error) => {
             if error.is_memory() {
                 Err(ScenarioFault::OutOfMemory)

@@ -7,7 +7,7 @@ ghost use Rattle.cpg_scenario.specs.Pieces.{led, or_none, with_pieces};
 use cpg_base::{OutOfMemory, Problem, Scenario};
 use std::alloc::{AllocError, Global};
 
-/// Parts the next piece from the one before, if there is one.
+/// Separates the next piece from the one before, if there is one.
 fn write_comma(out: &mut String) -> Result<(), AllocError>
     ensures { OnOk result (string_bytes out.new ≡ led (string_bytes out.old)) }
 {
@@ -21,6 +21,7 @@ fn write_comma(out: &mut String) -> Result<(), AllocError>
 fn write_faults(out: &mut String, name: &str, faults: u8) -> Result<(), AllocError>
     ensures { OnOk result (string_bytes out.new ≡ with_pieces (string_bytes out.old) (fault_pieces name.now faults)) }
 {
+    // a process without faults is left out
     if faults == 0 {
         return Ok(());
     }
@@ -32,6 +33,7 @@ fn write_faults(out: &mut String, name: &str, faults: u8) -> Result<(), AllocErr
 fn write_value(out: &mut String, name: &str, value: bool) -> Result<(), AllocError>
     ensures { OnOk result (string_bytes out.new ≡ with_pieces (string_bytes out.old) (value_pieces name.now value)) }
 {
+    // a false value is left out
     if !value {
         return Ok(());
     }
@@ -54,13 +56,14 @@ fn write_process(
     let name = problem.processes()[process as usize].name.as_str();
     write_faults(out, name, scenario.fault(process))?;
     let value = match problem.condition_of(process) {
+        // a process without a condition has no value
         Some(condition) => scenario.value(condition),
         None => false,
     };
     write_value(out, name, value)
 }
 
-/// `none` if nothing is said.
+/// Writes `none` if nothing is said.
 fn write_none(out: &mut String) -> Result<(), AllocError>
     ensures { OnOk result (string_bytes out.new ≡ or_none (string_bytes out.old)) }
 {

@@ -1,4 +1,4 @@
--- What a command reads, why it stops and what it puts out, by what the shelf tells of its files.
+-- What a command reads, why it stops and what it puts out, by what the shelf reports of its files.
 use Rattle.std.proofs.Common.{ℕ, suc, ◌≡◌, ◌<◌, ◌≤◌, ◌∙◌, List, [], ◌∷◌, ◌++◌, Option, Some, None, length, refl, ap}
 use Rattle.std.proofs.Common.{subst, arith, inl, inr}
 use Rattle.cpg_base.specs.Graph.{Graph}
@@ -48,6 +48,7 @@ unread_memory : (old new : ShelfState) (told : Option Text) (halt : Halt) → ha
 unread_memory old new told halt e =
     inr (inr (record { fault = ReadFault.OutOfMemory; halt_is = e; within = λ other. absurd (other refl); first = λ other. absurd (other refl) }))
 
+-- any command may be stopped by memory running out
 pub memory_stops : (old new : ShelfState) (c : Command) (halt : Halt) → halt ≡ Memory →
     StopsCommand (seen old new) c halt
 memory_stops old new (Show graph) halt e = inl (inl (unread_memory old new _ halt e))
@@ -94,6 +95,7 @@ module _ (old new : ShelfState) (k : KeepsShelf old new) where
   within : (f : Fetch) (limit : ℕ) → IsLast old new f → length f.given ≤ limit → given_count new ≤ limit
   within f limit is short = let c = is.count in omega (arith, c, short)
 
+  -- a graph file that was read gives the value of a graph, which stood on the shelf
   graph_of : (g : Option Graph) (name : Text) (f : Fetch) (v : Value) → IsRead g (file GraphFile name) f v →
       Agrees old.stands f →
       (a : Admission) × (v ≡ graph_value a) × Admits (old.stands name) a
@@ -104,6 +106,7 @@ module _ (old new : ShelfState) (k : KeepsShelf old new) where
         (tells_whole old.stands (file GraphFile name) f r.whole ag) r.whole.short r.says.2,
   )
 
+  -- a pack file that was read gives the value of tables, which stood on the shelf
   tables_of : (g : Option Graph) (name : Text) (f : Fetch) (v : Value) → IsRead g (file PackFile name) f v →
       Agrees old.stands f →
       (t : Tables) × (v ≡ tables_value t) × Spells (old.stands name) t
@@ -156,6 +159,7 @@ module _ (old new : ShelfState) (k : KeepsShelf old new) where
 
   -- ---- parts
 
+  -- if a part's file stops the run, it is the first that isn't read as a graph
   pub unsaid : (g : Option Graph) (pairs : List Pair) (past older : List Fetch) (halt : Halt) →
       past ≡ older ++ old.history →
       StopsFiles g (part_files pairs) past new.history halt →
@@ -186,6 +190,7 @@ module _ (old new : ShelfState) (k : KeepsShelf old new) where
         stops = rest.stops;
       }
 
+  -- if the files of all parts were read, the parts have the graphs that stand under the names
   pub parts_said : (g : Option Graph) (pairs : List Pair) (parts : List Part) (past older : List Fetch) →
       past ≡ older ++ old.history →
       Reads g (part_files pairs) past new.history (part_values parts) → HavePeriods pairs parts →
@@ -202,6 +207,7 @@ module _ (old new : ShelfState) (k : KeepsShelf old new) where
         parts_said g pairs parts (f ∷ past) (f ∷ older) (ap (λ h. f ∷ h) e) rest h.1,
       )
 
+  -- and the last one gave no more than the limit
   pub parts_within : (g : Option Graph) (pairs : List Pair) (parts : List Part) (past older : List Fetch) →
       past ≡ older ++ old.history →
       0 < length pairs →
@@ -217,6 +223,7 @@ module _ (old new : ShelfState) (k : KeepsShelf old new) where
 
   -- ---- a file stops a command
 
+  -- a command stops for a cause that is true of what stands under the names, if a file stops it
   pub stops_files : (c : Command) (halt : Halt) → StopsFiles None (files_of c) old.history new.history halt →
       StopsCommand (seen old new) c halt
   stops_files (Show name) halt (f, inl (stops, e)) = inl (stops_graph old new f (one f e) name None halt stops)
@@ -368,6 +375,7 @@ module _ (old new : ShelfState) (k : KeepsShelf old new) where
       (subst (λ vs. Reads None (file GraphFile name ∷ []) old.history new.history vs) e reads) in
       inr (a, one_graph name a h, record { stops = un; within = one_within name a h })
 
+  -- if no node of the tables that were read has the name, the run stops over the name after reading
   naming_stops : (pack name : Text) (halt : Halt) (values : List Value) →
       Reads None (file PackFile pack ∷ []) old.history new.history values →
       OnTables values (λ t. Unnamed t name halt) →
@@ -378,6 +386,7 @@ module _ (old new : ShelfState) (k : KeepsShelf old new) where
       (subst (λ vs. Reads None (file PackFile pack ∷ []) old.history new.history vs) e reads) in
       inr (t, one_pack pack t h, record { stops = naming_told t name halt un; within = pack_within pack t h })
 
+  -- and so it does if its work on what the files say stops it
   pub stops_work : (words : List Text) (c : Command) (halt : Halt) (values : List Value) → command_of words ≡ Some c →
       Files c values → StopsWork c values halt →
       StopsCommand (seen old new) c halt
@@ -446,6 +455,7 @@ module _ (old new : ShelfState) (k : KeepsShelf old new) where
 
   -- ---- a command puts out a text
 
+  -- what a command puts out by what its files say is right by what stands under the names
   pub prints : (words : List Text) (c : Command) (text : Text) (values : List Value) → command_of words ≡ Some c →
       Files c values → PutsOut c values text →
       PrintsCommand (seen old new) c text

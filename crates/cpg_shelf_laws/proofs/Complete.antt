@@ -1,4 +1,4 @@
--- What a run answers if the shelf tells what it asks for, and no count of faults rises.
+-- What a run answers if the shelf reports what it asks for, and no count of faults rises.
 use Rattle.std.proofs.Common.{ℕ, ◌≡◌, ◌≢◌, ◌∙◌, Bool, true, false, List, [], ◌∷◌, Option, Some, None, refl, sym, ap}
 use Rattle.std.proofs.Common.{subst, inl, inr, true≢false}
 use Rattle.std.specs.Prelude.{◌⊎◌, Ok, Err}
@@ -47,6 +47,7 @@ use Rattle.cpg_shelf_laws.proofs.Telling.{AreTold, Tells, none_stops, read_as_to
 
 -- ---- commands apart
 
+-- whether a command is `Live`
 abbrev is_live : Option Command → Bool
 is_live None = false
 is_live (Some (Live pack name stream)) = true
@@ -64,9 +65,11 @@ abbrev command_or : Command → Option Command → Command
 command_or d None = d
 command_or d (Some c) = c
 
+-- words form one command
 pub same_command : (o : Option Command) (a b : Command) → o ≡ Some a → o ≡ Some b → a ≡ b
 same_command o a b e f = ap (command_or a) (sym e ∙ f)
 
+-- words that form none form no command
 pub no_command : (c : Command) → None ≡ Some c → ⊥
 no_command c e = absurd (cc e)
 
@@ -75,6 +78,7 @@ no_command c e = absurd (cc e)
 moved_on : (a b : Admission) → AreAlike a b → (P : Graph → List ℕ → Type 0) → P a.graph a.order → P b.graph b.order
 moved_on a b same P p = subst (P b.graph) (sym same.order) (subst (λ g. P g a.order) (sym same.graph) p)
 
+-- values alike to one graph are one alike graph
 graph_alone : (a : Admission) (ws : List Value) → AllAlike (graph_value a ∷ []) ws →
     (b : Admission) × (ws ≡ graph_value b ∷ []) × AreAlike a b
 graph_alone a [] x = absurd x
@@ -85,6 +89,7 @@ graph_alone a (tables_value t ∷ ws) x = absurd x.0
 graph_alone a (played_value p ∷ ws) x = absurd x.0
 graph_alone a (log_value l ∷ ws) x = absurd x.0
 
+-- values that are alike to those of tables alone are the same tables
 pub tables_alone : (t : Tables) (ws : List Value) → AllAlike (tables_value t ∷ []) ws → ws ≡ tables_value t ∷ []
 tables_alone t [] x = absurd x
 tables_alone t (tables_value u ∷ []) x = ap (λ u. tables_value u ∷ []) x.0
@@ -112,6 +117,7 @@ tables_first t vs (part_value h ∷ ws) x = absurd x.0
 tables_first t vs (played_value p ∷ ws) x = absurd x.0
 tables_first t vs (log_value l ∷ ws) x = absurd x.0
 
+-- values alike to one played scenario are that scenario
 played_alone : (p : Played) (ws : List Value) → AllAlike (played_value p ∷ []) ws →
     (q : Played) × (ws ≡ played_value q ∷ [])
 played_alone p [] x = absurd x
@@ -131,6 +137,7 @@ log_alone l (part_value h ∷ ws) x = absurd x.0
 log_alone l (tables_value t ∷ ws) x = absurd x.0
 log_alone l (played_value p ∷ ws) x = absurd x.0
 
+-- values alike to those of parts are those of the same parts
 parts_alone : (parts : List Part) (ws : List Value) → AllAlike (part_values parts) ws → ws ≡ part_values parts
 parts_alone [] [] x = refl
 parts_alone [] (w ∷ ws) x = absurd x
@@ -142,6 +149,7 @@ parts_alone (part ∷ parts) (tables_value t ∷ ws) x = absurd x.0
 parts_alone (part ∷ parts) (played_value p ∷ ws) x = absurd x.0
 parts_alone (part ∷ parts) (log_value l ∷ ws) x = absurd x.0
 
+-- what stands there for each pair is the value of its part, and the parts have the periods of the pairs
 parts_told : (stands : Text → Option Text) (pairs : List Pair) (parts : List Part) →
     AreTellingParts stands pairs parts →
     AreTold stands None (part_files pairs) (part_values parts) ×
@@ -166,6 +174,7 @@ module _ (r : Run) (w : IsLawfulRun r) (k : KeepsShelf r.shelf.old r.shelf.new) 
   faultless : IsFaultlessRun r
   faultless = record { out = calm.out; err = calm.err }
 
+  -- without faults, a run that is out of memory ends with 8
   pub of_memory : (halt : Halt) → halt ≡ Memory → IsToldRun r halt ⊎ IsMutedRun r halt → r.status ≡ 8
   of_memory halt e (inl told) = told.status ∙ ap status_of e
   of_memory halt e (inr muted) = absurd (calm.err muted.err.rose)
@@ -174,6 +183,7 @@ module _ (r : Run) (w : IsLawfulRun r) (k : KeepsShelf r.shelf.old r.shelf.new) 
   abbrev Comes : Command → List Value → Type 0
   Comes c values = ((ws : List Value) × Has r c ws × AllAlike values ws) ⊎ ((r.status ≡ 8) ⊎ FollowsRun r)
 
+  -- if the run has a command with values, that command is c, and its values are alike to those that were told
   has : (c : Command) (values : List Value) → command_of r.words ≡ Some c →
       AreTold r.shelf.old.stands None (files_of c) values → (d : Command) (ws : List Value) → Has r d ws →
       Comes c values
@@ -186,6 +196,7 @@ module _ (r : Run) (w : IsLawfulRun r) (k : KeepsShelf r.shelf.old r.shelf.new) 
         read_as_told r.shelf.old r.shelf.new k None (files_of c) r.shelf.old.history [] values ws refl t also.reads,
       )
 
+  -- by where the run stops: over its words, in reading its files, or in its work
   by_stop : (c : Command) (values : List Value) → command_of r.words ≡ Some c →
       AreTold r.shelf.old.stands None (files_of c) values → (halt : Halt) →
       (IsToldRun r halt ⊎ IsMutedRun r halt) →
@@ -226,6 +237,7 @@ module _ (r : Run) (w : IsLawfulRun r) (k : KeepsShelf r.shelf.old r.shelf.new) 
 
   -- ---- tables of a graph
 
+  -- a command of one graph file: the run asks for it with an alike graph, or it is out of memory (status 8)
   of_graph : (make : Text → Command) (graph : Text) (a : Admission) → is_live (Some (make graph)) ≡ false →
       files_of (make graph) ≡ file GraphFile graph ∷ [] →
       command_of r.words ≡ Some (make graph) →
@@ -238,6 +250,8 @@ module _ (r : Run) (w : IsLawfulRun r) (k : KeepsShelf r.shelf.old r.shelf.new) 
         | inr memory ↦ inr memory
       ]
 
+  -- if the tables of a graph are asked for, the run asks for those of an alike admission, or it is out of memory
+  -- (status 8)
   tables_asked : (a : Admission) → Asks (told_of r) a →
       ((b : Admission) × AsksForTables r b × AreAlike a b) ⊎ (r.status ≡ 8)
   tables_asked a q =
@@ -254,6 +268,7 @@ module _ (r : Run) (w : IsLawfulRun r) (k : KeepsShelf r.shelf.old r.shelf.new) 
         ]
       ]
 
+  -- a graph that is too wide under its urgency order is rejected as such, with 6
   pub wide : (a : Admission) (x : ℕ) → Asks (told_of r) a → a.graph.order ≡ None →
       IsWide a.graph (first_order a.graph a.order) x → Answer 6
   wide a x q ungiven is = elim (tables_asked a q) [
@@ -262,7 +277,7 @@ module _ (r : Run) (w : IsLawfulRun r) (k : KeepsShelf r.shelf.old r.shelf.new) 
     | inr memory ↦ inr memory
   ]
 
-  -- what is refused as too wide of a graph is so of one that is alike
+  -- if a graph is rejected as too wide, so is one that is alike
   as_wide : (a b : Admission) → AreAlike a b → (n : ℕ) → Answer n ⊎ WideRun r b → Answer n ⊎ WideTold (told_of r) a
   as_wide a b same n answer = elim answer [
     | inl e ↦ inl e
@@ -270,18 +285,21 @@ module _ (r : Run) (w : IsLawfulRun r) (k : KeepsShelf r.shelf.old r.shelf.new) 
         inr (record { status = refused.status; item = refused.item; wide = moved a b same (λ g o. IsWide g (first_order g o) refused.item) refused.wide })
   ]
 
+  -- a timely graph is compiled, with 0, or rejected as too wide
   pub made : (a : Admission) → Asks (told_of r) a → IsTimely a.graph a.order → Answer 0 ⊎ WideTold (told_of r) a
   made a q timely = elim (tables_asked a q) [
     | inl h ↦ as_wide a h.0 h.2 0 (w.made h.0 h.1 (moved_on a h.0 h.2 IsTimely timely))
     | inr memory ↦ inl (inr memory)
   ]
 
+  -- a late graph is rejected as late, with 5, or as too wide
   pub late : (a : Admission) → Asks (told_of r) a → IsLate a.graph a.order → Answer 5 ⊎ WideTold (told_of r) a
   late a q is = elim (tables_asked a q) [
     | inl h ↦ as_wide a h.0 h.2 5 (w.late h.0 h.1 (moved_on a h.0 h.2 IsLate is))
     | inr memory ↦ inl (inr memory)
   ]
 
+  -- a graph is tuned, with 0
   pub tuned : (a : Admission) → AsksTuning (told_of r) a → Answer 0
   tuned a q = elim (of_graph Tune q.graph a refl refl q.words
       (q.bytes, q.told, q.file.short, (a, refl, record { says = q.file.says; admitted = q.file.admitted }), tt)) [
@@ -291,6 +309,8 @@ module _ (r : Run) (w : IsLawfulRun r) (k : KeepsShelf r.shelf.old r.shelf.new) 
 
   -- ---- tables that are judged
 
+  -- if a verdict is asked for, the run asks for it with an alike admission, or it is out of memory, with status 8; by
+  -- the command that asks
   verdict_asked : (a : Admission) (t : Tables) → AsksVerdict (told_of r) a t →
       ((b : Admission) × AsksVerdictRun r b t × AreAlike a b) ⊎ (r.status ≡ 8)
   verdict_asked a t q =
@@ -372,12 +392,14 @@ module _ (r : Run) (w : IsLawfulRun r) (k : KeepsShelf r.shelf.old r.shelf.new) 
         ]
       ]
 
+  -- tables of another graph are rejected, with 4
   pub other : (a : Admission) (t : Tables) → AsksVerdict (told_of r) a t → (IsHeadFor a.graph t.head → ⊥) → Answer 4
   other a t q differs = elim (verdict_asked a t q) [
     | inl h ↦ w.other h.0 t h.1 (moved_on a h.0 h.2 (λ g o. IsHeadFor g t.head → ⊥) differs)
     | inr memory ↦ inr memory
   ]
 
+  -- valid tables of the graph are accepted, with 0
   pub safe : (a : Admission) (t : Tables) → AsksVerdict (told_of r) a t → IsHeadFor a.graph t.head →
       IsValid a.graph t.nodes → Answer 0
   safe a t q head valid = elim (verdict_asked a t q) [
@@ -386,6 +408,7 @@ module _ (r : Run) (w : IsLawfulRun r) (k : KeepsShelf r.shelf.old r.shelf.new) 
     | inr memory ↦ inr memory
   ]
 
+  -- tables of the graph that break a rule are found unsafe, with 7
   pub broken : (a : Admission) (t : Tables) → AsksVerdict (told_of r) a t → IsHeadFor a.graph t.head →
       (IsValid a.graph t.nodes → ⊥) → Answer 7
   broken a t q head invalid = elim (verdict_asked a t q) [
@@ -396,6 +419,7 @@ module _ (r : Run) (w : IsLawfulRun r) (k : KeepsShelf r.shelf.old r.shelf.new) 
 
   -- ---- a node, parts
 
+  -- a command `Node`: the run asks for it with the tables that were told, or it is out of memory
   node_asked : (t : Tables) (name : Text) (q : AsksNode (told_of r) t name) →
       AsksRun r (Node q.pack name) (tables_value t ∷ []) ⊎ (r.status ≡ 8)
   node_asked t name q = elim (asked (Node q.pack name) (tables_value t ∷ []) refl q.words
@@ -405,6 +429,7 @@ module _ (r : Run) (w : IsLawfulRun r) (k : KeepsShelf r.shelf.old r.shelf.new) 
         | inr memory ↦ inr memory
       ]
 
+  -- the table of a node that has the name is printed, with 0
   pub named : (t : Tables) (name : Text) (node : ℕ) → AsksNode (told_of r) t name →
       first_named t.head name ≡ Some node → Answer 0
   named t name node q is = elim (node_asked t name q) [
@@ -412,12 +437,14 @@ module _ (r : Run) (w : IsLawfulRun r) (k : KeepsShelf r.shelf.old r.shelf.new) 
     | inr memory ↦ inr memory
   ]
 
+  -- a name that no node has is rejected, with 4
   pub nameless : (t : Tables) (name : Text) → AsksNode (told_of r) t name → first_named t.head name ≡ None → Answer 4
   nameless t name q is = elim (node_asked t name q) [
     | inl h ↦ w.nameless q.pack name t h is
     | inr memory ↦ inr memory
   ]
 
+  -- a command `Hyper`: the run asks for it with the parts that were told, or it is out of memory
   unrolling_asked : (parts : List Part) (q : AsksUnrolling (told_of r) parts) →
       AsksRun r (Hyper q.pairs) (part_values parts) ⊎ (r.status ≡ 8)
   unrolling_asked parts q = elim (asked (Hyper q.pairs) (part_values parts) refl q.words
@@ -427,6 +454,7 @@ module _ (r : Run) (w : IsLawfulRun r) (k : KeepsShelf r.shelf.old r.shelf.new) 
         | inr memory ↦ inr memory
       ]
 
+  -- parts with a common graph are unrolled, with 0
   pub unrolled : (parts : List Part) (g : Graph) → AsksUnrolling (told_of r) parts → ShowsUnrolled parts (Ok g) →
       Answer 0
   unrolled parts g q shows = elim (unrolling_asked parts q) [
@@ -434,6 +462,7 @@ module _ (r : Run) (w : IsLawfulRun r) (k : KeepsShelf r.shelf.old r.shelf.new) 
     | inr memory ↦ inr memory
   ]
 
+  -- parts without one are rejected, with 4
   pub apart : (parts : List Part) (fault : HyperFault) → AsksUnrolling (told_of r) parts →
       ShowsUnrolled parts (Err fault) → fault ≢ OutOfMemory → Answer 4
   apart parts fault q shows told = elim (unrolling_asked parts q) [

@@ -1,4 +1,4 @@
--- How a run ends, by what its shelf tells.
+-- How a run ends, by what its shelf reports.
 use Rattle.std.proofs.Common.{◌≡◌, ◌<◌, arith, [], ◌∷◌, Option, Some, None, IfSome, sym, subst, inl, inr}
 use Rattle.cpg_io.specs.Agreement.{IsFrontOf}
 use Rattle.cpg_io.specs.Shelf.{KeepsShelf}
@@ -43,6 +43,7 @@ module _ (r : Run) (k : KeepsShelf r.shelf.old r.shelf.new) where
       StopsAsked (seen r.shelf.old r.shelf.new) (command_of r.words) halt
   of_command c halt e stops = subst (λ asked. StopsAsked (seen r.shelf.old r.shelf.new) asked halt) (sym e) stops
 
+  -- a run stops for a cause that is true of what stands under the names
   pub stops_told : (halt : Halt) → StopsRun r halt → StopsAsked (seen r.shelf.old r.shelf.new) (command_of r.words) halt
   stops_told halt (inl w) = elim w.cause [
     | inl formless ↦
@@ -57,17 +58,20 @@ module _ (r : Run) (k : KeepsShelf r.shelf.old r.shelf.new) where
     | inr memory ↦ asked_memory r (command_of r.words) halt memory
   ]
 
+  -- a run's output is right by what stands under the names
   pub prints_told : (text : Text) → PrintsRun r text →
       PrintsAsked (seen r.shelf.old r.shelf.new) (command_of r.words) text
   prints_told text p = subst (λ asked. PrintsAsked (seen r.shelf.old r.shelf.new) asked text) (sym p.has.words)
       (prints r.shelf.old r.shelf.new k r.words p.command text p.values p.has.words p.has.reads p.puts)
 
+  -- a run that reported its halt did so by the earlier contract, too
   pub told : (halt : Halt) → IsToldRun r halt → IsTold (told_of r) halt
   told halt t = record { status = t.status; out = t.out.taken; err = t.err.taken }
 
   muted : (halt : Halt) → IsMutedRun r halt → IsMuted (told_of r) halt
   muted halt t = record { status = t.status; out = t.out.taken; err = part_told r.err (line_of halt) t.err }
 
+  -- a run whose output was written whole is so by the earlier contract, too
   pub printed : (text : Text) → IsPrintedRun r text → IsPrinted (told_of r) text
   printed text t = record { status = t.status; out = t.out.taken; err = t.err.taken }
 
@@ -77,6 +81,7 @@ module _ (r : Run) (k : KeepsShelf r.shelf.old r.shelf.new) where
 
   -- ---- a stream
 
+  -- a run that follows a stream does so by what it was told: the pack is spelled by what stood on the shelf
   abbrev pub follows_told : FollowsRun r → Follows (told_of r)
   follows_told f = record {
     pack = f.pack;
@@ -93,6 +98,7 @@ module _ (r : Run) (k : KeepsShelf r.shelf.old r.shelf.new) where
   last_of : (f : FollowsRun r) → IsLast r.shelf.old r.shelf.new f.fetch
   last_of f = last r.shelf.old r.shelf.new k f.fetch (f.read ∷ []) f.history
 
+  -- the fetch of the stream gave a front of what stands under the stream's name
   pub front_of : (f : FollowsRun r) → IfSome (r.shelf.old.stands f.stream) (λ whole. IsFrontOf whole f.fetch)
   front_of f =
       subst (λ name. IfSome (r.shelf.old.stands name) (λ whole. IsFrontOf whole f.fetch)) f.of (last_of f).agrees
@@ -102,6 +108,7 @@ module _ (r : Run) (k : KeepsShelf r.shelf.old r.shelf.new) where
       STREAM_LIMIT < given_count r.shelf.new
   over f fault lines c e = let m = (c.long e).more in let n = (last_of f).count in omega (arith, m, n)
 
+  -- a stream that the shelf failed to read is one by the earlier contract, too
   pub unread_told : IsUnreadRun r → IsUnreadStream (told_of r)
   unread_told u = let f = u.follows in record {
     follows = follows_told f;
@@ -112,6 +119,7 @@ module _ (r : Run) (k : KeepsShelf r.shelf.old r.shelf.new) where
     err = u.err.taken;
   }
 
+  -- a stream that was rejected is one by the earlier contract, too
   pub refused_stream_told : IsRefusedRun r → IsRefusedStream (told_of r)
   refused_stream_told u = let f = u.follows in record {
     follows = follows_told f;
@@ -124,6 +132,7 @@ module _ (r : Run) (k : KeepsShelf r.shelf.old r.shelf.new) where
     err = u.err.taken;
   }
 
+  -- the lines of a stream that was followed to its close are an output by what stands under the names
   pub closed_prints : (f : FollowsRun r) (lines : Text) → IsClosedFetch f.tables.head (table_in f) f.fetch lines →
       PrintsAsked (seen r.shelf.old r.shelf.new) (command_of r.words) lines
   closed_prints f lines c =
@@ -140,6 +149,7 @@ module _ (r : Run) (k : KeepsShelf r.shelf.old r.shelf.new) where
         within = (let m = c.short in let n = (last_of f).count in omega (arith, m, n));
       })
 
+  -- if following breaks by what the run fetched, it breaks by what the run was told, for the same reason
   breaks_told : (f : FollowsRun r) (broken : Broken) →
       BreaksFetch f.tables.head (table_in f) (stream_of_run r f) broken →
       Breaks f.tables.head (table_in f) (stream_of (told_of r) (follows_told f)) broken
@@ -163,6 +173,7 @@ module _ (r : Run) (k : KeepsShelf r.shelf.old r.shelf.new) where
     over f fault lines c,
   )
 
+  -- a run ends by the earlier contract as it ends by the present one
   pub ends_told : EndsRun r → Ends (told_of r)
   ends_told (inl (text, e)) = inl (
     text,

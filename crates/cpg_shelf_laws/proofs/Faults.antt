@@ -32,6 +32,7 @@ grows g (file ∷ files) past now h (f, inr (v, read, there)) same =
     longer f x.fetches past now x.is same
 
 module _ (r : Run) (k : KeepsShelf r.shelf.old r.shelf.new) where
+  -- a run that stops over a read has read something: stopping over its words or in its work has another halt
   not_same : StopsRun r Read → r.shelf.new.history ≡ r.shelf.old.history → ⊥
   not_same (inl s) same = elim s.cause [
     | inl words ↦ absurd (let e = ap status_of words.0 in omega (arith, e))
@@ -43,6 +44,7 @@ module _ (r : Run) (k : KeepsShelf r.shelf.old r.shelf.new) where
     | inr memory ↦ absurd (let e = ap status_of memory in omega (arith, e))
   ]
 
+  -- if a run ends with 2, the shelf's count of faults rose
   pub read_rose : IsFailed r × ((StopsRun r Read × IsToldRun r Read) ⊎ IsUnreadRun r) →
       Rose r.shelf.old.faults r.shelf.new.faults
   read_rose (x, inr u) =

@@ -1,4 +1,4 @@
--- What a fetch gave is what the shelf tells, if it does.
+-- A fetch gave what the shelf reports, if it reports it.
 use Rattle.std.proofs.Common.{ℕ, ◌≡◌, ◌+◌, ◌<◌, ◌≤◌, ◌∙◌, true, List, [], ◌∷◌, ◌++◌, All, Option, Some, None, IfSome}
 use Rattle.std.proofs.Common.{length, sym, ap, subst, arith, append-nil, inl, inr}
 use Rattle.std.proofs.lemmas.List.{append_assoc, append_cancel_right, length-append}
@@ -13,6 +13,7 @@ use Rattle.cpg_inputs.specs.Files.{File, limit_of}
 use Rattle.cpg_inputs.specs.Reading.{IsFetchOf, IsWhole}
 use Rattle.cpg_shelf_laws.specs.Causes.{IsShort}
 
+-- if one fact implies another, so it does of bytes that the shelf may report
 pub on_some : (told : Option Text) (P Q : Text → Type 0) → ((bytes : Text) → P bytes → Q bytes) → IfSome told P →
     IfSome told Q
 on_some None P Q f p = tt
@@ -22,11 +23,13 @@ on_some (Some bytes) P Q f p = f bytes p
 abbrev pub TellsAs : Option Text → Text → Type 0
 TellsAs told given = IfSome told (λ bytes. bytes ≡ given)
 
+-- bytes that were given within the limit are short as the shelf reports them, too
 pub told_short : (told : Option Text) (given : Text) (limit : ℕ) → TellsAs told given → length given ≤ limit →
     IsShort limit told
 told_short told given limit alike short = on_some told (λ bytes. bytes ≡ given) (λ bytes. length bytes ≤ limit)
     (λ bytes e. subst (λ (b : Text). length b ≤ limit) (sym e) short) alike
 
+-- what holds for the bytes that were given holds for those that the shelf reports
 pub told_says : (told : Option Text) (given : Text) (P : Text → Type 0) → TellsAs told given → P given → IfSome told P
 told_says told given P alike p = on_some told (λ bytes. bytes ≡ given) P (λ bytes e. subst P (sym e) p) alike
 
@@ -50,6 +53,7 @@ pub record IsLast (old new : ShelfState) (f : Fetch) : Type 0 where
   pub agrees : Agrees old.stands f
 
 module _ (old new : ShelfState) (k : KeepsShelf old new) where
+  -- each fetch of a run gave what stands under its name, if the shelf reports that
   pub agreed : (f : Fetch) → IsIn old.history new.history f → Agrees old.stands f
   agreed f i =
       let x = k.fetched in
@@ -58,6 +62,7 @@ module _ (old new : ShelfState) (k : KeepsShelf old new) where
       all_at (Agrees old.stands) i.newer f i.older (subst (All (Agrees old.stands))
       (append_cancel_right x.fetches (i.newer ++ f ∷ i.older) old.history same) x.agree)
 
+  -- the newest fetch gave what was counted, raised the count if it failed, and agrees with the shelf
   pub last : (f : Fetch) (older : List Fetch) → new.history ≡ f ∷ (older ++ old.history) → IsLast old new f
   last f older is = record {
     count = ap (λ (h : List Fetch). length (newest_given h)) is;
@@ -72,6 +77,7 @@ module _ (old new : ShelfState) (k : KeepsShelf old new) where
 whole_front : (bytes : Text) (f : Fetch) → f.ended ≡ true → IsFrontOf bytes f → bytes ≡ f.given
 whole_front bytes f ended h = h.front ∙ ap (λ rest. f.given ++ rest) (h.all ended) ∙ append-nil f.given
 
+-- a fetch that gave a whole file gave just what stands under the file's name
 pub tells_whole : (stands : Text → Option Text) (file : File) (f : Fetch) → IsWhole file f → Agrees stands f →
     TellsAs (stands file.name) f.given
 tells_whole stands file f w agrees = subst (λ name. TellsAs (stands name) f.given) w.named
@@ -87,6 +93,7 @@ long_front bytes f limit over h = let l = ap (λ (b : Text). length b) h.front i
 pub more : (count limit : ℕ) → count ≡ limit + 1 → limit < count
 more count limit is = omega (arith, is)
 
+-- if a fetch gave more bytes than the limit, more stand under the file's name
 pub tells_long : (stands : Text → Option Text) (file : File) (f : Fetch) → IsFetchOf file f →
     limit_of file.kind < length f.given →
     Agrees stands f →

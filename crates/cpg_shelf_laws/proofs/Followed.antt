@@ -1,4 +1,4 @@
--- What a run answers that is asked to follow a stream, if the shelf tells the pack and the stream, and no count rises.
+-- The answer of a run that is to follow a stream, if the shelf reports the pack and the stream, and no count rises.
 use Rattle.std.proofs.Common.{ℕ, ◌≡◌, ◌∙◌, List, [], ◌∷◌, Option, Some, None, IfSome, refl, sym, ap, ap₂, subst, inl}
 use Rattle.std.proofs.Common.{inr, true≢false}
 use Rattle.std.specs.Prelude.{◌⊎◌, Result, Ok, Err, is_some}
@@ -63,6 +63,7 @@ node_or d (Some n) = n
 not_both_named : (o : Option ℕ) (n : ℕ) → o ≡ None → o ≡ Some n → ⊥
 not_both_named o n e f = true≢false (ap is_some (sym f ∙ e))
 
+-- a run that is asked to follow a stream, with the pack and the stream reported by its shelf
 module _ (r : Run) (w : IsLawfulRun r) (k : KeepsShelf r.shelf.old r.shelf.new) (t : Tables) (name bytes : Text)
     (q : AsksStream (told_of r) t name bytes) where
   told : AreTold r.shelf.old.stands None (file PackFile q.pack ∷ []) (tables_value t ∷ [])
@@ -102,6 +103,7 @@ module _ (r : Run) (w : IsLawfulRun r) (k : KeepsShelf r.shelf.old r.shelf.new) 
       tables_alone t ws (read_as_told r.shelf.old r.shelf.new k None (file PackFile q.pack ∷ []) r.shelf.old.history []
       (tables_value t ∷ []) ws refl told also.reads)
 
+  -- if the run stops in its work, no node has the name, or it is out of memory; P is what follows in both cases
   by_work : (P : Type 0) (halt : Halt) → (x : StopsInWork r halt) → (first_named t.head name ≡ None → P) →
       (halt ≡ Memory → P) → P
   by_work P halt x none memory =
@@ -115,6 +117,7 @@ module _ (r : Run) (w : IsLawfulRun r) (k : KeepsShelf r.shelf.old r.shelf.new) 
         | inr e ↦ memory e
       ]
 
+  -- the same if the run stops anywhere: it stops over its words or in reading its files for memory alone
   by_stop : (P : Type 0) (halt : Halt) → StopsRun r halt → (first_named t.head name ≡ None → P) → (halt ≡ Memory → P) →
       P
   by_stop P halt (inl x) none memory = elim x.cause [
@@ -145,6 +148,7 @@ module _ (r : Run) (w : IsLawfulRun r) (k : KeepsShelf r.shelf.old r.shelf.new) 
     answers f ends e status =
         status ∙ sym (ap status_of_end (ap (λ table. stream_end table bytes) (sym (table_is f)) ∙ e))
 
+    -- the status is that of the end of the stream, as neither the shelf nor `out` met a fault
     in_stream : (f : FollowsRun r) (b : Broken) → Breaks f.tables.head (table_of f) (stream_of r f) b →
         IsSaid r.err r.status b →
         r.status ≡ status_of_end (stream_end (table_at t.nodes node) bytes)
@@ -155,6 +159,7 @@ module _ (r : Run) (w : IsLawfulRun r) (k : KeepsShelf r.shelf.old r.shelf.new) 
         answers f (Err fault) (refused_ends f.tables.head (table_of f) f.fetch bytes fault lines (front f) c)
         (said.whole (λ e. q.faultless.err (said.part e).rose)).0
 
+    -- without faults, a run that follows a stream ends as the bytes of the stream say, or out of memory
     pub followed : EndsRun r → (r.status ≡ status_of_end (stream_end (table_at t.nodes node) bytes)) ⊎ (r.status ≡ 8)
     followed (inl (text, x)) = absurd (no_text x.prints.command x.prints.values text
         (same_command (command_of r.words) x.prints.command (Live q.pack name q.stream) x.prints.has.words q.words)
@@ -184,6 +189,7 @@ module _ (r : Run) (w : IsLawfulRun r) (k : KeepsShelf r.shelf.old r.shelf.new) 
       (file PackFile q.pack ∷ []) r.shelf.old.history [] (tables_value t ∷ []) halt refl told
       (subst (λ d. StopsReading None (files_of d) r.shelf.old.history r.shelf.new.history halt) same x.stops)) ending
 
+  -- if no node has the name, a run that stops has status 4, or status 8 if it is out of memory
   by_halt : first_named t.head name ≡ None → (halt : Halt) → (IsToldRun r halt ⊎ IsMutedRun r halt) → StopsRun r halt →
       (r.status ≡ 4) ⊎ (r.status ≡ 8)
   by_halt none halt ending (inl x) = inr (of_words halt ending x)
@@ -197,6 +203,7 @@ module _ (r : Run) (w : IsLawfulRun r) (k : KeepsShelf r.shelf.old r.shelf.new) 
       w.unfollowed q.pack name q.stream t
       (record { has = has; faultless = record { out = q.faultless.out; err = q.faultless.err } }) none
 
+  -- if no node has the name, it ends with 4, or out of memory
   pub unfollowed : first_named t.head name ≡ None → EndsRun r → (r.status ≡ 4) ⊎ (r.status ≡ 8)
   unfollowed none (inl (text, x)) = absurd (no_text x.prints.command x.prints.values text
       (same_command (command_of r.words) x.prints.command (Live q.pack name q.stream) x.prints.has.words q.words)

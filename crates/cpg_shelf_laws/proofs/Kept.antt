@@ -1,4 +1,4 @@
--- A lawful run that keeps its shelf was lawful by what the shelf tells.
+-- A lawful run that keeps its shelf was lawful by what the shelf reports.
 use Rattle.std.proofs.Common.{◌≡◌, inl, inr}
 use Rattle.std.specs.Prelude.{ℕ, ◌≢◌, ◌⊎◌}
 use Rattle.cpg_base.specs.Scenario.{Scenario}
@@ -26,6 +26,7 @@ use Rattle.cpg_shelf_laws.proofs.Followed.{followed, unfollowed}
 module _ (r : Run) (w : IsLawfulRun r) (k : KeepsShelf r.shelf.old r.shelf.new) where
   -- ---- what each status says; of the others it is said by `Endings`, `Faults`, `Complete` and `Followed`
 
+  -- a run with status 0 prints its text: that of a command, or all lines of a stream up to its close
   done : r.status ≡ 0 → (text : Text) × Prints (seen r.shelf.old r.shelf.new) r.words text × IsPrinted (told_of r) text
   done e = elim (w.done e) [
     | inl p ↦ (p.0, prints_told r k p.0 p.1, printed r k p.0 p.2)
@@ -60,6 +61,7 @@ module _ (r : Run) (w : IsLawfulRun r) (k : KeepsShelf r.shelf.old r.shelf.new) 
       IsTold (told_of r) (Unsafe a fault)
   is_unsafe e = let p = w.is_unsafe e in (p.0, p.1, stops_told r k (Unsafe p.0 p.1) p.2, told r k (Unsafe p.0 p.1) p.3)
 
+  -- with a status other than 0 and 3 the output is untouched, or the stream is unread (2) or refused (4)
   silent : r.status ≢ 0 → r.status ≢ 3 →
       Untouched (telling r.out) ⊎
       (((r.status ≡ 2) × IsUnreadStream (told_of r)) ⊎ ((r.status ≡ 4) × IsRefusedStream (told_of r)))
@@ -73,6 +75,7 @@ module _ (r : Run) (w : IsLawfulRun r) (k : KeepsShelf r.shelf.old r.shelf.new) 
 
   -- ---- all of it
 
+  -- the run keeps the earlier contract, too
   pub kept : IsLawful (told_of r)
   kept = record {
     ends = ends_told r k w.ends;

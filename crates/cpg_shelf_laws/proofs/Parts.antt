@@ -12,6 +12,7 @@ use Rattle.cpg_words.specs.declared.command.Command.{Command}
 use Rattle.cpg_words.specs.declared.command.Command.TheVariants.{Show, Compile, Check, Play, Node, Trial, Live, Hyper}
 use Rattle.cpg_words.specs.declared.command.Command.TheVariants.{Tune, Audit}
 
+-- a command `Hyper` has at least one pair; nothing is asked of the others
 abbrev HasParts : Option Command → Type 0
 HasParts None = ⊤
 HasParts (Some (Hyper pairs)) = 0 < length pairs
@@ -40,6 +41,7 @@ two_have make h (a ∷ b ∷ []) [] = h a b
 two_have make h (a ∷ b ∷ []) (t ∷ ts) = tt
 two_have make h (a ∷ b ∷ c ∷ ws) ts = tt
 
+-- a form of three words makes a command with its parts, or none; by the number of words and of values of `--turns`
 three_have : (make : Text → Text → Text → Command) → ((a b c : Text) → HasParts (Some (make a b c))) →
     (ws ts : List Text) →
     HasParts (three_words make ws ts)
@@ -107,6 +109,7 @@ parted : (fs : List Form) (name : Text) (p : Option Parts) → AllHave fs →
 parted fs name None h = tt
 parted fs name (Some p) h = named fs name p h
 
+-- the commands of each form have their parts, one form after another
 all_forms : AllHave forms
 all_forms = (
   one_has Show (λ a. tt),
@@ -135,5 +138,6 @@ have : (words : List Text) → HasParts (command_of words)
 have [] = tt
 have (name ∷ words) = parted forms name (parts_of words) all_forms
 
+-- words that form a command of parts name at least one
 pub some_parts : (words : List Text) (pairs : List Pair) → command_of words ≡ Some (Hyper pairs) → 0 < length pairs
 some_parts words pairs e = subst HasParts e (have words)

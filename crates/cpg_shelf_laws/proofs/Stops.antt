@@ -1,4 +1,4 @@
--- A file that stops a run, by what the shelf tells of it.
+-- A file that stops a run, by what the shelf reports of it.
 use Rattle.std.proofs.Common.{ℕ, ◌≡◌, ◌≤◌, Option, Some, length, refl, arith, inl, inr}
 use Rattle.std.specs.Prelude.{◌⊎◌, Ok, Err}
 use Rattle.cpg_base.specs.Graph.{Graph}
@@ -32,6 +32,7 @@ use Rattle.cpg_shelf_laws.proofs.Fetched.{IsLast, TellsAs, more, tells_long, tel
 
 -- ---- what files say
 
+-- bytes within the limit that say an admitted graph say it as the shelf reports them
 pub admits : (told : Option Text) (given : Text) (a : Admission) → TellsAs told given →
     length given ≤ limit_of GraphFile → AreAdmitted given a → Admits told a
 admits told given a alike short x = record {
@@ -40,11 +41,13 @@ admits told given a alike short x = record {
   admitted = x.admitted;
 }
 
+-- bytes within the limit that say a graph say it as the shelf reports them
 pub says : (told : Option Text) (given : Text) (g : Graph) → TellsAs told given → length given ≤ limit_of GraphFile →
     problem_of given ≡ Ok g → Says told g
 says told given g alike short x =
     (told_short told given _ alike short, told_says told given (λ bytes. problem_of bytes ≡ Ok g) alike x)
 
+-- bytes within the limit that spell tables spell them as the shelf reports them
 pub spells : (told : Option Text) (given : Text) (t : Tables) → TellsAs told given → length given ≤ limit_of PackFile →
     AreSpelled given t → Spells told t
 spells told given t alike short x = record {
@@ -53,12 +56,14 @@ spells told given t alike short x = record {
   spelled = told_says told given (λ bytes. bytes ≡ spelling t) alike x.spelled;
 }
 
+-- bytes within the limit that say a scenario of a graph say it as the shelf reports them
 pub says_scenario : (told : Option Text) (given : Text) (g : Graph) (p : Played) → TellsAs told given →
     length given ≤ limit_of ScenarioFile → ArePlayed given g p →
     SaysPlayed told g p
 says_scenario told given g p alike short x =
     (told_short told given _ alike short, told_says told given (λ bytes. file_of g bytes ≡ Ok p) alike x.says)
 
+-- bytes within the limit that are a log of a graph are so as the shelf reports them
 pub says_acts : (told : Option Text) (given : Text) (g : Graph) (l : Log) → TellsAs told given →
     length given ≤ limit_of LogFile → AreLogged given g l →
     SaysLog told g l
@@ -86,6 +91,7 @@ module _ (old new : ShelfState) (f : Fetch) (is : IsLast old new f) (name : Text
   tells : (kind : FileKind) → IsWhole (file kind name) f → TellsAs (old.stands name) f.given
   tells kind w = tells_whole old.stands (file kind name) f w is.agrees
 
+  -- a graph file that is faulty as it was given is faulty as it stood on the shelf
   faulty : (halt : Halt) (short : length f.given ≤ limit_of GraphFile) → TellsAs (old.stands name) f.given →
       AreFaulty f.given halt →
       IsFaulty (seen old new) (old.stands name) halt
@@ -107,6 +113,7 @@ module _ (old new : ShelfState) (f : Fetch) (is : IsLast old new f) (name : Text
     first = λ other. absurd (other refl);
   }
 
+  -- a part's file stops its reading for a cause that is true of what stands under its name
   pub stops_part : (g : Option Graph) (halt : Halt) → StopsAt g (file PartFile name) f halt →
       StopsReading (seen old new) (old.stands name) halt
   stops_part g halt (inl u) = inl (unread PartFile halt u)
@@ -114,6 +121,7 @@ module _ (old new : ShelfState) (f : Fetch) (is : IsLast old new f) (name : Text
   stops_part g halt (inr (inr (inl r))) = inr (inr (faulty halt r.whole.short (tells PartFile r.whole) r.refuses))
   stops_part g halt (inr (inr (inr w))) = inr (inr (no_graph halt w.halt_is))
 
+  -- a graph file that is refused as it was given is refused as it stood: it is faulty, or its graph is not admitted
   refused_graph : (halt : Halt) (short : length f.given ≤ limit_of GraphFile) → TellsAs (old.stands name) f.given →
       (AreFaulty f.given halt ⊎ AreOfNone f.given halt) →
       StopsAdmission (seen old new) (old.stands name) halt
@@ -124,6 +132,7 @@ module _ (old new : ShelfState) (f : Fetch) (is : IsLast old new f) (name : Text
     record { stops = x.breaks; within = within (limit_of GraphFile) short },
   )
 
+  -- a graph file stops a run for a cause that is true of what stands under its name
   pub stops_graph : (g : Option Graph) (halt : Halt) → StopsAt g (file GraphFile name) f halt →
       StopsAdmission (seen old new) (old.stands name) halt
   stops_graph g halt (inl u) = inl (inl (unread GraphFile halt u))
@@ -131,6 +140,7 @@ module _ (old new : ShelfState) (f : Fetch) (is : IsLast old new f) (name : Text
   stops_graph g halt (inr (inr (inl r))) = refused_graph halt r.whole.short (tells GraphFile r.whole) r.refuses
   stops_graph g halt (inr (inr (inr w))) = inl (inr (inr (no_graph halt w.halt_is)))
 
+  -- a pack stops a run for a cause that is true of what stands under its name
   pub stops_pack : (g : Option Graph) (halt : Halt) → StopsAt g (file PackFile name) f halt →
       StopsPack (seen old new) (old.stands name) halt
   stops_pack g halt (inl u) = inl (unread PackFile halt u)
@@ -149,6 +159,7 @@ module _ (old new : ShelfState) (f : Fetch) (is : IsLast old new f) (name : Text
   stops_pack g halt (inr (inr (inr w))) =
       inr (inr (record { fault = PackFault.OutOfMemory; halt_is = w.halt_is; within = λ other. absurd (other refl); shows = tt }))
 
+  -- a scenario file stops a run for a cause that is true of what stands under its name
   pub stops_scenario : (g : Graph) (halt : Halt) → StopsAt (Some g) (file ScenarioFile name) f halt →
       StopsPlayed (seen old new) (old.stands name) g halt
   stops_scenario g halt (inl u) = inl (unread ScenarioFile halt u)
@@ -167,6 +178,7 @@ module _ (old new : ShelfState) (f : Fetch) (is : IsLast old new f) (name : Text
   stops_scenario g halt (inr (inr (inr w))) =
       inr (inr (record { fault = ScenarioFault.OutOfMemory; halt_is = w.halt_is; within = λ other. absurd (other refl); first = λ other. absurd (other refl) }))
 
+  -- a log stops a run for a cause that is true of what stands under its name
   pub stops_log : (g : Graph) (halt : Halt) → StopsAt (Some g) (file LogFile name) f halt →
       StopsLog (seen old new) (old.stands name) g halt
   stops_log g halt (inl u) = inl (unread LogFile halt u)

@@ -1,4 +1,4 @@
--- How a stream ends, by what the shelf tells of it: of a part that came, if the rest changes nothing.
+-- How a stream ends, by what the shelf reports of it: what was given decides, and the rest changes nothing.
 use Rattle.std.proofs.Common.{◌≡◌, ℕ, ◌+◌, ◌-◌, ◌<◌, ◌≤◌, true, cond, ◌&&◌, List, [], ◌++◌, length, take, Option, Some}
 use Rattle.std.proofs.Common.{None, IfSome, refl, sym, ap, ap₂, ◌∙◌, subst, arith, append_assoc, append-nil}
 use Rattle.std.proofs.Common.{true≢false, inl, inr}
@@ -46,6 +46,7 @@ record IsRefusedBy (h : Head) (table : NodeTable) (bytes : List ℕ) (fault : St
   long : fault ≡ Long → IsTooLong table bytes
   spelled : lines ≡ stream_lines h table bytes
 
+-- a fetch that gave a front of a stream
 module _ (h : Head) (table : NodeTable) (f : Fetch) (whole : List ℕ) (w : IsFrontOf whole f)
     (few : length f.given ≤ STREAM_LIMIT + 1) where
   read_given : read_part f.given ≡ f.given
@@ -132,16 +133,19 @@ ended_whole f whole ended w = sym (w.front ∙ (ap (λ rest. f.given ++ rest) (w
 -- ---- what the shelf tells
 
 module _ (h : Head) (table : NodeTable) (f : Fetch) where
+  -- if what was given of a stream is rejected, so is the whole stream, with the same fault
   pub refused_ends : (whole : List ℕ) (fault : StreamFault) (lines : List ℕ) → IsFrontOf whole f →
       IsRefusedFetch h table f fault lines →
       stream_end table whole ≡ Err fault
   refused_ends whole fault lines w c =
       (by_bad h table f whole w c.few fault lines c (after table f.given).bad refl).ends
 
+  -- if what was given of a stream closes it, so does the whole stream, at the same time
   pub closed_ends : (whole : List ℕ) (lines : List ℕ) → IsFrontOf whole f → (c : IsClosedFetch h table f lines) →
       stream_end table whole ≡ Ok c.time
   closed_ends whole lines w c = ap (stream_end table) (sym (ended_whole f whole c.ended w)) ∙ c.ends
 
+  -- a stream rejected by what was given is rejected by what stands under its name
   pub refused_told : (told : Option (List ℕ)) (fault : StreamFault) (lines : List ℕ) →
       IfSome told (λ whole. IsFrontOf whole f) →
       IsRefusedFetch h table f fault lines →
@@ -152,6 +156,7 @@ module _ (h : Head) (table : NodeTable) (f : Fetch) where
       let by = by_bad h table f whole w c.few fault lines c (after table f.given).bad refl in
       record { bytes = whole; of = refl; ends = by.ends; long = by.long; spelled = by.spelled }
 
+  -- a stream closed by what was given is closed by what stands under its name
   pub closed_told : (told : Option (List ℕ)) (lines : List ℕ) → IfSome told (λ whole. IsFrontOf whole f) →
       IsClosedFetch h table f lines →
       IsClosed h table told lines
@@ -170,6 +175,7 @@ module _ (h : Head) (table : NodeTable) (f : Fetch) where
       none_more : (n : ℕ) → n - n ≡ 0
       none_more n = omega arith
 
+  -- lines that are right so far by what was given are so by what stands under its name
   pub lawful_told : (told : Option (List ℕ)) (count : ℕ) (lines : List ℕ) → count ≡ length f.given →
       IfSome told (λ whole. IsFrontOf whole f) →
       IsLawfulFetch h table f lines →
@@ -177,6 +183,7 @@ module _ (h : Head) (table : NodeTable) (f : Fetch) where
   lawful_told told count lines e w c =
       record { bytes = f.given; count = e; first = given_first told count e w; lawful = c.lawful; spelled = c.spelled }
 
+  -- lines that were cut off by what was given are so by what stands under its name
   pub cut_told : (told : Option (List ℕ)) (a b : List ℕ) → IfSome told (λ whole. IsFrontOf whole f) →
       IsCutFetch h table f a b →
       IsCutOff h table told (Some a) (Some b)

@@ -1,4 +1,4 @@
--- Files that the shelf tells, and that say values: they are read so, and none of them stops a run.
+-- Files that the shelf reports, and that say values: they are read so, and none of them stops a run.
 use Rattle.std.proofs.Common.{◌≡◌, ◌<◌, ◌≤◌, ◌∙◌, List, [], ◌∷◌, ◌++◌, Option, Some, None, IfSome, length, sym, ap}
 use Rattle.std.proofs.Common.{subst, arith, inl, inr}
 use Rattle.std.specs.Prelude.{Ok, ⊤}
@@ -31,6 +31,7 @@ Tells g LogFile bytes v = Says g LogFile bytes v
 Tells (Some g) ScenarioFile bytes v = (p : Played) × (v ≡ played_value p) × (file_of g bytes ≡ Ok p)
 Tells None ScenarioFile bytes v = ⊥
 
+-- two values that the same bytes give leave the same graph for later files; by the kind of file
 tells_after : (g : Option Graph) (k : FileKind) (bytes : Text) (v w : Value) → Tells g k bytes v → Says g k bytes w →
     graph_after g w ≡ graph_after g v
 tells_after g GraphFile bytes v w x y = says_after g GraphFile bytes v w x y
@@ -41,6 +42,7 @@ tells_after (Some g) ScenarioFile bytes v w (p, e, x) (q, f, y) =
     ap (graph_after (Some g)) f ∙ sym (ap (graph_after (Some g)) e)
 tells_after None ScenarioFile bytes v w x y = absurd x
 
+-- two values that the same bytes give are alike; by the kind of file
 tells_alike : (g : Option Graph) (k : FileKind) (bytes : Text) (v w : Value) → Tells g k bytes v → Says g k bytes w →
     IsAlike v w
 tells_alike g GraphFile bytes v w x y = says_alike g GraphFile bytes v w x y
@@ -51,6 +53,7 @@ tells_alike (Some g) ScenarioFile bytes v w (p, e, x) (q, f, y) = subst (λ u. I
     (subst (λ u. IsAlike (played_value p) u) (sym f) (same_value (file_of g bytes) q p y.says x))
 tells_alike None ScenarioFile bytes v w x y = absurd x
 
+-- bytes that give a value are refused for memory alone; by the kind of file
 tells_no_refusal : (g : Option Graph) (k : FileKind) (bytes : Text) (v : Value) (h : Halt) → Tells g k bytes v →
     Refuses g k bytes h → h ≡ Memory
 tells_no_refusal g GraphFile bytes v h x r = not_refused g GraphFile bytes v h x r
@@ -60,7 +63,7 @@ tells_no_refusal g LogFile bytes v h x r = not_refused g LogFile bytes v h x r
 tells_no_refusal (Some g) ScenarioFile bytes v h (p, e, x) r = absurd (not_both (file_of g bytes) p r.fault x r.first)
 tells_no_refusal None ScenarioFile bytes v h x r = absurd x
 
--- the shelf tells bytes of each file that say its value, within the limit of its kind
+-- the shelf reports bytes of each file that say its value, within the limit of its kind
 abbrev pub AreTold : (Text → Option Text) → Option Graph → List File → List Value → Type 0
 AreTold stands g [] [] = ⊤
 AreTold stands g [] (v ∷ vs) = ⊥
@@ -78,6 +81,7 @@ module _ (old new : ShelfState) (k : KeepsShelf old new) where
   given_is f fetch bytes e w ag =
       known (old.stands f.name) bytes (λ b. b ≡ fetch.given) e (tells_whole old.stands f fetch w ag)
 
+  -- if no count of faults rises, none of the files stops the run, unless memory runs out
   pub none_stops : (Rose old.faults new.faults → ⊥) →
       (g : Option Graph) (files : List File) (past older : List Fetch) (vs : List Value) (h : Halt) →
       past ≡ older ++ old.history →
@@ -109,6 +113,7 @@ module _ (old new : ShelfState) (k : KeepsShelf old new) where
       none_stops still (graph_after g w) fs (fetch ∷ past) (fetch ∷ older) vs h (ap (λ p. fetch ∷ p) e)
       (subst (λ o. AreTold old.stands o fs vs) (sym (tells_after g f.kind fetch.given v w x read.says)) t.4) there
 
+  -- if the files are read, they say the values that the shelf reports
   pub read_as_told : (g : Option Graph) (files : List File) (past older : List Fetch) (vs ws : List Value) →
       past ≡ older ++ old.history →
       AreTold old.stands g files vs →

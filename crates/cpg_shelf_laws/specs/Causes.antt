@@ -45,7 +45,7 @@ pub record Seen : Type 0 where
   pub before : ℕ
   pub now : ℕ
 
--- the same, from the shelf's states before and after
+-- what a run sees of its shelf, from the shelf's states before and after
 abbrev pub seen : ShelfState → ShelfState → Seen
 seen old new = record { stands = old.stands; given = given_count new; before = old.faults; now = new.faults }
 
@@ -53,12 +53,15 @@ seen old new = record { stands = old.stands; given = given_count new; before = o
 abbrev pub GRAPH_LIMIT : ℕ
 GRAPH_LIMIT = limit_of GraphFile
 
+-- the most bytes of a pack
 abbrev pub PACK_LIMIT : ℕ
 PACK_LIMIT = limit_of PackFile
 
+-- the most bytes of a scenario file
 abbrev pub SCENARIO_LIMIT : ℕ
 SCENARIO_LIMIT = limit_of ScenarioFile
 
+-- the most bytes of a log
 abbrev pub LOG_LIMIT : ℕ
 LOG_LIMIT = limit_of LogFile
 
@@ -101,6 +104,7 @@ pub record IsAfterReading {T : Type 0} (given limit : ℕ) (Stops : T → Halt �
   pub stops : Stops x halt
   pub within : given ≤ limit
 
+-- why the reading of a graph file stops
 abbrev pub StopsReading : Seen → Option Text → Halt → Type 0
 StopsReading seen told halt =
     IsUnread seen halt ⊎ (IsLong GRAPH_LIMIT LongGraph seen told halt ⊎ IsFaulty seen told halt)
@@ -125,12 +129,14 @@ abbrev pub ShowsPackFault : Option Text → PackFault → Type 0
 ShowsPackFault told (PackFault.BadPack n) = IsShort PACK_LIMIT told × IfSome told (λ bytes. IsBadPack bytes n)
 ShowsPackFault told PackFault.OutOfMemory = ⊤
 
+-- the bytes of a file within the limit are no pack, or memory ran out
 pub record IsNoPack (seen : Seen) (told : Option Text) (halt : Halt) : Type 0 where
   pub fault : PackFault
   pub halt_is : halt ≡ halt_of_pack fault
   pub within : fault ≢ PackFault.OutOfMemory → seen.given ≤ PACK_LIMIT
   pub shows : ShowsPackFault told fault
 
+-- why the reading of a pack stops
 abbrev pub StopsPack : Seen → Option Text → Halt → Type 0
 StopsPack seen told halt = IsUnread seen halt ⊎ (IsLong PACK_LIMIT LongPack seen told halt ⊎ IsNoPack seen told halt)
 
@@ -154,6 +160,7 @@ pub record IsNoScenario (seen : Seen) (told : Option Text) (g : Graph) (halt : H
   pub first : fault ≢ ScenarioFault.OutOfMemory →
       IsShort SCENARIO_LIMIT told × IfSome told (λ bytes. file_of g bytes ≡ Err fault)
 
+-- why the reading of a scenario file stops
 abbrev pub StopsPlayed : Seen → Option Text → Graph → Halt → Type 0
 StopsPlayed seen told g halt =
     IsUnread seen halt ⊎ (IsLong SCENARIO_LIMIT LongScenario seen told halt ⊎ IsNoScenario seen told g halt)
@@ -173,12 +180,14 @@ ShowsLogFault told g (LogFault.Bad line) =
     IsShort LOG_LIMIT told × IfSome told (λ bytes. IsBadLine g (lines bytes) line)
 ShowsLogFault told g LogFault.OutOfMemory = ⊤
 
+-- the bytes of a file within the limit are no log of the graph, or memory ran out
 pub record IsNoLog (seen : Seen) (told : Option Text) (g : Graph) (halt : Halt) : Type 0 where
   pub fault : LogFault
   pub halt_is : halt ≡ halt_of_log fault
   pub within : fault ≢ LogFault.OutOfMemory → seen.given ≤ LOG_LIMIT
   pub shows : ShowsLogFault told g fault
 
+-- why the reading of a log stops
 abbrev pub StopsLog : Seen → Option Text → Graph → Halt → Type 0
 StopsLog seen told g halt = IsUnread seen halt ⊎ (IsLong LOG_LIMIT LongLog seen told halt ⊎ IsNoLog seen told g halt)
 
@@ -207,6 +216,7 @@ pub record IsUnsaid (seen : Seen) (pairs : List Pair) (halt : Halt) : Type 0 whe
   pub said : AreSaid seen.stands (take place pairs) earlier
   pub stops : (d : Pair) → StopsReading seen (seen.stands (get_or pairs place d).graph) halt
 
+-- why the reading of the parts' files stops
 abbrev pub StopsReadingParts : Seen → List Pair → Halt → Type 0
 StopsReadingParts seen pairs halt = IsUnsaid seen pairs halt ⊎ (halt ≡ Memory)
 
@@ -220,6 +230,7 @@ StopsParts seen pairs halt =
 abbrev pub IsOutOfMemory : Admission → Halt → Type 0
 IsOutOfMemory a halt = halt ≡ Memory
 
+-- why a run of a command stops
 abbrev pub StopsCommand : Seen → Command → Halt → Type 0
 StopsCommand seen (Show graph) halt =
     StopsGraph seen (seen.stands graph) (IsAfterReading seen.given GRAPH_LIMIT IsUncompiled) halt
@@ -240,7 +251,7 @@ StopsCommand seen (Tune graph) halt =
 StopsCommand seen (Audit graph pack log) halt = StopsGraph seen (seen.stands graph) (λ a.
     StopsTables seen (seen.stands pack) (StopsAudit seen (seen.stands log) a)) halt
 
--- words that form no command stop a run, as such or because memory runs out
+-- words that form no command stop a run, for that reason or because memory runs out
 abbrev pub StopsAsked : Seen → Option Command → Halt → Type 0
 StopsAsked seen None halt = (halt ≡ Words) ⊎ (halt ≡ Memory)
 StopsAsked seen (Some command) halt = StopsCommand seen command halt

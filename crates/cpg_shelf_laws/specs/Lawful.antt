@@ -45,6 +45,7 @@ use Rattle.cpg_shelf_laws.specs.Sinks.{Untouched, Whole}
 
 -- no count of faults rose
 pub record IsFaultless (r : Ran) : Type 0 where
+  -- neither the shelf nor the two sinks have met a new fault
   pub shelf : Rose r.shelf.before r.shelf.now → ⊥
   pub out : Rose r.out.before r.out.now → ⊥
   pub err : Rose r.err.before r.err.now → ⊥
@@ -65,6 +66,7 @@ pub record Asks (r : Ran) (a : Admission) : Type 0 where
   pub bytes : Text
   pub words : AsksFor graph (command_of r.words)
   pub told : r.shelf.stands graph ≡ Some bytes
+  -- these bytes are a graph file, and `a` is the admitted graph with its order and guards
   pub file : AreAdmitted bytes a
   pub faultless : IsFaultless r
 
@@ -99,6 +101,7 @@ pub record AsksVerdict (r : Ran) (a : Admission) (t : Tables) : Type 0 where
   pub bytes : Text
   pub told : r.shelf.stands graph ≡ Some bytes
   pub file : AreAdmitted bytes a
+  -- the pack file has exactly the bytes that the tables are spelled with
   pub spelled : r.shelf.stands pack ≡ Some (spelling t)
   pub lawful : AreLawful t
   pub faultless : IsFaultless r
@@ -173,6 +176,7 @@ pub record IsRefusedStream (r : Ran) : Type 0 where
   pub fault : StreamFault
   pub lines : Text
   pub refused : IsRefused follows.tables.head (table_of follows) (r.shelf.stands follows.stream) fault lines
+  -- a stream is too long only if the shelf gave more bytes than the limit
   pub over : fault ≡ Long → STREAM_LIMIT < r.shelf.given
   pub out : Whole r.out lines
   pub err : Whole r.err (fault_line fault)

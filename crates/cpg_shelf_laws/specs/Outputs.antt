@@ -33,15 +33,18 @@ IsMade told spell bytes = (a : Admission) × Admits told a × IsMadeOf a spell b
 abbrev pub IsSpelled : Option Text → (Tables → Type 0) → Type 0
 IsSpelled told fact = (t : Tables) × Spells told t × fact t
 
+-- the text is that of the table of the first node of that name, in the tables of a pack
 abbrev pub IsNodeOf : Option Text → Text → Text → Type 0
 IsNodeOf told name text = IsSpelled told (λ t. IsNodeText t name text)
 
 -- the text has all lines of a stream, which the first node of that name follows to its close
 pub record IsFollowed (t : Tables) (name : Text) (stream : Option Text) (text : Text) : Type 0 where
   pub node : ℕ
+  -- the first node of this name
   pub named : first_named t.head name ≡ Some node
   pub closed : IsClosed t.head (table_at t.nodes node) stream text
 
+-- the same for the tables of a pack
 abbrev pub IsFollowedOf : Option Text → Text → Option Text → Text → Type 0
 IsFollowedOf pack name stream text = IsSpelled pack (λ t. IsFollowed t name stream text)
 
@@ -53,6 +56,7 @@ IsChecked graph pack text = (a : Admission) × Admits graph a × IsSpelled pack 
 pub record IsPlayedText (told : Option Text) (a : Admission) (t : Tables) (number : ℕ) (text : Text) : Type 0 where
   pub judged : AreJudgedSafe a t
   pub played : Played
+  -- the scenario file says what is played
   pub says : SaysPlayed told a.graph played
   pub lawful : IsPlayed a.graph played
   pub played_text : IsPlayText a.graph t.nodes (world_of played) number text
@@ -66,6 +70,7 @@ IsPlayOf graph pack scenario number text =
 pub record IsAuditedText (told : Option Text) (a : Admission) (t : Tables) (text : Text) : Type 0 where
   pub judged : AreJudgedSafe a t
   pub log : Log
+  -- the log file has this log
   pub says : SaysLog told a.graph log
   pub lawful : IsLog a.graph log
   pub audited : IsAuditText a.graph a.order t.nodes log text

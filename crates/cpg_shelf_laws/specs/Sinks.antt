@@ -11,8 +11,10 @@ TookPrefix old new piece = (n : ℕ) × (n < length piece) × Appends old new (t
 
 -- what a run sees of a sink: its count of faults and its bytes, before and after
 pub record SinkSeen : Type 0 where
+  -- the counts of faults before and after
   pub before : ℕ
   pub now : ℕ
+  -- the bytes before and after, if they are known
   pub old : Option (List ℕ)
   pub new : Option (List ℕ)
 

@@ -22,6 +22,7 @@ pub record IsClosed (h : Head) (table : NodeTable) (told : Option (List ℕ)) (l
   pub bytes : List ℕ
   pub of : AreBytesOf told bytes
   pub time : ℕ
+  -- the stream is lawful and has its close at this time
   pub ends : stream_end table bytes ≡ Ok time
   pub spelled : lines ≡ stream_lines h table bytes
 
@@ -31,6 +32,7 @@ pub record IsRefused (h : Head) (table : NodeTable) (told : Option (List ℕ)) (
   pub bytes : List ℕ
   pub of : AreBytesOf told bytes
   pub ends : stream_end table bytes ≡ Err fault
+  -- the fault `Long` says that all bytes up to the limit are lawful, have no close, and at least one byte more came
   pub long : fault ≡ Long → IsTooLong table bytes
   pub spelled : lines ≡ stream_lines h table bytes
 
@@ -39,7 +41,9 @@ pub record IsLawfulSoFar (h : Head) (table : NodeTable) (told : Option (List ℕ
     (lines : List ℕ) : Type 0 where
   pub bytes : List ℕ
   pub count : given ≡ length bytes
+  -- if the whole stream is known, the bytes are its first ones
   pub first : IfSome told (λ whole. bytes ≡ take given whole)
+  -- no record in these bytes is bad
   pub lawful : (after table bytes).bad ≡ None
   pub spelled : lines ≡ act_lines h (after table bytes).progress.acts
 
@@ -47,17 +51,22 @@ pub record IsLawfulSoFar (h : Head) (table : NodeTable) (told : Option (List ℕ
 pub record IsCutOff (h : Head) (table : NodeTable) (told old new : Option (List ℕ)) : Type 0 where
   pub bytes : List ℕ
   pub of : AreBytesOf told bytes
+  -- only a front part of the lines was written, not all of them
   pub front : TookPrefix old new (stream_lines h table bytes)
 
 -- What a run sees of a stream's shelf and of `out`: the bytes of the stream, how many were given, and, before and
 -- after, the counts of faults and what was taken.
 pub record Stream : Type 0 where
+  -- the bytes of the stream, if they are known
   pub told : Option (List ℕ)
+  -- how many bytes the shelf gave
   pub given : ℕ
+  -- the counts of faults of the shelf and of `out`, before and after the run
   pub shelf_before : ℕ
   pub shelf_now : ℕ
   pub out_before : ℕ
   pub out_now : ℕ
+  -- what `out` had taken before the run, and after it
   pub old : Option (List ℕ)
   pub new : Option (List ℕ)
 

@@ -8,6 +8,7 @@ use Rattle.cpg_shelf_laws.specs.Endings.{Ran}
 use Rattle.cpg_shelf_laws.specs.Lawful.{IsLawful}
 use Rattle.cpg_shelf_laws.specs.Sinks.{telling}
 
+-- a run as the earlier contract sees it
 abbrev pub told_of : Run → Ran
 told_of r = record {
   words = r.words;

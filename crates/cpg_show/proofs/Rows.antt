@@ -26,7 +26,7 @@ module _ (g : Graph) (made : List Row) (labels : Labels) (n : ℕ) (rows : List 
       ∙ flat_map-append (lines_of_row g made) (numbers_below n) (n ∷ []) ∙
       ap (λ t. flat_map (lines_of_row g made) (numbers_below n) ++ t) (append-nil (lines_of_row g made n))
 
-  -- an item without lines
+  -- an item without lines adds no part to the text of the rows
   pub hidden_more : is_shown g n ≡ false →
       flat_map (lines_of_row g made) (numbers_below n) ≡ flat_map (part_text labels) rows →
       flat_map (lines_of_row g made) (numbers_below (n + 1)) ≡ flat_map (part_text labels) rows
@@ -35,7 +35,7 @@ module _ (g : Graph) (made : List Row) (labels : Labels) (n : ℕ) (rows : List 
       next ∙ ap (λ t. flat_map (lines_of_row g made) (numbers_below n) ++ t) none
       ∙ append-nil (flat_map (lines_of_row g made) (numbers_below n)) ∙ e
 
-  -- an item with lines
+  -- an item with lines adds its part to the text of the rows
   pub shown_more : (part : SheetPart) → is_shown g n ≡ true → labels ≡ labels_of g →
       string_bytes part.head ≡ head_line g n →
       part.columns.now ≡ (row_for made n).columns →

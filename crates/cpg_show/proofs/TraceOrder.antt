@@ -20,7 +20,7 @@ use Rattle.cpg_show.specs.declared.event.EventKind.TheVariants.{End, Send, Start
 use Rattle.cpg_show.specs.TraceEvents.{EventKind, TraceEvent, AreToldInOrder, all_events, kind_key, event_key}
 use Rattle.cpg_show.specs.TraceText.{IsTraceText, event_line, finish_line}
 
--- what is not less stays so when the later part is replaced by one that is not less either
+-- a comparison stays not less if its later part is replaced by one that isn't less when the old part isn't
 then_weaker : (o p q : Ordering) → (is_lt p ≡ false → is_lt q ≡ false) → is_lt (ordering_then o p) ≡ false →
     is_lt (ordering_then o q) ≡ false
 then_weaker Less p q h k = k
@@ -106,6 +106,7 @@ one_events g acts ends xs ys apart a b = one_order (λ a b. is_event_below a b �
     (all_events g acts ends) xs ys a.all b.all (rises (all_events g acts ends) xs apart a.all a.in_order)
     (rises (all_events g acts ends) ys apart b.all b.in_order)
 
+-- if no two events have the same key, a trace has one text
 pub one_text : (g : Graph) (lengths : List ℕ) (acts : List (List Act)) (ends : List (List (ℕ × Ended)))
     (text other : List ℕ) →
     AllPairs (λ a b. event_key a ≢ event_key b) (all_events g acts ends)

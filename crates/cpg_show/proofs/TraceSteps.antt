@@ -16,6 +16,7 @@ use Rattle.cpg_show.specs.TraceText.{end_times}
 use Rattle.cpg_label.proofs.Steps.{next_piece}
 
 module _ (g : Graph) (acts : List (List Act)) (ends : List (List (ℕ × Ended))) where
+  -- with the acts and the ends of the next node added, the events are those of one node more
   pub one_node : (i : ℕ) (before middle after : List TraceEvent) →
       before ≡ flat_map (node_events g acts ends) (numbers_below i) →
       middle ≡ before ++ map (event_of_act g i) (get_or acts i [])
@@ -41,6 +42,7 @@ module _ (g : Graph) (acts : List (List Act)) (ends : List (List (ℕ × Ended))
       (All-map (λ (e : TraceEvent). IsKindWithin g e.kind) (event_of_end i) (get_or ends i [])
       (λ k d l. ((h k d l).process, (h k d l).faults)))
 
+  -- if the acts and ends of all nodes are of items of the graph, all events are
   pub all_within : ((i : ℕ) → i < length g.nodes → All (IsActWithin g) (get_or acts i [])) →
       ((i : ℕ) → i < length g.nodes → All (IsEndWithin g) (get_or ends i [])) →
       All (λ e. IsKindWithin g e.kind) (all_events g acts ends)

@@ -1,4 +1,4 @@
--- What nodes have done in a play is of items and processes of the graph, with faults within its number.
+-- The acts and ends of a play are of items and processes of the graph, with no more faults than it has.
 use Rattle.std.proofs.Common.{ℕ, ◌≡◌, ◌<◌, ◌≤◌, ◌==◌, List, [], All, Contains, length, get_or, ap, subst, arith, inl}
 use Rattle.std.proofs.Common.{inr}
 use Rattle.std.proofs.lemmas.Bool.{cases_lt}
@@ -53,12 +53,14 @@ module _ (p : Playing) (is : IsPlaying p) where
 
 -- The same of the graph as code sees it.
 
+-- the acts of each node of a play are of items of the graph
 pub acts_at : (p : Playing) → IsPlaying p → (g : Graph) → p.graph ≡ g → (node : ℕ) → node < length g.nodes →
     All (IsActWithin g) (get_or p.cluster.acts node [])
 acts_at p is g same =
     subst (λ (g : Graph). (node : ℕ) → node < length g.nodes → All (IsActWithin g) (get_or p.cluster.acts node [])) same
     (acts_within p is)
 
+-- the ends of each node of a play are of processes of the graph, with no more faults than it has
 pub ends_at : (p : Playing) → IsPlaying p → (g : Graph) → p.graph ≡ g → (node : ℕ) → node < length g.nodes →
     All (IsEndWithin g) (get_or p.cluster.ends node [])
 ends_at p is g same =

@@ -18,7 +18,7 @@ is_shown_item g (Start p) = true
 is_shown_item g (Message e) = is_sent_item g (Message e)
 is_shown_item g (Broadcast c) = is_sent_item g (Broadcast c)
 
--- the same, by the item's number
+-- whether the item with this number has lines
 abbrev pub is_shown : Graph → ℕ → Bool
 is_shown g x = is_shown_item g (item_at g x)
 

@@ -1,11 +1,11 @@
-//! What a trace tells.
+//! The events that a trace lists.
 ghost use Rattle.std.specs.Prelude.{◌≡◌};
 ghost use Rattle.cpg_show.specs.TraceEvents.{IsActWithin, event_of_act, event_of_end};
 
 use cpg_base::{Item, Problem};
 use cpg_node::{Act, Ended};
 
-/// What a node did. At one time a trace tells ends before sends, and sends before starts.
+/// What a node did. At one time a trace lists ends before sends, and sends before starts.
 #[derive(Clone, Copy, Debug, PartialEq, Eq, PartialOrd, Ord)]
 pub enum EventKind {
     /// An execution ended.

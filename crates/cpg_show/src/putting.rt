@@ -15,7 +15,7 @@ use itoa::Buffer as Digits;
 /// How many bytes a line has beside the text of its literals, at most: a number of 20 digits, blanks, a colon and the end.
 const MOST_BESIDE: usize = 25;
 
-/// A text.
+/// Puts a text.
 pub(crate) fn put_text<O: Sink>(buffer: &mut Buffer, sink: &mut O, text: &str) -> Result<(), Failed>
     ensures put { Puts (O.state sink.old).taken (O.state sink.new).taken buffer.old buffer.new result text.now }
     ensures cause { HasCause (O.state sink.old).faults (O.state sink.new).faults result }
@@ -23,7 +23,7 @@ pub(crate) fn put_text<O: Sink>(buffer: &mut Buffer, sink: &mut O, text: &str) -
     buffer.put_any(sink, text.as_bytes())
 }
 
-/// Two texts.
+/// Puts two texts.
 fn put_two<O: Sink>(
     buffer: &mut Buffer,
     sink: &mut O,
@@ -37,7 +37,7 @@ fn put_two<O: Sink>(
     put_text(buffer, sink, second)
 }
 
-/// Three texts.
+/// Puts three texts.
 fn put_three<O: Sink>(
     buffer: &mut Buffer,
     sink: &mut O,
@@ -57,13 +57,14 @@ fn cube_text<'a>(labels: &Labels<'_>, line: &'a Line, literals: &[Literal]) -> &
     requires { IsLineOf labels.now literals.now line.now }
     ensures { result.now ≡ cube_text labels.now literals.now }
 {
+    // a column without literals matches always
     if literals.is_empty() {
         return b"always";
     }
     line.text(labels, literals)
 }
 
-/// What stands before the literals of a column.
+/// Puts what stands before the literals of a column.
 fn put_time<O: Sink>(buffer: &mut Buffer, sink: &mut O, time: u64) -> Result<(), Failed>
     ensures put { Puts (O.state sink.old).taken (O.state sink.new).taken buffer.old buffer.new result (codes "  " ++ decimal time ++ codes ": ") }
     ensures cause { HasCause (O.state sink.old).faults (O.state sink.new).faults result }
@@ -73,7 +74,7 @@ fn put_time<O: Sink>(buffer: &mut Buffer, sink: &mut O, time: u64) -> Result<(),
     put_three(buffer, sink, "  ", text, ": ")
 }
 
-/// A line of a time and a text, but its end.
+/// Puts a line of a time and a text, without its end.
 fn put_timed<O: Sink>(
     buffer: &mut Buffer,
     sink: &mut O,
@@ -88,7 +89,7 @@ fn put_timed<O: Sink>(
     buffer.put_any(sink, text)
 }
 
-/// A line of a time and a text, part by part.
+/// Puts a line of a time and a text, part by part.
 fn put_parts<O: Sink>(
     buffer: &mut Buffer,
     sink: &mut O,
@@ -116,7 +117,7 @@ fn hold_line(buffer: &mut Buffer, time: u64, text: &[u8])
     buffer.hold(b"\n");
 }
 
-/// The line of a column, all at once if the buffer has room for it, as it mostly has.
+/// Puts the line of a column, at once if the buffer has room for it, which is the usual case.
 fn put_column<O: Sink>(
     buffer: &mut Buffer,
     sink: &mut O,
@@ -129,14 +130,16 @@ fn put_column<O: Sink>(
     ensures cause { HasCause (O.state sink.old).faults (O.state sink.new).faults result }
 {
     let text = cube_text(labels, line, column.cube.literals());
+    // the line fits whole: it is held without a test for each part
     if text.len() < buffer.room().saturating_sub(MOST_BESIDE) {
         hold_line(buffer, column.time, text);
         return Ok(());
     }
+    // no room: each part is put by itself, and the buffer is written when it is full
     put_parts(buffer, sink, column.time, text)
 }
 
-/// The lines of columns. A line takes over what it has in common with the line before.
+/// Puts the lines of columns. A line takes over what it has in common with the line before.
 pub(crate) fn put_columns<O: Sink>(
     buffer: &mut Buffer,
     sink: &mut O,
@@ -150,6 +153,7 @@ pub(crate) fn put_columns<O: Sink>(
     ensures cause { HasCause (O.state sink.old).faults (O.state sink.new).faults result }
 {
     for column in columns {
+        // the line keeps the literals that this cube has in common with the last one
         line.turn_into(labels, &column.cube);
         put_column(buffer, sink, labels, line, column)?;
     }

@@ -20,7 +20,7 @@ pub(crate) struct SheetPart<'a> {
     pub columns: &'a [Column],
 }
 
-/// A text of rows, of which all is at hand but the lines of their columns.
+/// A text of rows: all of it but the lines of the columns is at hand.
 #[derive(Drop)]
 pub(crate) struct Sheet<'a> {
     pub labels: Labels<'a>,
@@ -28,6 +28,7 @@ pub(crate) struct Sheet<'a> {
     pub parts: Vec<SheetPart<'a>>,
 }
 
+/// Puts a line and the lines of its columns.
 fn put_part<O: Sink>(
     buffer: &mut Buffer,
     sink: &mut O,
@@ -44,6 +45,7 @@ fn put_part<O: Sink>(
     put_columns(buffer, sink, labels, line, part.columns)
 }
 
+/// Puts parts, one after another.
 fn put_parts<O: Sink>(
     buffer: &mut Buffer,
     sink: &mut O,
@@ -61,6 +63,7 @@ fn put_parts<O: Sink>(
     Ok(())
 }
 
+/// Puts a sheet: its front and its parts.
 fn put_sheet<O: Sink>(
     buffer: &mut Buffer,
     sink: &mut O,
@@ -88,6 +91,7 @@ fn write_through<O: Sink>(
     ensures part { OnErr result (TookPrefix (O.state sink.old).taken (O.state sink.new).taken (sheet_text sheet.now)) }
     ensures cause { HasCause (O.state sink.old).faults (O.state sink.new).faults result }
 {
+    // what the buffer still holds at the end is written behind the parts
     put_sheet(buffer, sink, line, sheet)?;
     buffer.write(sink)
 }
@@ -108,6 +112,7 @@ pub(crate) fn write_sheet<O: Sink>(
     ensures same { result ≡ Err WriteFault.OutOfMemory → sink.new ≡ sink.old }
     ensures later { (O.state sink.old).faults ≤ (O.state sink.new).faults }
 {
+    // all memory is asked for here, so that nothing has been written if there is none
     let mut buffer = Buffer::new(alloc)?;
     let mut line = Line::new(alloc)?;
     write_through(&mut buffer, sink, &mut line, sheet)?;

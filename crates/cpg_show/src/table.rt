@@ -30,6 +30,7 @@ fn is_shown(problem: &Problem, item: u32) -> bool
     }
 }
 
+/// Writes the names of the processes along an order, each after a blank.
 fn write_names(out: &mut String, labels: &Labels<'_>, order: &[u32]) -> Result<(), AllocError>
     ensures { OnOk result (string_bytes out.new ≡ string_bytes out.old ++ flat_map (λ p. codes " " ++ process_name labels.now p) order.now) }
 {
@@ -40,6 +41,7 @@ fn write_names(out: &mut String, labels: &Labels<'_>, order: &[u32]) -> Result<(
     Ok(())
 }
 
+/// Writes the line of the order.
 fn write_order(out: &mut String, labels: &Labels<'_>, order: &[u32]) -> Result<(), AllocError>
     ensures { OnOk result (string_bytes out.new ≡ string_bytes out.old
         ++ (codes "order" ++ flat_map (λ p. codes " " ++ process_name labels.now p) order.now ++ codes "\n")) }
@@ -49,6 +51,7 @@ fn write_order(out: &mut String, labels: &Labels<'_>, order: &[u32]) -> Result<(
     out.push_str("\n")
 }
 
+/// Writes the line which says what is done with an item, and on which node.
 fn write_head_line(
     out: &mut String,
     problem: &Problem,
@@ -65,7 +68,7 @@ fn write_head_line(
     write!(out, " on {name}\n")
 }
 
-/// The line of what is done with an item, and where.
+/// The line which says what is done with an item, and where, in a text of its own.
 fn head_line_of(
     alloc: Global,
     problem: &Problem,
@@ -86,12 +89,13 @@ fn columns_of(rows: &[Row], item: u32) -> &[Column]
     ensures { result.now ≡ (row_for rows.now item).columns }
 {
     match rows.get(item as usize) {
+        // rows stand by the number of their item
         Some(row) => row.columns(),
         None => &[],
     }
 }
 
-/// The rows of what is started and sent, by number of the item.
+/// The rows of the items that are started or sent, by number.
 fn parts_of<'a>(
     alloc: Global,
     problem: &Problem,
@@ -104,6 +108,7 @@ fn parts_of<'a>(
 {
     let mut parts = Vec::new(alloc);
     for item in 0..problem.item_count() {
+        // an edge within a node and a condition that isn't broadcast have no part
         if is_shown(problem, item) {
             parts.push(SheetPart {
                 head: head_line_of(alloc, problem, labels, item)?,

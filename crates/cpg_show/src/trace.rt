@@ -23,6 +23,7 @@ fn write_outcome(
     requires { process < process_count problem.now }
     ensures { OnOk result (string_bytes out.new ≡ string_bytes out.old ++ outcome_text problem.now process value) }
 {
+    // a process without a condition has no value to show
     if problem.condition_of(process).is_none() {
         return Ok(());
     }
@@ -34,12 +35,14 @@ fn write_outcome(
 fn write_ran(out: &mut String, length: u64, full: u64) -> Result<(), AllocError>
     ensures { OnOk result (string_bytes out.new ≡ string_bytes out.old ++ ran_text length full) }
 {
+    // an execution that takes its full length needs no note
     if length < full {
         write!(out, " ran {length}")?;
     }
     Ok(())
 }
 
+/// Writes what a node did.
 fn write_kind(
     out: &mut String,
     problem: &Problem,
@@ -67,6 +70,7 @@ fn write_kind(
     }
 }
 
+/// Writes the line of an event.
 fn write_event(
     out: &mut String,
     problem: &Problem,
@@ -84,6 +88,7 @@ fn write_event(
     out.push_str("\n")
 }
 
+/// Writes the lines of events.
 fn write_events(
     out: &mut String,
     problem: &Problem,
@@ -104,6 +109,7 @@ fn write_events(
 fn last_of(time: u64, ends: &[(u64, Ended)]) -> u64
     ensures { result ≡ fold max time (map (λ e. e.0) ends.now) }
 {
+    // goes over the ends of one node, in any order
     let mut last = time;
     for end in ends {
         last = last.max(end.0);
@@ -116,6 +122,7 @@ pub fn finish(problem: &Problem, cluster: &Cluster) -> u64
     requires { cluster.now.graph ≡ problem.now }
     ensures { result ≡ finish_of problem.now cluster.now.cluster.ends }
 {
+    // goes over the nodes
     let mut last = 0;
     for node in 0..problem.nodes().len() as u32 {
         last = last_of(last, cluster.ends(node));

@@ -7,7 +7,7 @@ use Rattle.cpg_table.specs.Table.{Row}
 use Rattle.cpg_table.specs.Shape.{items_of}
 use Rattle.cpg_table.specs.Items.{after_items}
 
--- rows of some items and then of more
+-- the rows after two lists of items are those after the second, in the rows after the first
 pub after_both : (xs ys : List ℕ) (rows rest : List Row) → Some rest ≡ after_items xs rows →
     after_items (xs ++ ys) rows ≡ after_items ys rest
 after_both [] ys rows rest e = cc
@@ -20,6 +20,7 @@ after_both (x ∷ xs) ys (row ∷ rows) rest e = case (row.item == x) (after_bot
     case true h e = h e
     case false h e = cc
 
+-- rows that don't begin with those of the first items don't begin with those of all
 pub after_neither : (xs ys : List ℕ) (rows : List Row) → None ≡ after_items xs rows → None ≡ after_items (xs ++ ys) rows
 after_neither [] ys rows e = cc
 after_neither (x ∷ xs) ys [] e = refl
@@ -31,7 +32,7 @@ after_neither (x ∷ xs) ys (row ∷ rows) e = case (row.item == x) (after_neith
     case true h e = h e
     case false h e = refl
 
--- what is left comes after as many rows as there are items
+-- the rows that are left come after as many rows as there are items
 pub after_parts : (xs : List ℕ) (rows rest : List Row) → Some rest ≡ after_items xs rows →
     (items_of rows ≡ xs ++ items_of rest) × (length rows ≡ length xs + length rest)
 after_parts [] rows rest e = let same : rest ≡ rows = cc in (ap items_of (sym same), omega (arith, ap length same))
@@ -46,7 +47,7 @@ after_parts (x ∷ xs) (row ∷ rows) rest e = case (row.item == x) (eqb-true ro
     case true i h e = let k = h e in (ap₂ ◌∷◌ (i refl) k.0, omega (arith, k.1))
     case false i h e = absurd (let none : Some rest ≡ None = e in cc)
 
--- rows of these items, and no more
+-- after the rows of exactly these items none is left
 pub after_all : (xs : List ℕ) (rows : List Row) → items_of rows ≡ xs → Some [] ≡ after_items xs rows
 after_all [] [] e = refl
 after_all [] (row ∷ rows) e = absurd (let none : row.item ∷ items_of rows ≡ [] = e in cc)
@@ -55,7 +56,7 @@ after_all (x ∷ xs) (row ∷ rows) e =
     let parts : (row.item ≡ x) × (items_of rows ≡ xs) = (cc, cc) in
     after_all xs rows parts.1 ∙ sym (cond-true (row.item == x) (after_items xs rows) None (eq-eqb row.item x parts.0))
 
--- rows that leave nothing are rows of these items
+-- if no row is left after the items, the rows are those of exactly these items
 pub all_after : (xs : List ℕ) (rows : List Row) → Some [] ≡ after_items xs rows → items_of rows ≡ xs
 all_after xs rows e = (after_parts xs rows [] e).0 ∙ append-nil xs
 
@@ -63,12 +64,13 @@ all_after xs rows e = (after_parts xs rows [] e).0 ∙ append-nil xs
 pub not_these : (xs : List ℕ) (rows : List Row) → None ≡ after_items xs rows → items_of rows ≢ xs
 not_these xs rows e same = let all = after_all xs rows same in absurd (let none : Some [] ≡ None = all ∙ sym e in cc)
 
+-- rows that leave some rows over are not the rows of these items
 pub not_all : (xs : List ℕ) (row : Row) (rest rows : List Row) → Some (row ∷ rest) ≡ after_items xs rows →
     items_of rows ≢ xs
 not_all xs row rest rows e same = let all = after_all xs rows same in
     absurd (let none : Some [] ≡ Some (row ∷ rest) = all ∙ sym e in cc)
 
--- whether these are the rows of the items: if nothing is left
+-- the rows are those of exactly these items if and only if no row is left after the items
 pub these_where_nothing : (xs : List ℕ) (rows rest : List Row) → Some rest ≡ after_items xs rows → (b : Bool) →
     b ≡ (length rest == 0) →
     IsTrue b ↔ (items_of rows ≡ xs)
@@ -79,11 +81,13 @@ these_where_nothing xs rows (row ∷ rest) e b t = (
   λ same. absurd (not_all xs row rest rows e same),
 )
 
+-- rows that don't begin with those of the items are not their rows
 pub these_never : (xs : List ℕ) (rows : List Row) → None ≡ after_items xs rows → IsTrue false ↔ (items_of rows ≡ xs)
 these_never xs rows e = (λ k. absurd (true≢false (sym k)), λ same. absurd (not_these xs rows e same))
 
 -- rows of three lists of items, one after another
 module _ (xs ys zs : List ℕ) (rows a b : List Row) (front : Some a ≡ after_items xs rows)
     (middle : Some b ≡ after_items ys a) where
+  -- after the rows of three lists of items, the same rows are left as after those of the third list
   pub after_three : after_items (xs ++ (ys ++ zs)) rows ≡ after_items zs b
   after_three = after_both xs (ys ++ zs) rows a front ∙ after_both ys zs a b middle

@@ -8,10 +8,12 @@ use Rattle.cpg_table.specs.Items.{numbers_where}
 abbrev has_condition : HeadProcess → Bool
 has_condition p = p.condition
 
+-- the number of the next condition stays within the conditions of the processes so far
 pub few_on : (c : Bool) (i n k : ℕ) → i ≤ n + k → cond c (i + 1) i ≤ n + (k + 1)
 few_on true i n k h = omega arith
 few_on false i n k h = omega arith
 
+-- a broadcast that is wanted moves from the rest to those listed, and the rest goes on
 either : (c b : Bool) (i : ℕ) (front : List ℕ) (more : ℕ → List ℕ) →
     (front ++ cond (c && b) (i ∷ []) []) ++ more (cond c (i + 1) i) ≡ front
     ++ cond c (cond b (i ∷ more (i + 1)) (more (i + 1)))
@@ -24,6 +26,7 @@ module _ (test : HeadProcess → Bool) where
   abbrev numbers : ℕ → List HeadProcess → List ℕ
   numbers i ps = numbers_where test i (filter has_condition ps)
 
+  -- the numbers of the conditions begin with that of the first process, if it has one and passes
   opened : (i : ℕ) (x : HeadProcess) (rest : List HeadProcess) (c : Bool) →
       numbers_where test i (cond c (x ∷ filter has_condition rest) (filter has_condition rest)) ≡ cond c
       (cond (test x) (i ∷ numbers (i + 1) rest) (numbers (i + 1) rest)) (numbers i rest)
@@ -34,6 +37,7 @@ module _ (test : HeadProcess → Bool) where
       drop k ps ≡ get_or ps k x ∷ drop (k + 1) ps
   drop_is ps k x h = rw (add-one, drop-cons ps k x) refl
 
+  -- after one more process its broadcast is in the list, if it has a condition and passes the test
   pub broadcasts_on : (ps : List HeadProcess) (k i j : ℕ) (x : HeadProcess) (w : Bool) (front after total : List ℕ) →
       x ≡ get_or ps k x → k < length ps →
       w ≡ (x.condition && test x) →

@@ -26,7 +26,7 @@ use Rattle.cpg_head.proofs.HeadWithin.{has_condition}
 
 -- ---- lists
 
--- places in a list that is made by a function, as numbers from s on
+-- the numbers of elements that pass in a list made by a function, counted from s on
 where_from : {X : Type 0} (test : X → Bool) (f : ℕ → X) (s a n i : ℕ) → i ≡ s + a →
     numbers_where test i (map f (range_with_len a n)) ≡ filter (λ x. test (f (x - s))) (range_with_len i n)
 where_from test f s a zero i e = refl
@@ -37,10 +37,12 @@ where_from test f s a (suc n) i e =
     ∙ ap (λ b. cond b (i ∷ filter (λ x. test (f (x - s))) (range_with_len (i + 1) n))
     (filter (λ x. test (f (x - s))) (range_with_len (i + 1) n))) (ap (λ k. test (f k)) (sym at))
 
+-- the numbers of the elements that pass a test, as a filter of numbers
 pub where_is : {X : Type 0} (test : X → Bool) (f : ℕ → X) (s n : ℕ) →
     numbers_where test s (map f (numbers_below n)) ≡ filter (λ x. test (f (x - s))) (range_with_len s n)
 where_is test f s n = where_from test f s 0 n s (omega arith)
 
+-- a range of numbers is its first part and then the rest
 pub range-append : (a m n : ℕ) → range_with_len a (m + n) ≡ range_with_len a m ++ range_with_len (a + m) n
 range-append a zero n = ap₂ range_with_len (let e : a ≡ a + 0 = omega arith in e) (let e : 0 + n ≡ n = omega arith in e)
 range-append a (suc m) n =
@@ -63,6 +65,7 @@ map-map : {X Y Z : Type 0} (g : Y → Z) (f : X → Y) (xs : List X) → map g (
 map-map g f [] = refl
 map-map g f (x ∷ xs) = ap (λ ys. g (f x) ∷ ys) (map-map g f xs)
 
+-- a list is the list of its elements by place
 pub by_place : {X : Type 0} (xs : List X) (d : X) → xs ≡ map (λ k. get_or xs k d) (numbers_below (length xs))
 by_place xs d = fill_by_all (λ k. get_or xs k d) xs (length xs) d refl (λ k l. refl)
 
@@ -96,6 +99,7 @@ module _ (g : Graph) (w : IsWithinLimits g) where
   edges_are = ap (map (λ (e : Edge). (e.from, e.to))) (by_place g.edges _)
       ∙ map-map (λ (e : Edge). (e.from, e.to)) (edge_at g) (numbers_below (edge_count g))
 
+  -- the processes with a condition under the head of a graph are those of its conditions, in their order
   conditioned_are : conditioned (head_of g)
       ≡ map (λ c. head_process g (process_of g c)) (numbers_below (condition_count g))
   conditioned_are =
@@ -107,6 +111,7 @@ module _ (g : Graph) (w : IsWithinLimits g) where
 
   -- the items of a node, each kind in its part of the numbers
   module _ (node : ℕ) where
+    -- the messages that pass a test of their ends are those whose edges pass it in the graph
     messages_are : (test : ℕ × ℕ → Bool) →
         numbers_where test (first_message (head_of g)) (head_of g).edges
         ≡ filter (λ x. test (source g (x - process_count g), target g (x - process_count g)))
@@ -114,6 +119,7 @@ module _ (g : Graph) (w : IsWithinLimits g) where
     messages_are test = ap₂ (numbers_where test) process_number edges_are
         ∙ where_is test (λ e. (source g e, target g e)) (process_count g) (edge_count g)
 
+    -- the broadcasts that pass a test of their processes are those whose processes pass it in the graph
     broadcasts_are : (test : HeadProcess → Bool) →
         numbers_where test (first_broadcast (head_of g)) (conditioned (head_of g))
         ≡ filter (λ x. test (head_process g (process_of g (x - (process_count g + edge_count g)))))
@@ -123,6 +129,7 @@ module _ (g : Graph) (w : IsWithinLimits g) where
         (ap₂ ◌+◌ process_number (length-map {B = ℕ × ℕ} g.edges (λ e. (e.from, e.to)))) conditioned_are
         ∙ where_is test (λ c. head_process g (process_of g c)) (process_count g + edge_count g) (condition_count g)
 
+    -- the items that pass a test are those among the starts, among the messages and among the broadcasts
     pub parts_are : (p : ℕ → Bool) → filter p (numbers_below (item_count g))
         ≡ filter p (numbers_below (process_count g)) ++ (filter p (range_with_len (process_count g) (edge_count g))
         ++ filter p (range_with_len (process_count g + edge_count g) (condition_count g)))
@@ -141,12 +148,13 @@ module _ (g : Graph) (w : IsWithinLimits g) where
         (filter p (range_with_len (process_count g) (edge_count g)))
         (filter p (range_with_len (process_count g + edge_count g) (condition_count g)))
 
+    -- the head of a graph gives a node the starts of its processes
     pub starts_are : starts_of (head_of g) node ≡ processes_on g node
     starts_are = where_is (λ (p : HeadProcess). p.node == node) (head_process g) 0 (process_count g) ∙
         same_filter (λ x. node_of g (x - 0) == node) (λ x. node_of g x == node) (numbers_below (process_count g))
         (λ x c. ap (λ k. node_of g k == node) (omega arith))
 
-    -- a message, by its number
+    -- the items after the processes are the messages
     at_message : (x : ℕ) → Contains (range_with_len (process_count g) (edge_count g)) x →
         (x - process_count g < edge_count g) × (item_at g x ≡ Message (x - process_count g))
     at_message x c =
@@ -155,7 +163,7 @@ module _ (g : Graph) (w : IsWithinLimits g) where
         let is : x ≡ message_item g (x - process_count g) = omega (arith, r.0) in
         (l, ap (item_at g) is ∙ item_at-message g (x - process_count g) l)
 
-    -- a broadcast, by its number
+    -- the items after the messages are the broadcasts
     at_broadcast : (x : ℕ) → Contains (range_with_len (process_count g + edge_count g) (condition_count g)) x →
         (x - (process_count g + edge_count g) < condition_count g) ×
         (item_at g x ≡ Broadcast (x - (process_count g + edge_count g)))
@@ -165,6 +173,7 @@ module _ (g : Graph) (w : IsWithinLimits g) where
         let is : x ≡ broadcast_item g (x - (process_count g + edge_count g)) = omega (arith, r.0) in
         (l, ap (item_at g) is ∙ item_at-broadcast g (x - (process_count g + edge_count g)))
 
+    -- the head of a graph gives a node the messages that it sends in the graph
     pub sent_messages : numbers_where (leaves (head_of g) node) (first_message (head_of g)) (head_of g).edges
         ≡ filter (λ x. is_sent g x && (home g x == node))
         (range_with_len (process_count g) (edge_count g))
@@ -178,6 +187,7 @@ module _ (g : Graph) (w : IsWithinLimits g) where
         ∙ sym (leaves_is (node_of g (source g (x - process_count g))) (node_of g (target g (x - process_count g))) node)
         ∙ ap (λ i. is_sent_item g i && (node_of g (producer_of_item g i) == node)) (sym at.1))
 
+    -- the head of a graph gives a node the broadcasts that it sends in the graph
     pub sent_broadcasts : cond (ltb 1 (length g.nodes))
         (numbers_where (λ p. p.node == node) (first_broadcast (head_of g)) (conditioned (head_of g))) []
         ≡ filter (λ x. is_sent g x && (home g x == node))
@@ -191,6 +201,7 @@ module _ (g : Graph) (w : IsWithinLimits g) where
         (λ x. is_sent g x && (home g x == node)) (range_with_len base (condition_count g))
         (λ x c. ap (λ i. is_sent_item g i && (node_of g (producer_of_item g i) == node)) (sym (at_broadcast x c).1))
 
+    -- the items that a node sends under the head of a graph are those it sends in the graph
     pub sends_are : sends_of (head_of g) node ≡ sent_from g node
     sends_are =
         ap₂ (λ xs ys. xs ++ ys) sent_messages sent_broadcasts
@@ -201,6 +212,7 @@ module _ (g : Graph) (w : IsWithinLimits g) where
         (filter_none (λ x. is_sent g x && (home g x == node)) (numbers_below (process_count g))
         (λ x c. ap (λ b. b && (home g x == node)) (start_not_sent g x (numbers-Contains (process_count g) x c)))))
 
+    -- the messages that a node hears under the head of a graph are those it hears in the graph
     heard_messages : numbers_where (enters (head_of g) node) (first_message (head_of g)) (head_of g).edges
         ≡ filter (λ x. is_heard_by g node (item_at g x))
         (range_with_len (process_count g) (edge_count g))
@@ -214,12 +226,13 @@ module _ (g : Graph) (w : IsWithinLimits g) where
         ∙ sym (enters_is (node_of g (source g (x - process_count g))) (node_of g (target g (x - process_count g))) node)
         ∙ ap (is_heard_by g node) (sym at.1))
 
-    -- in a graph of one node there is no other that one could hear
+    -- a process on another node shows that there are two nodes or more
     others_need_two : (p : ℕ) → p < process_count g → node < length g.nodes →
         not (node_of g p == node) ≡ (ltb 1 (length g.nodes) && not (node_of g p == node))
     others_need_two p l inside = one_node (node_of g p) node (length g.nodes)
         (All-get_or (IsProcessWithin (length g.nodes)) g.processes p _ l w.processes).node inside
 
+    -- the items that a node hears under the head of a graph are those it hears in the graph
     pub hears_are : node < length g.nodes → hears_of (head_of g) node ≡ heard_by g node
     hears_are inside =
         let base : ℕ = process_count g + edge_count g in

@@ -26,11 +26,13 @@ use Rattle.std.proofs.lemmas.List.{length-map}
 use Rattle.cpg_table.proofs.TableRows.{All-left}
 
 module _ (g : Graph) (w : IsWithinLimits g) where
+  -- the variable of a lawful literal is one of the graph
   variable_there : (l : Literal) → IsLawfulLiteral (space_of (head_of g)) l → IsVariable g l.variable
   variable_there l (inl c) =
       inl (omega (arith, c.known, length-map-range_with_len (head_process g) 0 (process_count g)))
   variable_there l (inr c) = inr (c.value, omega (arith, c.known, conditions_counted g))
 
+  -- the literals of lawful rows are on variables of the graph
   pub speak_of : (rows : List Row) → All (IsLawfulRow (space_of (head_of g))) rows → SpeakOf g rows
   speak_of rows h = All-weaker (IsLawfulRow (space_of (head_of g)))
       (λ (row : Row). All (λ (c : Column). All (λ (l : Literal). IsVariable g l.variable) c.cube) row.columns)
@@ -39,6 +41,7 @@ module _ (g : Graph) (w : IsWithinLimits g) where
       (λ c k. All-weaker (IsLawfulLiteral (space_of (head_of g)))
       (λ (l : Literal). IsVariable g l.variable) variable_there c.cube k.literals) row.columns r.columns) rows h
 
+  -- tables under the head of a graph have the shape of the graph's tables
   pub has_shape : (tables : List NodeTable) → AreTablesOf (head_of g) tables → HasShape g tables
   has_shape tables t = record {
     count = t.count;
@@ -50,7 +53,7 @@ module _ (g : Graph) (w : IsWithinLimits g) where
         (t.each node l).lawful));
   }
 
-  -- a process that has a condition, by the number of those before it
+  -- the condition of a process is numbered by the processes with conditions before it
   condition_is : (p : ℕ) → p < process_count g → is_disjunction g p ≡ true →
       condition_of g p ≡ Some (length (filter (is_disjunction g) (numbers_below p)))
   condition_is p l t =
@@ -77,7 +80,7 @@ module _ (g : Graph) (w : IsWithinLimits g) where
       none_of None e = refl
       none_of (Some c) e = absurd (true≢false e)
 
-  -- the number of the next condition
+  -- the number of conditions before the next process
   count_next : (p : ℕ) →
       cond (is_disjunction g p) (length (filter (is_disjunction g) (numbers_below p)) + 1)
       (length (filter (is_disjunction g) (numbers_below p))) ≡ length
@@ -91,13 +94,14 @@ module _ (g : Graph) (w : IsWithinLimits g) where
       step true = sym (length-append (filter (is_disjunction g) (numbers_below p)) (p ∷ []))
       step false = sym (length-append (filter (is_disjunction g) (numbers_below p)) [] ∙ omega arith)
 
-  -- what a node needs to know of a process
+  -- the condition that a node knows of a process is that of the graph
   flag_if : (p : ℕ) → p < process_count g → (c : ℕ) → c ≡ length (filter (is_disjunction g) (numbers_below p)) →
       (b : Bool) → is_disjunction g p ≡ b →
       cond b (Some c) None ≡ condition_of g p
   flag_if p l c e true t = ap Some e ∙ sym (condition_is p l t)
   flag_if p l c e false t = sym (condition_none p l t)
 
+  -- from a process on, the own processes of a node under the head are those in the graph
   own_are_from : (node p n c : ℕ) → p + n ≡ process_count g → c ≡ length (filter (is_disjunction g) (numbers_below p))
       → own_from node p c (map (head_process g) (range_with_len p n))
       ≡ map (own_process g) (filter (λ q. node_of g q == node) (range_with_len p n))
@@ -123,9 +127,11 @@ module _ (g : Graph) (w : IsWithinLimits g) where
       step true = refl
       step false = refl
 
+  -- the head of a graph gives a node its own processes, with their conditions and durations
   pub own_are : (node : ℕ) → own_of (head_of g) node ≡ map (own_process g) (processes_on g node)
   own_are node = own_are_from node 0 (process_count g) 0 (omega arith) refl
 
+  -- the table of each node under the head of a graph says what the graph says
   pub suits_graph : (tables : List NodeTable) → AreTablesOf (head_of g) tables → (node : ℕ) → node < length g.nodes →
       SuitsGraph g node (table_at tables node)
   suits_graph tables t node l = let at = t.each node l in record {

@@ -59,10 +59,12 @@ module _ (g : Graph) (node : ℕ) where
   message_started : (e : ℕ) → is_started_on g node (message_item g e) ≡ false
   message_started e = late_start (message_item g e) (omega arith)
 
+  -- a node sends a message exactly if its source is on the node and its target isn't
   message_sent : (e : ℕ) → e < edge_count g →
       is_sent_from g node (message_item g e) ≡ (is_message g e && (node_of g (source g e) == node))
   message_sent e l = ap (λ i. is_sent_item g i && (node_of g (producer_of_item g i) == node)) (item_at-message g e l)
 
+  -- a node hears a message exactly if its target is on the node and its source isn't
   message_heard : (e : ℕ) → e < edge_count g →
       is_heard_at g node (message_item g e) ≡ (is_message g e && (node_of g (target g e) == node))
   message_heard e l = ap (is_heard_by g node) (item_at-message g e l)
@@ -70,15 +72,17 @@ module _ (g : Graph) (node : ℕ) where
   broadcast_started : (c : ℕ) → is_started_on g node (broadcast_item g c) ≡ false
   broadcast_started c = late_start (broadcast_item g c) (omega arith)
 
+  -- a node sends a broadcast exactly if the condition's process is on it, and there are two nodes or more
   broadcast_sent : (c : ℕ) →
       is_sent_from g node (broadcast_item g c) ≡ (nat_lt 1 (length g.nodes) && (node_of g (process_of g c) == node))
   broadcast_sent c = ap (λ i. is_sent_item g i && (node_of g (producer_of_item g i) == node)) (item_at-broadcast g c)
 
+  -- a node hears a broadcast exactly if the condition's process is on another node, and there are two nodes or more
   broadcast_heard : (c : ℕ) →
       is_heard_at g node (broadcast_item g c) ≡ (nat_lt 1 (length g.nodes) && not (node_of g (process_of g c) == node))
   broadcast_heard c = ap (is_heard_by g node) (item_at-broadcast g c)
 
-  -- what it starts are the processes on it
+  -- the items that a node starts are the processes on it
   starts_whole : filter (is_started_on g node) (numbers_below (item_count g)) ≡ processes_on g node
   starts_whole =
       ap (filter (is_started_on g node)) (ap numbers_below
@@ -95,7 +99,7 @@ module _ (g : Graph) (node : ℕ) where
       late_start x (omega (arith, (from_range (0 + process_count g) (edge_count g + condition_count g) x c).0))))
       ∙ append-nil (processes_on g node)
 
--- sums of sums may be taken the other way
+-- sums of sums may be taken in either order
 swapped : {X Y : Type 0} (f : X → Y → ℕ) (xs : List X) (ys : List Y) →
     sum_by (λ x. sum_by (f x) ys) xs ≡ sum_by (λ y. sum_by (λ x. f x y) xs) ys
 swapped f [] ys = sym (sum_by_zeros (λ y. sum_by (λ x. f x y) []) ys (λ y c. refl))
@@ -109,7 +113,7 @@ count_rows : (row : ℕ → Row) (columns : ℕ → ℕ) (xs : List ℕ) → ((x
 count_rows row columns xs each = sum_by-map (λ (r : Row). length r.columns) row xs
     ∙ same_sum_by (λ x. length (row x).columns) columns xs (λ x c. each x)
 
--- a number at one node at most
+-- a sum over the nodes with a number at one of them is at most this number
 place_le : (w v n : ℕ) → sum_by (λ node. cond (w == node) v 0) (numbers_below n) ≤ v
 place_le w v n = elim (cases_lt w n) [
   | inl l ↦ omega (arith, sum_of_place w v n l)
@@ -130,6 +134,7 @@ module _ (g : Graph) (within : IsWithinLimits g) (rows : List Row) where
   at_node node x = cond (is_started_on g node x) (columns x) 0
       + (cond (is_sent_from g node x) (columns x) 0 + cond (is_heard_at g node x) (columns x) 0)
 
+  -- the columns of a node's rows are those that each item has at the node
   node_count : (node : ℕ) → node < length g.nodes →
       column_count (rows_of_items g rows (lists_of (head_of g) node))
       ≡ sum_by (at_node node) (numbers_below (item_count g))
@@ -165,6 +170,7 @@ module _ (g : Graph) (within : IsWithinLimits g) (rows : List Row) where
   abbrev nodes : List ℕ
   nodes = numbers_below (length g.nodes)
 
+  -- a start has its columns at one node at most
   start_le : (p : ℕ) → p < process_count g → sum_by (λ node. at_node node p) nodes ≤ columns p
   start_le p l = omega (
     arith,
@@ -176,6 +182,7 @@ module _ (g : Graph) (within : IsWithinLimits g) (rows : List Row) where
         (start_heard g node p l) ∙ omega arith),
   )
 
+  -- a message has its columns at most twice among all nodes, and an edge within a node has none
   message_by : (e : ℕ) → e < edge_count g → (b : Bool) → is_message g e ≡ b →
       sum_by (λ node. at_node node (message_item g e)) nodes ≤ columns (message_item g e) * cond b 2 0
   message_by e l true m =
@@ -209,6 +216,7 @@ module _ (g : Graph) (within : IsWithinLimits g) (rows : List Row) where
   either true n = omega arith
   either false n = omega arith
 
+  -- a broadcast has its columns at most once at each node
   broadcast_by : (k : ℕ) (b : Bool) → nat_lt 1 (length g.nodes) ≡ b →
       sum_by (λ node. at_node node (broadcast_item g k)) nodes
       ≤ columns (broadcast_item g k) * cond b (length g.nodes) 0
@@ -237,6 +245,7 @@ module _ (g : Graph) (within : IsWithinLimits g) (rows : List Row) where
             (broadcast_heard g node k ∙ ap (λ b. b && not (node_of g (process_of g k) == node)) m)),
       )
 
+  -- an item has its columns in at most as many rows as it may have
   item_le : (x : ℕ) → x < item_count g → ItemCases g x →
       sum_by (λ node. at_node node x) nodes ≤ columns x * rows_of_item g (item_at g x)
   item_le x l (inl c) = subst (λ i. sum_by (λ node. at_node node x) nodes ≤ columns x * rows_of_item g i) (sym c.1)
@@ -250,7 +259,7 @@ module _ (g : Graph) (within : IsWithinLimits g) (rows : List Row) where
       (subst (λ y. sum_by (λ node. at_node node y) nodes ≤ columns y * rows_of_item g (Broadcast c.0)) (sym c.2)
       (broadcast_by c.0 (nat_lt 1 (length g.nodes)) refl))
 
-  -- all rows of all nodes
+  -- the columns of all nodes' rows are at most those of each item in all rows that it may have
   pub rows_le : sum_by (λ node. column_count (rows_of_items g rows (lists_of (head_of g) node))) nodes
       ≤ sum_by (λ x. columns x * rows_of_item g (item_at g x)) (numbers_below (item_count g))
   rows_le = omega (
@@ -264,6 +273,7 @@ module _ (g : Graph) (within : IsWithinLimits g) (rows : List Row) where
         (λ x c. let l = numbers-Contains (item_count g) x c in item_le x l (item_cases g x l)),
   )
 
+  -- the tables with writable rows have no more columns than tables may have
   pub tables_le : (tables : List NodeTable) → AreNodeTables g rows (length g.nodes) tables → AreWritable g rows →
       sum_by (λ t. column_count (rows_of t)) tables ≤ MOST_LOAD
   tables_le tables are w = omega (

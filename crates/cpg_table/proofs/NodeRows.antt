@@ -34,16 +34,20 @@ no_row = record { item = 0; columns = [] }
 -- ---- rows by number
 
 module _ (g : Graph) (rows : List Row) (w : AreWritable g rows) where
+  -- there is a row for each item
   pub long : length rows ≡ item_count g
   long = sym (length-map rows (λ (row : Row). row.item)) ∙ ap length w.items ∙ length-range_with_len 0 (item_count g)
 
+  -- the row at a number is that of the item with this number
   pub item_is : (x : ℕ) → x < item_count g → (row_for rows x).item ≡ x
   item_is x l = sym (get_or-map (λ (row : Row). row.item) rows x no_row 0 (omega (arith, l, long)))
       ∙ ap (λ xs. get_or xs x 0) w.items ∙ get_or-range_with_len 0 (item_count g) x 0 l ∙ omega arith
 
+  -- the columns of each item's row are writable
   pub writable : (x : ℕ) → x < item_count g → All (IsWritable g) (row_for rows x).columns
   writable x l = w.lawful x no_row (omega (arith, l, long))
 
+  -- each item's row has at most as many columns as a row may have
   pub few_columns : (x : ℕ) → x < item_count g → length (row_for rows x).columns ≤ MOST_COLUMNS
   few_columns x l = w.few x no_row (omega (arith, l, long))
 
@@ -54,6 +58,7 @@ filter_below : (g : Graph) (p : ℕ → Bool) (x : ℕ) → Contains (filter p (
 filter_below g p x c = numbers-Contains (item_count g) x (Contains-filter_parts p (numbers_below (item_count g)) x c).0
 
 module _ (g : Graph) (within : IsWithinLimits g) (node : ℕ) where
+  -- what a node starts is an item of the graph
   pub start_below : (x : ℕ) → Contains (starts_of (head_of g) node) x → x < item_count g
   start_below x c =
       let there = subst (λ xs. Contains xs x) (starts_are g within node) c in
@@ -63,21 +68,24 @@ module _ (g : Graph) (within : IsWithinLimits g) (node : ℕ) where
             (Contains-filter_parts (λ p. node_of g p == node) (numbers_below (process_count g)) x there).0,
       )
 
+  -- what a node sends is an item of the graph
   pub send_below : (x : ℕ) → Contains (sends_of (head_of g) node) x → x < item_count g
   send_below x c = filter_below g (λ y. is_sent g y && (home g y == node)) x
       (subst (λ xs. Contains xs x) (sends_are g within node) c)
 
+  -- what a node hears is an item of the graph
   pub hear_below : node < length g.nodes → (x : ℕ) → Contains (hears_of (head_of g) node) x → x < item_count g
   hear_below l x c = filter_below g (λ y. is_heard_by g node (item_at g y)) x
       (subst (λ xs. Contains xs x) (hears_are g within node l) c)
 
--- a list of such numbers
+-- numbers of items of the graph are all below the number of items
 pub all_below : (n m : ℕ) (xs ys : List ℕ) → n ≡ m → xs ≡ ys → ((x : ℕ) → Contains ys x → x < m) → All (λ x. x < n) xs
 all_below n m xs ys e is each = rw (e, is) (All-weaker (Contains ys) (λ x. x < m) each ys (All-contains_itself ys))
 
 -- ---- columns
 
 module _ (g : Graph) (within : IsWithinLimits g) where
+  -- a range of fault counts up to the greatest doesn't begin at 0, if it isn't whole
   part_of_count : (l : Literal) → l.variable < process_count g → is_whole g.faults l ≡ false → l.high ≡ g.faults →
       0 < l.low
   part_of_count l v part e = elim (cases_lt 0 l.low) [
@@ -88,6 +96,7 @@ module _ (g : Graph) (within : IsWithinLimits g) where
         (e ∙ sym (top_of_count g.faults l.variable (omega (arith, v, within.few_processes)))))))
   ]
 
+  -- a range of values that isn't whole is one value
   one_value : (l : Literal) → 128 ≤ l.variable → l.low ≤ l.high → l.high ≤ 1 → is_whole g.faults l ≡ false →
       l.low ≡ l.high
   one_value l v some high part = elim (cases_eq l.low l.high) [
@@ -98,6 +107,7 @@ module _ (g : Graph) (within : IsWithinLimits g) where
         e ∙ sym (top_of_value g.faults l.variable v)))))
   ]
 
+  -- a literal on a variable of the graph, with a range that isn't whole, is lawful
   lawful_literal : (l : Literal) → IsVariable g l.variable → l.low ≤ l.high → l.high ≤ top g.faults l.variable →
       is_whole g.faults l ≡ false →
       IsLawfulLiteral (space_of (head_of g)) l
@@ -111,6 +121,7 @@ module _ (g : Graph) (within : IsWithinLimits g) where
       let most : l.high ≤ 1 = omega (arith, high, top_of_value g.faults l.variable v.0) in
       inr (record { value = v.0; known = omega (arith, v.1, conditions_counted g); one = one_value l v.0 some most part; within = most })
 
+  -- the literals of a writable column are lawful
   lawful_literals : (c : Column) → IsWritable g c → All (IsLawfulLiteral (space_of (head_of g))) c.cube
   lawful_literals c w = λ i d h.
       lawful_literal (get_or c.cube i d) (w.cube.known i d h) (w.some i d h) (w.within i d h) (w.not_whole i d h)
@@ -118,15 +129,18 @@ module _ (g : Graph) (within : IsWithinLimits g) where
   lawful_column : (c : Column) → IsWritable g c → IsLawfulColumn (space_of (head_of g)) c
   lawful_column c w = record { time = omega (arith, w.time); literals = lawful_literals c w; rising = w.cube.rising }
 
+  -- a writable column is lawful, also if it is later by a slot
   later_column : (delay : ℕ) → delay < 2 ^ 59 → (c : Column) → IsWritable g c →
       IsLawfulColumn (space_of (head_of g)) (later_by delay c)
   later_column delay short c w =
       record { time = omega (arith, w.time, short); literals = lawful_literals c w; rising = w.cube.rising }
 
+  -- a slot is shorter than 2^59
   pub slot_short : (node : ℕ) → slot_length g node < 2 ^ 59
   slot_short node = omega (arith, slot_length-le g node, round-le g within)
 
   module _ (rows : List Row) (w : AreWritable g rows) where
+    -- the given row of each item is lawful
     lawful_row : (x : ℕ) → x < item_count g → IsLawfulRow (space_of (head_of g)) (row_for rows x)
     lawful_row x l = record {
       few = few_columns g rows w x l;
@@ -134,6 +148,7 @@ module _ (g : Graph) (within : IsWithinLimits g) where
           (writable g rows w x l);
     }
 
+    -- the row that is heard of each item is lawful
     lawful_heard : (x : ℕ) → x < item_count g → IsLawfulRow (space_of (head_of g)) (heard_row g rows x)
     lawful_heard x l =
         let delay : ℕ = slot_length g (home g x) in
@@ -144,6 +159,7 @@ module _ (g : Graph) (within : IsWithinLimits g) where
               (later_column delay (slot_short (home g x))) (row_for rows x).columns (writable g rows w x l));
         }
 
+    -- if the row of each item is lawful, all rows of some items are
     all_rows : (row : ℕ → Row) → ((x : ℕ) → x < item_count g → IsLawfulRow (space_of (head_of g)) (row x)) →
         (xs : List ℕ) →
         ((x : ℕ) → Contains xs x → x < item_count g) →
@@ -179,6 +195,7 @@ module _ (g : Graph) (within : IsWithinLimits g) where
           (items_are (row_for rows) sent (λ x c. item_is g rows w x (send_below g within node x c)))
           (items_are (heard_row g rows) heard (λ x c. refl)))
 
+      -- the rows of a node's items, with what it hears later by a slot, are lawful rows of its table
       pub are_rows : AreRowsOf (head_of g) node (rows_of_items g rows (lists_of (head_of g) node))
       are_rows = record {
         items = node_items;

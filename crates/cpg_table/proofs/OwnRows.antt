@@ -34,7 +34,7 @@ later_kind true false false e = refl
 later_kind false t true e = refl
 later_kind false t false e = refl
 
--- what one node starts or sends no other does
+-- an item that one node starts or sends is started or sent by no other
 one_home : (h m n : ℕ) (s : Bool) → m ≢ n → not ((h == n) && s) ≡ false → ((h == m) && s) ≡ false
 one_home h m n s apart e = elim (cases_eq h n) [
   | inl here ↦ ap (λ b. b && s) (ne_eqb h m (λ there. apart (sym there ∙ here)))
@@ -53,24 +53,27 @@ module _ {X : Type 0} (p q : X → Bool) (none : (x : X) → q x ≡ false → p
         ∙ sym (ap (λ b. cond b (x ∷ filter p xs) (filter p xs)) (none x off))
   ]
 
--- an element moved from what is left of a list to those that passed, or left out
+-- an element is moved from the rest of a list to those that passed, or it is left out
 module _ {X : Type 0} (p : X → Bool) (all out left rest : List X) (x : X) (is : left ≡ x ∷ rest)
     (e : filter p all ≡ out ++ filter p left) where
+  -- an element that passes is moved to those that passed
   pub filter_moved : p x ≡ true → (more : List X) → more ≡ out ++ x ∷ [] → filter p all ≡ more ++ filter p rest
   filter_moved on more m =
       e ∙ ap (λ ls. out ++ filter p ls) is ∙ ap (λ b. out ++ cond b (x ∷ filter p rest) (filter p rest)) on
       ∙ sym (ap (λ ms. ms ++ filter p rest) m ∙ append_assoc out (x ∷ []) (filter p rest))
 
+  -- an element that fails is left out
   pub filter_left : p x ≡ false → filter p all ≡ out ++ filter p rest
   filter_left off =
       e ∙ ap (λ ls. out ++ filter p ls) is ∙ ap (λ b. out ++ cond b (x ∷ filter p rest) (filter p rest)) off
 
 -- lists seen as what a function makes
 module _ {X Y : Type 0} (view : X → Y) (f : ℕ → Y) where
+  -- there are as many elements as numbers
   pub view_count : (n : ℕ) (xs : List X) → map view xs ≡ map f (numbers_below n) → length xs ≡ n
   view_count n xs e = sym (length-map xs view) ∙ ap length e ∙ length-map-range_with_len f 0 n
 
-  -- one more at the end
+  -- with one more element at the end the views are still what the function makes
   pub view_more : (n : ℕ) (xs more : List X) (x : X) → map view xs ≡ map f (numbers_below n) → view x ≡ f n →
       more ≡ xs ++ x ∷ [] →
       map view more ≡ map f (numbers_below (n + 1))
@@ -80,7 +83,7 @@ module _ {X Y : Type 0} (view : X → Y) (f : ℕ → Y) where
       ap (map view) is ∙ map-append view xs (x ∷ []) ∙ ap₂ (λ ys zs. ys ++ zs) e (ap (λ y. y ∷ []) new)
       ∙ sym (ap (map f) next ∙ map-append f (numbers_below n) (n ∷ []))
 
-  -- the first one taken
+  -- the first element has the first view, and the rest have the others
   pub view_first : (n : ℕ) (left rest : List X) (x : X) → left ≡ x ∷ rest →
       map view left ≡ map f (range_with_len n (length left)) →
       (view x ≡ f n) ×
@@ -92,20 +95,21 @@ module _ {X Y : Type 0} (view : X → Y) (f : ℕ → Y) where
 
 -- ---- the rows of a node
 
--- the rows of another node aren't gone
+-- the rows of another node are still there after those of one node are taken out
 pub still_there : (g : Graph) (m n : ℕ) (rows : List Row) → m ≢ n →
     own_rows g m (other_rows g n rows) ≡ own_rows g m rows
 still_there g m n rows apart =
     passes_both (λ (row : Row). has_own g m row.item) (λ (row : Row). not (has_own g n row.item))
     (λ row e. one_home (home g row.item) m n (ltb row.item (process_count g) || is_sent g row.item) apart e) rows
 
+-- writable rows are of items of the graph
 pub all_known : (g : Graph) (rows : List Row) → AreWritable g rows → All (λ row. row.item < item_count g) rows
 all_known g rows w k d l =
     let m : k < item_count g = omega (arith, l, long g rows w) in
     subst (λ (row : Row). row.item < item_count g) (get_or_default rows k no_row d l)
     (subst (λ n. n < item_count g) (sym (item_is g rows w k m)) m)
 
--- the rows of other nodes are of items that exist, too
+-- the rows of the other nodes are of items of the graph
 pub still_known : (g : Graph) (node : ℕ) (rows : List Row) → All (λ row. row.item < item_count g) rows →
     All (λ row. row.item < item_count g) (other_rows g node rows)
 still_known g node rows h =
@@ -122,6 +126,7 @@ module _ (g : Graph) (within : IsWithinLimits g) (node : ℕ) where
   own_later : (x : ℕ) → process_count g ≤ x → has_own g node x ≡ is_sent_here x
   own_later x l = later_kind (home g x == node) (ltb x (process_count g)) (is_sent g x) (le-ltb x (process_count g) l)
 
+  -- the items that a node starts or sends are its starts and then its sends
   own_items : filter (has_own g node) (numbers_below (item_count g)) ≡ starts_of (head_of g) node
       ++ sends_of (head_of g) node
   own_items =
@@ -142,6 +147,7 @@ module _ (g : Graph) (within : IsWithinLimits g) (node : ℕ) where
     by_item : rows ≡ map (row_for rows) (numbers_below (item_count g))
     by_item = by_place rows no_row ∙ ap (λ n. map (row_for rows) (numbers_below n)) (long g rows w)
 
+    -- the rows that a node starts and sends are the given rows of its starts and then of its sends
     own_are : own_rows g node rows ≡ map (row_for rows) (starts_of (head_of g) node ++ sends_of (head_of g) node)
     own_are =
         ap (own_rows g node) by_item
@@ -150,7 +156,7 @@ module _ (g : Graph) (within : IsWithinLimits g) (node : ℕ) where
         (same_filter (λ x. has_own g node (row_for rows x).item) (has_own g node) (numbers_below (item_count g))
         (λ x c. ap (has_own g node) (item_is g rows w x (numbers-Contains (item_count g) x c))) ∙ own_items)
 
-    -- with what it hears they are all of its table
+    -- the rows that a node starts and sends, with those that it hears, are all rows of its table
     pub node_rows : own_rows g node rows ++ hears_at g rows node ≡ rows_of_items g rows (lists_of (head_of g) node)
     node_rows =
         let starts : List Row = map (row_for rows) (starts_of (head_of g) node) in

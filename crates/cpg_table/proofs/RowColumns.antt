@@ -13,7 +13,7 @@ use Rattle.cpg_base.specs.declared.limits.TheConstants.{MOST_LOAD}
 use Rattle.cpg_table.specs.Found.{row_columns}
 
 module _ (x : ℕ) where
-  -- none if there is no row
+  -- an item has the columns of its row, or none if it has no row
   pub columns_in_row : (rows : List Row) → columns_in rows x ≡ unwrap_or (row_columns rows x) []
   columns_in_row [] = refl
   columns_in_row (r ∷ rs) = go (r.item == x) (columns_in_row rs)
@@ -23,7 +23,7 @@ module _ (x : ℕ) where
       go true ih = refl
       go false ih = ih
 
-  -- the row is among the first of two lists, or else among the second
+  -- an item has its columns in the first of two lists of rows, or else in the second
   columns_in-append : (rows more : List Row) →
       columns_in (rows ++ more) x ≡ unwrap_or (row_columns rows x) (columns_in more x)
   columns_in-append [] more = refl
@@ -35,7 +35,7 @@ module _ (x : ℕ) where
       go true ih = refl
       go false ih = ih
 
-  -- one table on
+  -- an item has its columns in the starts or sends of a table, or else in the tables after it
   columns_step : (tables : List NodeTable) (node : ℕ) → node < length tables → columns_of (drop node tables) x
       ≡ unwrap_or (row_columns (table_at tables node).starts x)
       (unwrap_or (row_columns (table_at tables node).sends x) (columns_of (drop (node + 1) tables) x))
@@ -47,13 +47,16 @@ module _ (x : ℕ) where
       ∙ columns_in-append t.starts (t.sends ++ more)
       ∙ ap (unwrap_or (row_columns t.starts x)) (columns_in-append t.sends more)
 
+  -- given that the tables before a node have no row of the item
   module _ (tables : List NodeTable) (node : ℕ) (h : node < length tables)
       (so_far : columns_of tables x ≡ columns_of (drop node tables) x) where
+    -- a start row of the item in this table has the item's columns
     pub found_start : (cs : List Column) → row_columns (table_at tables node).starts x ≡ Some cs →
         cs ≡ columns_of tables x
     found_start cs e = sym (so_far ∙ columns_step tables node h ∙ ap (λ o.
         unwrap_or o (unwrap_or (row_columns (table_at tables node).sends x) (columns_of (drop (node + 1) tables) x))) e)
 
+    -- if this table has no row of the item, the columns are found in the tables after it
     pub found_none : row_columns (table_at tables node).starts x ≡ None →
         row_columns (table_at tables node).sends x ≡ None →
         columns_of tables x ≡ columns_of (drop (node + 1) tables) x
@@ -62,6 +65,7 @@ module _ (x : ℕ) where
         (unwrap_or (row_columns (table_at tables node).sends x) (columns_of (drop (node + 1) tables) x))) e
         ∙ ap (λ o. unwrap_or o (columns_of (drop (node + 1) tables) x)) f
 
+    -- a send row of the item in this table has the item's columns
     pub found_send : (cs : List Column) → row_columns (table_at tables node).starts x ≡ None →
         row_columns (table_at tables node).sends x ≡ Some cs →
         cs ≡ columns_of tables x
@@ -70,7 +74,7 @@ module _ (x : ℕ) where
         (unwrap_or (row_columns (table_at tables node).sends x) (columns_of (drop (node + 1) tables) x))) e
         ∙ ap (λ o. unwrap_or o (columns_of (drop (node + 1) tables) x)) f)
 
-  -- not more than there are in all rows
+  -- an item has no more columns than all rows have
   columns_within : (rows : List Row) → length (columns_in rows x) ≤ column_count rows
   columns_within [] = omega arith
   columns_within (r ∷ rs) = subst (λ n. length (cond (r.item == x) r.columns (columns_in rs x)) ≤ n)
@@ -97,7 +101,7 @@ rows_within (t ∷ ts) =
     let ih = rows_within ts in
     omega (arith, all, here, there, hears, more, ih)
 
--- an item has not more columns than tables may have
+-- an item has no more columns than tables may have
 pub columns_few : (h : Head) (tables : List NodeTable) → AreTablesOf h tables → (x : ℕ) →
     length (columns_of tables x) ≤ MOST_LOAD
 columns_few h tables are x =

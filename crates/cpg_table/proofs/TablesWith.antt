@@ -45,8 +45,12 @@ nothing : (cs : List Column) → ((c : Column) → Contains cs c → ⊥) → cs
 nothing [] h = refl
 nothing (c ∷ cs) h = absurd (h c (Contains-first c cs))
 
+-- given tables that have the writable rows of a graph
+-- `within`, `formed`: a well-formed graph within the limits; `rows`, `w`: its writable rows; `tables`, `are`: the
+-- tables
 module _ (g : Graph) (within : IsWithinLimits g) (formed : WellFormed g) (rows : List Row) (w : AreWritable g rows)
     (tables : List NodeTable) (are : AreNodeTables g rows (length g.nodes) tables) where
+  -- the tables are lawful tables under the head of the graph
   pub lawful : AreTablesOf (head_of g) tables
   lawful =
       record { count = are.long; each = λ node l. (are.each node l).table; few = tables_le g within rows tables are w }
@@ -69,22 +73,25 @@ module _ (g : Graph) (within : IsWithinLimits g) (formed : WellFormed g) (rows :
     send_count =
         count_by_items (row_for rows) (table_at tables node).sends (items node).sends (are.each node l).table.sends
 
+    -- the start rows of a node are the given rows of the items that it starts
     pub starts : (table_at tables node).starts ≡ map (row_for rows) (items node).starts
     starts = first_of (table_at tables node).starts (table_at tables node).sends (table_at tables node).hears
         (map (row_for rows) (items node).starts) (map (row_for rows) (items node).sends)
         (map (heard_row g rows) (items node).hears) (are.each node l).stands start_count
 
+    -- the send rows of a node are the given rows of the items that it sends
     pub sends : (table_at tables node).sends ≡ map (row_for rows) (items node).sends
     sends = second_of (table_at tables node).starts (table_at tables node).sends (table_at tables node).hears
         (map (row_for rows) (items node).starts) (map (row_for rows) (items node).sends)
         (map (heard_row g rows) (items node).hears) (are.each node l).stands start_count send_count
 
+    -- the hear rows of a node are the rows that are heard of the items that it hears
     pub hears : (table_at tables node).hears ≡ map (heard_row g rows) (items node).hears
     hears = third_of (table_at tables node).starts (table_at tables node).sends (table_at tables node).hears
         (map (row_for rows) (items node).starts) (map (row_for rows) (items node).sends)
         (map (heard_row g rows) (items node).hears) (are.each node l).stands start_count send_count
 
-    -- a row of the table is that of its item
+    -- a row that is made for an item has the columns of the item's given row
     from_rows : (xs : List ℕ) → ((x : ℕ) → Contains xs x → x < item_count g) → (rs : List Row) (row : Row) →
         rs ≡ map (row_for rows) xs →
         Contains rs row →
@@ -121,6 +128,7 @@ module _ (g : Graph) (within : IsWithinLimits g) (formed : WellFormed g) (rows :
     ]
   ]
 
+  -- the columns of an item are those of its given row
   pub columns : (x : ℕ) → columns_of tables x ≡ (row_for rows x).columns
   columns x = elim (cases_lt x (item_count g)) [
     | inl l ↦ within_count x l
@@ -129,6 +137,7 @@ module _ (g : Graph) (within : IsWithinLimits g) (formed : WellFormed g) (rows :
         ∙ sym (ap (λ (row : Row). row.columns) (get_or_past rows x no_row (omega (arith, past, long g rows w))))
   ]
 
+  -- the hear rows of a node are those of V10
   pub heard_rows : (node : ℕ) (u : NodeTable) → slice_get tables node ≡ Some u → u.hears ≡ hear_rows g tables node
   heard_rows node u e =
       let l : node < length g.nodes = omega (arith, slice_get_within tables node u e, are.long) in
@@ -141,6 +150,7 @@ module _ (g : Graph) (within : IsWithinLimits g) (formed : WellFormed g) (rows :
           (let row : Row = record { item = x; columns = a } in row) ≡ record { item = x; columns = b }
       same_row x a b e = cc
 
+  -- tables under the head of the graph with these node tables are the tables with the given rows
   pub tables_with : (t : Tables) → t.head ≡ head_of g → t.nodes ≡ tables → AreTablesWith g rows t
   tables_with t head is = record {
     head = head;
@@ -150,7 +160,7 @@ module _ (g : Graph) (within : IsWithinLimits g) (formed : WellFormed g) (rows :
         (sym is) heard_rows;
   }
 
--- one table more
+-- with one table more, the tables of the nodes so far have the given rows
 pub table_pushed : (g : Graph) (rows : List Row) (n : ℕ) (tables more : List NodeTable) (t : NodeTable) →
     AreNodeTables g rows n tables → IsTableWith g rows n t →
     more ≡ tables ++ t ∷ [] →

@@ -20,6 +20,7 @@ pub record SuitsGraph (g : Graph) (node : ℕ) (t : NodeTable) : Type 0 where
   pub own : t.own ≡ map (own_process g) (processes_on g node)
   pub hears : items_of t.hears ≡ heard_by g node
 
+-- tables under the head for a graph say of each node what the graph says
 abbrev pub TablesSuitGraph : Type 0
 TablesSuitGraph =
     (g : Graph) (tables : List NodeTable) → IsWithinLimits g → AreTablesOf (head_of g) tables → (node : ℕ) →

@@ -21,11 +21,11 @@ use Rattle.cpg_table.specs.Valid.{later_by, hear_rows}
 abbrev pub row_for : List Row → ℕ → Row
 row_for rows x = get_or rows x (record { item = 0; columns = [] })
 
--- what is heard of an item: its columns, each later by the sender's slot
+-- the row that is heard of an item: its columns, each later by the sender's slot
 abbrev pub heard_row : Graph → List Row → ℕ → Row
 heard_row g rows x = record { item = x; columns = map (later_by (slot_length g (home g x))) (row_for rows x).columns }
 
--- what a node hears
+-- the rows that a node hears
 abbrev pub hears_at : Graph → List Row → ℕ → List Row
 hears_at g rows node = map (heard_row g rows) (lists_of (head_of g) node).hears
 

@@ -32,7 +32,7 @@ fn later(alloc: Global, columns: &[Column], delay: u64) -> Result<Vec<Column>, O
     Ok(later)
 }
 
-/// What is heard of an item: its row, later by the sender's slot.
+/// The row that is heard of an item: its own row, later by the sender's slot.
 fn heard(alloc: Global, problem: &Problem, rows: &[Row], item: u32) -> Result<Row, OutOfMemory>
     requires formed { WellFormed problem.now }
     requires rows { AreWritable problem.now rows.now }
@@ -46,7 +46,7 @@ fn heard(alloc: Global, problem: &Problem, rows: &[Row], item: u32) -> Result<Ro
     Ok(Row::new(item, columns))
 }
 
-/// What is heard of these items.
+/// The rows that are heard of these items.
 fn all_heard(
     alloc: Global,
     problem: &Problem,
@@ -67,7 +67,7 @@ fn all_heard(
     Ok(all)
 }
 
-/// What a node hears.
+/// The rows that a node hears.
 fn node_hears(
     alloc: Global,
     problem: &Problem,
@@ -88,7 +88,7 @@ fn node_hears(
     Ok(heard)
 }
 
-/// What each node hears.
+/// The rows that each node hears.
 fn hears_of(
     alloc: Global,
     problem: &Problem,
@@ -124,14 +124,14 @@ fn has_own(problem: &Problem, node: u32, item: u32) -> bool
     problem.is_sent(item)
 }
 
-/// Rows, those of what a node starts and sends apart from the others.
+/// Rows in two groups: those of the items that a node starts and sends, and the others.
 #[derive(Drop)]
 struct RowParts {
     own: Vec<Row>,
     others: Vec<Row>,
 }
 
-/// Parts the rows of what a node starts and sends from the others.
+/// Puts the rows of the items that a node starts and sends apart from the others.
 fn parted(
     alloc: Global,
     problem: &Problem,
@@ -179,7 +179,7 @@ fn node_table(
     NodeTable::of(alloc, head, node, counts, rows)
 }
 
-/// The tables of the nodes, if each hears these.
+/// The tables of the nodes, each with the rows that it hears.
 fn node_tables(
     alloc: Global,
     problem: &Problem,

@@ -16,7 +16,7 @@ pub struct RowCounts {
     pub sends: usize,
 }
 
-/// How many rows a node starts and sends, and `None` exactly if rows aren't those of its items.
+/// How many rows a node starts and sends; `None` exactly if the rows aren't those of its items.
 pub fn counts_of(head: &Head, node: u32, rows: &[Row]) -> Option<RowCounts>
     ensures items { IfSome result (λ _. items_of rows.now ≡ starts_of head.now node ++ (sends_of head.now node ++ hears_of head.now node)) }
     ensures starts { IfSome result (λ c. c.starts ≡ length (starts_of head.now node)) }

@@ -6,7 +6,7 @@ ghost use Rattle.cpg_table.specs.Items.{numbers_where, head_node_of, leaves, ent
 use crate::Row;
 use cpg_head::{Head, HeadProcess};
 
-/// The rows after one of an item if there is to be one, and `None` exactly if it doesn't come first.
+/// The rows after the one of an item if it is wanted; `None` exactly if a wanted one doesn't come first.
 fn after_row(rows: &[Row], item: u32, wanted: bool) -> Option<&[Row]>
     ensures { option_map (λ r. r.now) result ≡ after_items (if wanted then item ∷ [] else []) rows.now }
 {
@@ -19,7 +19,7 @@ fn after_row(rows: &[Row], item: u32, wanted: bool) -> Option<&[Row]>
     if row.item() == item { Some(rest) } else { None }
 }
 
-/// The rows after those of what a node starts, and `None` exactly if others stand there.
+/// The rows after those of the items that a node starts; `None` exactly if other rows stand there.
 pub fn after_starts<'a>(head: &Head, node: u32, rows: &'a [Row]) -> Option<&'a [Row]>
     ensures { option_map (λ r. r.now) result ≡ after_items (starts_of head.now node) rows.now }
 {
@@ -113,7 +113,7 @@ fn after_broadcasts<'a>(head: &Head, node: u32, own: bool, rows: &'a [Row]) -> O
     Some(rest)
 }
 
-/// The rows after those of what a node sends, and `None` exactly if others stand there.
+/// The rows after those of the items that a node sends; `None` exactly if other rows stand there.
 pub fn after_sends<'a>(head: &Head, node: u32, rows: &'a [Row]) -> Option<&'a [Row]>
     ensures { option_map (λ r. r.now) result ≡ after_items (sends_of head.now node) rows.now }
 {
@@ -126,7 +126,7 @@ pub fn after_sends<'a>(head: &Head, node: u32, rows: &'a [Row]) -> Option<&'a [R
     Some(rest)
 }
 
-/// The rows after those of what a node hears, and `None` exactly if others stand there.
+/// The rows after those of the items that a node hears; `None` exactly if other rows stand there.
 pub fn after_hears<'a>(head: &Head, node: u32, rows: &'a [Row]) -> Option<&'a [Row]>
     ensures { option_map (λ r. r.now) result ≡ after_items (hears_of head.now node) rows.now }
 {

@@ -85,7 +85,7 @@ fn push_broadcasts(
     Ok(())
 }
 
-/// Adds what a node sends: no broadcasts if it is alone.
+/// Adds the items that a node sends. A node that is alone sends no broadcasts.
 fn push_sends(items: &mut Vec<u32>, head: &Head, node: u32) -> Result<(), OutOfMemory>
     ensures { OnOk result (items.new.items ≡ items.old.items ++ sends_of head.now node) }
 {
@@ -96,7 +96,7 @@ fn push_sends(items: &mut Vec<u32>, head: &Head, node: u32) -> Result<(), OutOfM
     Ok(())
 }
 
-/// Adds what it hears.
+/// Adds the items that a node hears.
 fn push_hears(items: &mut Vec<u32>, head: &Head, node: u32) -> Result<(), OutOfMemory>
     ensures { OnOk result (items.new.items ≡ items.old.items ++ hears_of head.now node) }
 {
@@ -123,21 +123,21 @@ impl NodeItems {
         })
     }
 
-    /// All of them.
+    /// All items of the node.
     pub fn all(&self) -> &[u32]
         ensures { result.now ≡ self.now.starts ++ (self.now.sends ++ self.now.hears) }
     {
         self.items.as_slice()
     }
 
-    /// What the node starts.
+    /// The items that the node starts.
     pub fn starts(&self) -> &[u32]
         ensures { result.now ≡ self.now.starts }
     {
         self.items.as_slice().split_at(self.starts).0
     }
 
-    /// What it sends.
+    /// The items that it sends.
     pub fn sends(&self) -> &[u32]
         ensures { result.now ≡ self.now.sends }
     {
@@ -145,7 +145,7 @@ impl NodeItems {
         rest.split_at(self.sends).0
     }
 
-    /// What it hears.
+    /// The items that it hears.
     pub fn hears(&self) -> &[u32]
         ensures { result.now ≡ self.now.hears }
     {

@@ -56,7 +56,7 @@ impl Model for NodeTable {
 }
 
 impl NodeTable {
-    /// The table of a node with the lawful rows of its items, so many of starts and so many of sends.
+    /// The table of a node with the lawful rows of its items. `counts` says how many of them are starts and sends.
     pub(crate) fn of(
         alloc: Global,
         head: &Head,
@@ -106,7 +106,7 @@ impl NodeTable {
         Ok(Some(table))
     }
 
-    /// The table of a node with the lawful rows of its items, which were judged before.
+    /// The table of a node with the lawful rows of its items, which were checked before.
     pub fn of_rows(
         alloc: Global,
         head: &Head,
@@ -123,7 +123,7 @@ impl NodeTable {
         }
     }
 
-    /// How many faults the table bears.
+    /// How many faults the table allows.
     pub fn faults(&self) -> u8
         ensures faults { result ≡ self.now.faults }
         ensures made { IsTable self.now }

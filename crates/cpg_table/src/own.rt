@@ -41,6 +41,7 @@ impl Clone for Own {
     }
 }
 
+/// The number of a condition, if the process has one.
 fn condition_if(condition: u32, has: bool) -> Option<u32>
     ensures { result ≡ (if has then Some condition else None) }
 {
@@ -84,19 +85,21 @@ pub fn own_of(alloc: Global, head: &Head, node: u32) -> Result<Vec<Own>, OutOfMe
     Ok(own)
 }
 
+/// Whether two lists of times are equal.
 fn are_same_times(times: &[u64], others: &[u64]) -> bool
     ensures { IsTrue result ↔ (times.now ≡ others.now) }
 {
     times == others
 }
 
+/// Whether two processes have the same condition, or both have none.
 fn is_same_condition(condition: Option<u32>, other: Option<u32>) -> bool
     ensures { IsTrue result ↔ (condition ≡ other) }
 {
     condition == other
 }
 
-/// Whether this is what a node needs to know of a process.
+/// Whether these facts are the ones that a node needs to know of a process.
 fn is_own(own: &Own, number: u32, condition: Option<u32>, times: &Durations) -> bool
     ensures { IsTrue result ↔ (own.now ≡ record { process = number; condition = condition; times = times.now }) }
 {
@@ -109,7 +112,7 @@ fn is_own(own: &Own, number: u32, condition: Option<u32>, times: &Durations) -> 
     are_same_times(own.times.times(), times.times())
 }
 
-/// What stands after a process if it is on the node, and `None` exactly if it doesn't come first.
+/// The processes after this one if it is on the node, or `None` exactly if it doesn't come first.
 fn after_own<'a>(
     own: &'a [Own],
     node: u32,
@@ -134,7 +137,7 @@ fn after_own<'a>(
     }
 }
 
-/// Whether this is what a node needs to know of its own processes.
+/// Whether these facts are the ones that a node needs to know of its own processes.
 pub fn is_own_of(head: &Head, node: u32, own: &[Own]) -> bool
     ensures { IsTrue result ↔ (own.now ≡ own_of head.now node) }
 {

@@ -6,7 +6,7 @@ use cpg_cube::Column;
 use std::alloc::AllocError;
 use std::marker::Model;
 
-/// When an item is, seen as the number of the item and its columns.
+/// The times of an item, seen as the number of the item and its columns.
 #[derive(Drop)]
 pub struct Row {
     item: u32,

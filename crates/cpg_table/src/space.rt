@@ -41,7 +41,7 @@ fn is_count(space: VariableSpace, literal: Literal) -> bool
     known & within & part
 }
 
-/// Whether each literal is such a part: without a way out before the last, as the compiler makes fast loops of such.
+/// Whether each literal is such a part. The loop never ends early, as the compiler makes fast code of such loops.
 fn are_counts(space: VariableSpace, literals: &[Literal]) -> bool
     ensures { OnTrue result (All (IsCountLiteral space) literals.now) }
 {
@@ -65,28 +65,32 @@ fn is_value(space: VariableSpace, literal: Literal) -> bool
     literal.low == literal.high && literal.high <= 1
 }
 
+/// Whether a literal is lawful.
 fn is_literal(space: VariableSpace, literal: Literal) -> bool
     ensures { IsTrue result ↔ IsLawfulLiteral space literal }
 {
     is_count(space, literal) || is_value(space, literal)
 }
 
+/// Whether literals are lawful.
 fn are_literals(space: VariableSpace, literals: &[Literal]) -> bool
     ensures { IsTrue result ↔ All (IsLawfulLiteral space) literals.now }
 {
-    // most cubes speak of fault counts alone
+    // most cubes have literals on fault counts alone
     if are_counts(space, literals) {
         return true;
     }
     literals.iter().all(|literal| is_literal(space, *literal))
 }
 
+/// Whether a column is lawful.
 fn is_column(space: VariableSpace, column: &Column) -> bool
     ensures { IsTrue result ↔ IsLawfulColumn space column.now }
 {
     column.time < TIME_END && are_literals(space, column.cube.literals())
 }
 
+/// Whether columns are lawful.
 fn are_columns(space: VariableSpace, columns: &[Column]) -> bool
     ensures { IsTrue result ↔ All (IsLawfulColumn space) columns.now }
 {

@@ -44,12 +44,13 @@ fn are_tables_of(head: &Head, nodes: &[NodeTable]) -> bool
     true
 }
 
-/// Whether the tables have not too many columns.
+/// Whether the tables don't have too many columns.
 fn are_columns_few(nodes: &[NodeTable]) -> bool
     ensures { IsTrue result ↔ (sum_by (λ t. column_count (rows_of t)) nodes.now ≤ MOST_LOAD) }
 {
     let mut total = 0;
     for table in nodes {
+        // the number doesn't fit a machine word
         let Some(count) = count_table(table, total) else {
             return false;
         };
@@ -59,7 +60,7 @@ fn are_columns_few(nodes: &[NodeTable]) -> bool
 }
 
 impl Tables {
-    /// The tables of all nodes under a head, which were judged before.
+    /// The tables of all nodes under a head, which were checked before.
     pub fn of(head: Head, nodes: Vec<NodeTable>) -> Tables
         requires { AreTablesOf head nodes.items }
         ensures { result ≡ record { head = head; nodes = nodes.items } }
@@ -74,6 +75,7 @@ impl Tables {
         ensures lawful { IfSome result (λ _. AreTablesOf head nodes.items) }
         ensures refused { IfNone result (¬ AreTablesOf head nodes.items) }
     {
+        // each node has one table
         if nodes.len() != head.nodes().len() {
             return None;
         }
@@ -108,6 +110,7 @@ impl Tables {
         ensures columns { result.now ≡ columns_of self.now.nodes item }
         ensures lawful { AreTablesOf self.now.head self.now.nodes }
     {
+        // the first table that has the item's row
         for table in self.nodes.as_slice() {
             if let Some(columns) = row_columns(table.starts(), item) {
                 return columns;

@@ -25,17 +25,20 @@ use Rattle.cpg_tracks.proofs.Placing.{same_ready, fed_not_p, still_fed, was_fed_
 abbrev pub processes_of : List FedProcess → List ℕ
 processes_of fed = map (λ f. f.process) fed
 
--- one more at the end
+-- the processes of a list with one more at the end
 pub processes_push : (fed : List FedProcess) (f : FedProcess) →
     processes_of (fed ++ f ∷ []) ≡ processes_of fed ++ f.process ∷ []
 processes_push fed f = map-append (λ (x : FedProcess). x.process) fed (f ∷ [])
 
+-- given an outcome, and the starts of the processes placed so far
 module _ (g : Graph) (o : List Bool) (starts : List (Option ℕ)) where
   -- ---- one process is asked
 
+  -- a process that can't be placed isn't added
   pub feeds_none : (p : ℕ) (fed : List FedProcess) → (IsFed g o starts p → ⊥) → Feeds g o starts p fed fed
   feeds_none p fed h = record { each = λ k. k; kept = λ q k. k; added = λ f. absurd (h f) }
 
+  -- a process that can be placed is added, with the time at which it is ready
   pub feeds_one : (p ready : ℕ) (fed : List FedProcess) → IsFed g o starts p → ready ≡ ready_at g o starts p →
       Feeds g o starts p fed (fed ++ (record { process = p; ready = ready }) ∷ [])
   feeds_one p ready fed is at = record {
@@ -57,6 +60,7 @@ module _ (g : Graph) (o : List Bool) (starts : List (Option ℕ)) where
 
   -- ---- all processes are asked in turn
 
+  -- after one more process all processes up to it that can be placed are there
   pub fed_below : (p : ℕ) (old new : List FedProcess) → Feeds g o starts p old new →
       ((q : ℕ) → q < p → IsFed g o starts q → Contains (processes_of old) q) → (q : ℕ) → q < p + 1 →
       IsFed g o starts q → Contains (processes_of new) q
@@ -72,9 +76,11 @@ module _ (g : Graph) (o : List Bool) (starts : List (Option ℕ)) where
   AreTargetsFed es fed = (e : ℕ) → Contains es e → live g o e ≡ true → IsFed g o starts (target g e) →
       Contains (processes_of fed) (target g e)
 
+  -- no edge has a target yet
   pub no_targets : (fed : List FedProcess) → AreTargetsFed [] fed
   no_targets fed e k is f = absurd (Contains-nil e k)
 
+  -- the target of one more live edge is there, if it can be placed
   pub target_asked : (es : List ℕ) (e : ℕ) (old new : List FedProcess) → Feeds g o starts (target g e) old new →
       AreTargetsFed es old →
       AreTargetsFed (es ++ e ∷ []) new
@@ -87,6 +93,7 @@ module _ (g : Graph) (o : List Bool) (starts : List (Option ℕ)) where
     ]
   ]
 
+  -- an edge that isn't live needs no target
   pub target_passed : (es : List ℕ) (e : ℕ) (fed : List FedProcess) → live g o e ≡ false → AreTargetsFed es fed →
       AreTargetsFed (es ++ e ∷ []) fed
   target_passed es e fed off h x k is f = elim (Contains-append_cases es (e ∷ []) x k) [
@@ -97,6 +104,7 @@ module _ (g : Graph) (o : List Bool) (starts : List (Option ℕ)) where
     ]
   ]
 
+  -- with the targets of all live outputs of p, the processes that can be placed are complete
   pub all_targets_asked : (p : ℕ) (old new : List FedProcess) → AreFedBut g o starts p old →
       ((f : FedProcess) → Contains new f → IsFedAt g o starts f) →
       ((q : ℕ) → Contains (processes_of old) q → Contains (processes_of new) q) → AreTargetsFed (outputs g p) new →
@@ -111,6 +119,7 @@ module _ (g : Graph) (o : List Bool) (starts : List (Option ℕ)) where
 
 -- ---- marks of the active processes
 
+-- one more process is marked, and those before it stay marked
 pub mark_set : (marks : List Bool) (qs : List ℕ) (p : ℕ) → p < length marks →
     ((q : ℕ) → Contains qs q → get_or marks q false ≡ true) → (q : ℕ) →
     Contains (qs ++ p ∷ []) q →
@@ -124,6 +133,7 @@ mark_set marks qs p l h q k = elim (cases_eq q p) [
   ]
 ]
 
+-- with one more mark only the processes of the list are marked
 pub mark_only : (marks : List Bool) (qs : List ℕ) (p : ℕ) → ((q : ℕ) → get_or marks q false ≡ true → Contains qs q) →
     (q : ℕ) → get_or (set marks p true) q false ≡ true →
     Contains (qs ++ p ∷ []) q
@@ -132,6 +142,7 @@ mark_only marks qs p h q k = elim (cases_eq q p) [
   | inr ne ↦ Contains-append_left qs (p ∷ []) q (h q (sym (get_or-set_other marks p q true false ne) ∙ k))
 ]
 
+-- marks for exactly the active processes say of each process whether it is active
 pub marks_done : (g : Graph) (t : Track) → IsTrackOf g t → (marks : List Bool) → length marks ≡ process_count g →
     ((q : ℕ) → Contains t.active q → get_or marks q false ≡ true) →
     ((q : ℕ) → get_or marks q false ≡ true → Contains t.active q) →
@@ -149,12 +160,14 @@ marks_done g t track marks count marked only =
 
 -- ---- a process is placed
 
+-- given that p is the process to place next
 module _ (g : Graph) (w : WellFormed g) (o : List Bool) (s : List (Option ℕ)) (h : IsPlacing g o s) (p : ℕ)
     (n : IsNext g o s p) where
   -- whether a process isn't the placed one
   abbrev is_other : FedProcess → Bool
   is_other f = not (f.process == p)
 
+  -- when p is placed and left out, only targets of its live outputs may be missing
   fed_after : (fed : List FedProcess) → AreFed g o s fed →
       AreFedBut g o (set s p (Some (would_start g o s p))) p (filter is_other fed)
   fed_after fed are = record {
@@ -183,6 +196,7 @@ module _ (g : Graph) (w : WellFormed g) (o : List Bool) (s : List (Option ℕ)) 
     ];
   }
 
+  -- when p is placed and left out, only targets of its live outputs may be missing
   pub fed_next : (fed : List FedProcess) (start : ℕ) (starts : List (Option ℕ)) (kept : List FedProcess) →
       AreFed g o s fed → start ≡ would_start g o s p →
       starts ≡ set s p (Some start) →

@@ -38,46 +38,57 @@ use Rattle.cpg_tracks.proofs.Placing.{free_cases, free_here, free_elsewhere, pla
 use Rattle.cpg_tracks.proofs.GreedyExists.{unplaced_count, fewer, none_left, at_first, nothing_there, none_placed}
 use Rattle.cpg_tracks.proofs.GreedyExists.{place_none, sooner_chain, greedy_from_placing}
 
--- ---- what is found once
+-- ---- the tables that are found once
 
 module _ (g : Graph) (t : Timing) (is : IsTiming g t) where
+  -- the table has the duration of each process with all the faults
   pub duration_at : (p d : ℕ) → p < process_count g → get_or t.durations.items p d ≡ duration g p g.faults
   duration_at p d l =
       ap (λ xs. get_or xs p d) is.durations ∙ get_or-map-below (λ p. duration g p g.faults) (process_count g) p d l
 
+  -- the table says of each edge whether it is live
   pub live_at : (e : ℕ) (d : Bool) → e < edge_count g → get_or t.live.items e d ≡ live g (outcome_of t) e
   live_at e d l = ap (λ xs. get_or xs e d) is.live ∙ get_or-map-below (live g (outcome_of t)) (edge_count g) e d l
 
+  -- the table has a duration for each process
   pub durations_long : length t.durations.items ≡ process_count g
   durations_long = ap length is.durations ∙ length-map-range_with_len (λ p. duration g p g.faults) 0 (process_count g)
 
+  -- the table says of each process whether it is active
   pub active_is : (p : ℕ) (d : Bool) → p < process_count g → get_or t.active.items p d ≡ active g (outcome_of t) p
   active_is p d l =
       ap (λ xs. get_or xs p d) is.active ∙ get_or-map-below (active g (outcome_of t)) (process_count g) p d l
 
+  -- the table has a mark for each process
   pub active_long : length t.active.items ≡ process_count g
   active_long = ap length is.active ∙ length-map-range_with_len (active g (outcome_of t)) 0 (process_count g)
 
+  -- the table has a mark for each edge
   pub live_long : length t.live.items ≡ edge_count g
   live_long = ap length is.live ∙ length-map-range_with_len (live g (outcome_of t)) 0 (edge_count g)
 
 -- ---- cases of options
 
+-- what holds of a value that there may be holds of the value that is there
 pub some_at : {X : Type 0} (P : X → Type 0) (o : Option X) → IfSome o P → (x : X) → o ≡ Some x → P x
 some_at P o h x e = subst (λ z. IfSome z P) e h
 
+-- what holds if there is no value holds
 pub none_at : {X : Type 0} (P : Type 0) (o : Option X) → IfNone o P → o ≡ None → P
 none_at P o h e = subst (λ z. IfNone z P) e h
 
 -- ---- when an input is there
 
+-- a start that was read is the start in the schedule
 pub start_there : (starts : List (Option ℕ)) (p s : ℕ) (d : Option ℕ) → p < length starts → get_or starts p d ≡ Some s →
     get_or starts p None ≡ Some s
 start_there starts p s d l e = get_or_default starts p None d l ∙ e
 
+-- a start is no later than the bound of its schedule
 pub start_early : (starts : List (Option ℕ)) (p s b : ℕ) → AreBy b starts → get_or starts p None ≡ Some s → s ≤ b
 start_early starts p s b h e = omega (arith, h p, ap (λ o. unwrap_or o 0) e)
 
+-- an input is there when its source has ended, and one round later if it is a message
 pub input_there : (g : Graph) (starts : List (Option ℕ)) (e s : ℕ) (b : Bool) →
     get_or starts (source g e) None ≡ Some s →
     is_message g e ≡ b →
@@ -88,10 +99,12 @@ input_there g starts e s b there is =
     ∙ ap (λ o. unwrap_or o 0 + duration g (source g e) g.faults + cond (is_message g e) (round g) 0) (sym there))
     ∙ ap (option_map (λ _. input_ready g starts e)) (sym there)
 
+-- an input that isn't there has a source that isn't placed
 pub input_missing : {X Y : Type 0} (f : X → Y) (o : Option X) → option_map f o ≡ None → is_some o ≡ false
 input_missing f None h = refl
 input_missing f (Some x) h = absurd (true≢false (ap is_some h))
 
+-- an input that is there has a source that is placed
 pub input_given : {X Y : Type 0} (y : Y) (o : Option X) (r : Y) → option_map (λ _. y) o ≡ Some r →
     (is_some o ≡ true) × (r ≡ y)
 input_given y None r h = absurd (true≢false (sym (ap is_some h)))
@@ -104,6 +117,7 @@ module _ (g : Graph) (o : List Bool) (starts : List (Option ℕ)) (p : ℕ) wher
   abbrev live_of : ℕ → List ℕ
   live_of i = filter (live g o) (take i (inputs g p))
 
+  -- the live ones of one input more are those before it, and this one if it is live
   next_live : (i d : ℕ) → i < length (inputs g p) →
       live_of (i + 1) ≡ live_of i ++ filter (live g o) (get_or (inputs g p) i d ∷ [])
   next_live i d l = ap (filter (live g o)) (take_more (inputs g p) i d l)
@@ -122,6 +136,7 @@ module _ (g : Graph) (o : List Bool) (starts : List (Option ℕ)) (p : ℕ) wher
     more_by b is = next_live i d l ∙ ap (λ x. live_of i ++ filter (live g o) (x ∷ [])) at
         ∙ ap (λ c. live_of i ++ cond c (e ∷ []) []) is
 
+    -- a live input is one more that the process waits for
     pub ready_takes : live g o e ≡ true → (ready : ℕ) → ready ≡ ready_by i →
         max ready (input_ready g starts e) ≡ ready_by (i + 1)
     ready_takes is ready h = ap (λ n. max n (input_ready g starts e)) h
@@ -131,6 +146,7 @@ module _ (g : Graph) (o : List Bool) (starts : List (Option ℕ)) (p : ℕ) wher
         (sym (map-append (input_ready g starts) (live_of i) (e ∷ [])))
         ∙ ap (λ xs. greatest ((process_at g p).release ∷ map (input_ready g starts) xs)) (sym (more_by true is))
 
+    -- the source of a live input is placed too
     pub fed_takes : live g o e ≡ true → has_start starts (source g e) ≡ true → FedBy i → FedBy (i + 1)
     fed_takes is there h f k =
         elim (Contains-append_cases (live_of i) (e ∷ []) f (subst (λ xs. Contains xs f) (more_by true is) k)) [
@@ -148,13 +164,16 @@ module _ (g : Graph) (o : List Bool) (starts : List (Option ℕ)) (p : ℕ) wher
         append_none [] = refl
         append_none (x ∷ xs) = ap (λ ys. x ∷ ys) (append_none xs)
 
+    -- an input that isn't live is passed over
     pub ready_skips : live g o e ≡ false → (ready : ℕ) → ready ≡ ready_by i → ready ≡ ready_by (i + 1)
     ready_skips is ready h =
         h ∙ ap (λ xs. greatest ((process_at g p).release ∷ map (input_ready g starts) xs)) (sym (skipped is))
 
+    -- an input that isn't live needs no placed source
     pub fed_skips : live g o e ≡ false → FedBy i → FedBy (i + 1)
     fed_skips is h f k = h f (subst (λ xs. Contains xs f) (skipped is) k)
 
+    -- a process can't be placed if the source of a live input isn't placed
     pub not_fed : live g o e ≡ true → has_start starts (source g e) ≡ false → IsFed g o starts p → ⊥
     not_fed is there h = true≢false (sym (h.inputs e (Contains-filter (live g o) (inputs g p) e is
         (subst (Contains (inputs g p)) at (contains_at (inputs g p) i d l)))) ∙ there)
@@ -164,11 +183,13 @@ module _ (g : Graph) (o : List Bool) (starts : List (Option ℕ)) (p : ℕ) wher
 
 -- ---- no start is late
 
+-- given starts that are no later than a bound
 module _ (g : Graph) (within : IsWithinLimits g) (w : WellFormed g) (o : List Bool) (starts : List (Option ℕ)) (b : ℕ)
     (early : AreBy b starts) (some : 1000000000 ≤ b) where
   end_by : (p : ℕ) → p < process_count g → longest_end g starts p ≤ b + 600000000000
   end_by p l = omega (arith, early p, duration-le g p g.faults within l within.faults)
 
+  -- a live input is there within the next bound
   input_by : (p e : ℕ) → Contains (filter (live g o) (inputs g p)) e → input_ready g starts e ≤ b + 616000000000
   input_by p e k = go (is_message g e)
     where
@@ -190,6 +211,7 @@ module _ (g : Graph) (within : IsWithinLimits g) (w : WellFormed g) (o : List Bo
   free_by node =
       elim (free_cases g starts node) [ inl e ↦ omega (arith, e) | inr r ↦ omega (arith, r.3, end_by r.0 (r.1).within) ]
 
+  -- the next start is later than the bound by at most 616,000,000,000
   pub would_start_by : (p : ℕ) → p < process_count g → would_start g o starts p ≤ b + 616000000000
   would_start_by p l = omega (arith, ready_at_by p l, free_by (node_of g p))
 
@@ -197,7 +219,7 @@ module _ (g : Graph) (within : IsWithinLimits g) (w : WellFormed g) (o : List Bo
 
 module _ (g : Graph) (o : List Bool) (starts : List (Option ℕ)) (order : List ℕ)
     (urgency : IsUrgencyOrder g order) where
-  -- what comes first is sooner
+  -- a candidate that comes first would start sooner, or with the other and is more urgent
   sooner_of : (a b : Candidate) → IsCandidate g o starts a → IsCandidate g o starts b → ComesFirst order a b →
       a.process ≢ b.process →
       IsSooner g o starts a.process b.process
@@ -211,6 +233,7 @@ module _ (g : Graph) (o : List Bool) (starts : List (Option ℕ)) (order : List 
     ]
   ]
 
+  -- the better of the best and one more candidate is the best of all so far
   pub best_more : (qs : List ℕ) (best : Option Candidate) (other better : Candidate) → IsBestOf g o starts qs best →
       IsBetterOf order best other better →
       IsCandidate g o starts other → IsBestOf g o starts (qs ++ other.process ∷ []) (Some better)
@@ -252,7 +275,7 @@ module _ (g : Graph) (o : List Bool) (starts : List (Option ℕ)) (order : List 
     })
   ]
 
--- the better of two processes of the graph is one
+-- the better of two processes of the graph is a process of the graph
 pub either_within : (n : ℕ) (order : List ℕ) (best : Option Candidate) (other better : Candidate) →
     IsBetterOf order best other better →
     IfSome best (λ c. c.process < n) →
@@ -263,7 +286,7 @@ either_within n order (Some b) other better r h k = elim r [
   | inr x ↦ subst (λ (c : Candidate). c.process < n) (sym x.0) k
 ]
 
--- one of what can be placed is a candidate
+-- a process that can be placed is a candidate, with the time at which it is ready and its node is free
 is_candidate : (g : Graph) (o : List Bool) (starts : List (Option ℕ)) (free : List ℕ) (f : FedProcess) (c : Candidate) →
     AreFree g starts free →
     IsFedAt g o starts f →
@@ -276,7 +299,7 @@ is_candidate g o starts free f c are is node process start = record {
       ∙ ap (would_start g o starts) (sym process);
 }
 
--- the best after one more of what can be placed
+-- the better of the best candidate and the next one is the best so far
 pub best_after : (g : Graph) (o : List Bool) (starts : List (Option ℕ)) (order : List ℕ) → IsUrgencyOrder g order →
     (free : List ℕ) (fed : List FedProcess) →
     AreFree g starts free →
@@ -295,6 +318,7 @@ best_after g o starts order urgency free fed are_free are i d l best other bette
     (best_more g o starts order urgency (processes_of (take i fed)) best other better h r
     (is_candidate g o starts free one other are_free (are.each one (Contains-get_or fed i d l)) node process start))
 
+-- a process in the list of the active ones is a process of the graph, and active
 pub active_at : (g : Graph) (t : Track) → IsTrackOf g t → (i d : ℕ) → i < length t.active →
     (get_or t.active i d < process_count g) × (active g t.outcome (get_or t.active i d) ≡ true)
 active_at g t track i d l =
@@ -302,7 +326,7 @@ active_at g t track i d l =
     (subst (λ xs. Contains xs (get_or t.active i d)) track.active (Contains-get_or t.active i d l)) in
     (numbers-Contains (process_count g) (get_or t.active i d) r.0, r.1)
 
--- the best of all that can be placed is the next
+-- the best of all processes that can be placed is the next one
 pub chosen : (g : Graph) (o : List Bool) (starts : List (Option ℕ)) (fed : List FedProcess) → AreFed g o starts fed →
     (best : Option Candidate) →
     IsBestOf g o starts (map (λ f. f.process) fed) best → IsChosen g o starts best
@@ -310,7 +334,7 @@ chosen g o starts fed are None h = λ q f. h q (are.all q f) f
 chosen g o starts fed are (Some c) h =
     (record { fed = h.candidate.fed; best = λ q f ne. h.best q (are.all q f) f ne }, h.candidate.start)
 
--- what is chosen, if the lists are these
+-- the chosen process, if the lists are these
 pub chosen_of : (g : Graph) (o : List Bool) (starts : List (Option ℕ)) (free frees : List ℕ)
     (fed feds : List FedProcess) (result answer : Option Candidate) → frees ≡ free → feds ≡ fed →
     AreFree g starts free → AreFed g o starts fed → ((o : List Bool) (starts : List (Option ℕ)) →
@@ -320,6 +344,7 @@ chosen_of g o starts free frees fed feds result answer same_free same_fed are_fr
     subst (IsChosen g o starts) is
     (says o starts (same_free ∙ are_free) (subst (AreFed g o starts) (sym same_fed) are_fed))
 
+-- what can be placed is a process of the graph
 pub fed_within : (g : Graph) (o : List Bool) (starts : List (Option ℕ)) (fed : List FedProcess) →
     AreFed g o starts fed →
     All (λ f. f.process < process_count g) fed
@@ -329,6 +354,7 @@ fed_within g o starts fed are i d l = (are.each (get_or fed i d) (Contains-get_o
 
 module _ (g : Graph) (within : IsWithinLimits g) (w : WellFormed g) (o : List Bool) (s : List (Option ℕ))
     (h : IsPlacing g o s) (p : ℕ) (n : IsNext g o s p) where
+  -- after the next process its node is free from its end on
   pub free_more : (free : List ℕ) → AreFree g s free →
       AreFree g (set s p (Some (would_start g o s p)))
       (set free (node_of g p) (would_start g o s p + duration g p g.faults))
@@ -355,6 +381,7 @@ module _ (g : Graph) (within : IsWithinLimits g) (w : WellFormed g) (o : List Bo
       long : length free ≡ length g.nodes
       long = ap length k ∙ length-map-range_with_len (free_at g s) 0 (length g.nodes)
 
+  -- the next process starts within the next bound
   pub early_more : (b : ℕ) → 1000000000 ≤ b → AreBy b s →
       AreBy (b + 616000000000) (set s p (Some (would_start g o s p)))
   early_more b some early q = elim (cases_eq q p) [
@@ -369,11 +396,13 @@ module _ (g : Graph) (within : IsWithinLimits g) (w : WellFormed g) (o : List Bo
         omega (arith, ap (λ x. unwrap_or x 0) (get_or-set_other s p q (Some (would_start g o s p)) None ne), early q)
   ]
 
+  -- after the next process one fewer is unplaced
   pub fewer_left : suc (unplaced_count (set s p (Some (would_start g o s p)))) ≡ unplaced_count s
   fewer_left = fewer s p (would_start g o s p) (omega (arith, h.count, n.fed.within)) n.fed.unplaced
 
 -- nothing is placed at first
 module _ (g : Graph) (o : List Bool) where
+  -- at the start each node is free from 0 on
   pub free_first : AreFree g (replicate (process_count g) None) (replicate (length g.nodes) 0)
   free_first = ext_get_or 0 (replicate (length g.nodes) 0)
       (map (free_at g (replicate (process_count g) None)) (numbers_below (length g.nodes)))
@@ -389,17 +418,19 @@ module _ (g : Graph) (o : List Bool) where
         | inr r ↦ absurd (none_placed g o r.0 r.1)
       ]
 
+  -- at the start no start is late
   pub early_first : (b : ℕ) → AreBy b (replicate (process_count g) None)
   early_first b p = omega (arith, ap (λ x. unwrap_or x 0) (nothing_there g o p))
 
+  -- at the start all processes are unplaced
   pub left_first : unplaced_count (replicate (process_count g) None) + 0 ≤ process_count g
   left_first = omega (arith, at_first (process_count g))
 
-  -- all are placed at last
+  -- if no process is unplaced, nothing more can be placed
   pub none_unplaced : (s : List (Option ℕ)) → IsPlacing g o s → unplaced_count s ≡ 0 → IsDone g o s
   none_unplaced s h e p f = let l = none_left s p (omega (arith, h.count, f.within)) f.unplaced in omega arith
 
--- ---- after so many processes
+-- ---- after some number of processes
 
 pub record HavePlaced (g : Graph) (o : List Bool) (starts : List (Option ℕ)) (times : List ℕ) (n : ℕ) : Type 0 where
   pub placing : IsPlacing g o starts
@@ -407,6 +438,7 @@ pub record HavePlaced (g : Graph) (o : List Bool) (starts : List (Option ℕ)) (
   pub free : AreFree g starts times
   pub early : AreBy (1000000000 + n * 616000000000) starts
 
+-- at the start no process is placed
 pub placed_first : (g : Graph) (o : List Bool) →
     HavePlaced g o (replicate (process_count g) None) (replicate (length g.nodes) 0) 0
 placed_first g o = record {
@@ -418,15 +450,19 @@ placed_first g o = record {
 
 module _ (g : Graph) (within : IsWithinLimits g) (w : WellFormed g) (o : List Bool) (starts : List (Option ℕ))
     (free : List ℕ) (n : ℕ) (h : HavePlaced g o starts free n) where
+  -- the schedule stays within 2^60 for as many processes as there are
   pub placed_early : n ≤ process_count g → AreBy (2 ^ 60) starts
   placed_early l p = omega (arith, h.early p, within.few_processes)
 
+  -- a schedule of at most all processes is early enough to go on
   pub placed_open : n ≤ process_count g → IsOnTheWay g starts
   placed_open l = record { count = h.placing.count; early = placed_early l }
 
+  -- there is a free time for each node
   pub frees_long : length free ≡ length g.nodes
   frees_long = ap length h.free ∙ length-map-range_with_len (free_at g starts) 0 (length g.nodes)
 
+  -- the next start is at most 2^60
   pub placed_late : (p : ℕ) → n < process_count g → IsNext g o starts p → would_start g o starts p ≤ 2 ^ 60
   placed_late p l next = omega (
     arith,
@@ -434,6 +470,7 @@ module _ (g : Graph) (within : IsWithinLimits g) (w : WellFormed g) (o : List Bo
     within.few_processes,
   )
 
+  -- one more process is placed
   pub placed_more : (p start node time : ℕ) → IsNext g o starts p → start ≡ would_start g o starts p →
       node ≡ node_of g p →
       time ≡ duration g p g.faults →
@@ -453,8 +490,10 @@ module _ (g : Graph) (within : IsWithinLimits g) (w : WellFormed g) (o : List Bo
         );
       })))
 
+  -- after as many steps as there are processes nothing is left to place
   pub placed_whole : process_count g ≤ n → IsDone g o starts
   placed_whole l = none_unplaced g o starts h.placing (omega (arith, h.left))
 
+  -- a schedule in which nothing more can be placed is greedy
   pub placed_greedy : (order : List ℕ) → IsTopological g order → IsDone g o starts → IsGreedy g o starts
   placed_greedy order top done = greedy_from_placing g o w order top starts h.placing done

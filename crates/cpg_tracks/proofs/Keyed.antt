@@ -18,6 +18,7 @@ use Rattle.cpg_tracks.specs.Keys.{AreLow}
 
 -- ---- no key is high
 
+-- each start in the schedules is within their bound
 start_low : (b : ℕ) (schedules : List (List (Option ℕ))) → All (AreBy b) schedules → (p x : ℕ) →
     Contains (flat_map (λ starts. option_to_list (get_or starts p None)) schedules) x → x ≤ b
 start_low b schedules early p x k =
@@ -28,6 +29,7 @@ start_low b schedules early p x k =
     go : (starts : List (Option ℕ)) → Contains schedules starts → get_or starts p None ≡ Some x → x ≤ b
     go starts m e = omega (arith, All-contains (AreBy b) schedules starts early m p, ap (λ o. unwrap_or o 0) e)
 
+-- a key is at most one more than a bound on the starts and on the keys before it
 pub key_low : (g : Graph) (schedules : List (List (Option ℕ))) (keys : List ℕ) (b c p : ℕ) → All (AreBy b) schedules →
     b ≤ c → AreLow c keys →
     key_by g schedules keys p ≤ c + 1
@@ -42,6 +44,7 @@ key_low g schedules keys b c p early more low =
           omega (arith, low (source g r.0), r.2)
     ])
 
+-- with one more key all keys are within the next bound
 pub low_more : (keys : List ℕ) (c p key : ℕ) → p < length keys → AreLow c keys → key ≤ c + 1 →
     AreLow (c + 1) (set keys p key)
 low_more keys c p key l low k q = elim (cases_eq q p) [
@@ -49,6 +52,7 @@ low_more keys c p key l low k q = elim (cases_eq q p) [
   | inr ne ↦ omega (arith, get_or-set_other keys p q key 0 ne, low q)
 ]
 
+-- at the start all keys are 0
 pub low_first : (n b : ℕ) → AreLow b (replicate n 0)
 low_first n b p = elim (cases_lt p n) [
   | inl l ↦ omega (arith, get_or-replicate {A = ℕ} n p 0 0 l)
@@ -57,6 +61,7 @@ low_first n b p = elim (cases_lt p n) [
 
 -- ---- the schedule of one more track
 
+-- the schedule of one more track is found
 pub schedules_more : (g : Graph) (tracks : List Track) (i : ℕ) (d : Track) (schedules more : List (List (Option ℕ)))
     (starts : List (Option ℕ)) →
     i < length tracks →
@@ -70,6 +75,7 @@ schedules_more g tracks i d schedules more starts l h greedy is =
     (sym is)
     (one_more (map (λ (t : Track). t.outcome) (take i tracks)) schedules (get_or tracks i d).outcome starts h greedy))
   where
+    -- schedules of some outcomes and a schedule of one more outcome are schedules of all of them
     one_more : (os : List (List Bool)) (ss : List (List (Option ℕ))) (o : List Bool) (s : List (Option ℕ)) →
         AreSchedules g os ss → IsGreedy g o s →
         AreSchedules g (os ++ o ∷ []) (ss ++ s ∷ [])
@@ -88,10 +94,12 @@ schedules_more g tracks i d schedules more starts l h greedy is =
 
 -- ---- the order
 
+-- there is a key for each process
 pub keys_long : (g : Graph) (schedules : List (List (Option ℕ))) (keys : List ℕ) → AreKeys g schedules keys →
     length keys ≡ process_count g
 keys_long g schedules keys by = ap length by ∙ length-map-range_with_len (key_by g schedules keys) 0 (process_count g)
 
+-- the processes sorted by their keys are the track order
 pub has_order : (g : Graph) (tracks : List Track) (schedules : List (List (Option ℕ))) (keys order : List ℕ) →
     AreAllTracks g tracks →
     AreSchedules g (map (λ (t : Track). t.outcome) tracks) schedules → AreKeys g schedules keys →

@@ -13,17 +13,20 @@ use Rattle.cpg_tracks.specs.Rests.{AreRests, AreRestsUpTo}
 use Rattle.cpg_tracks.specs.Tracks.{is_ahead}
 use Rattle.cpg_tracks.proofs.TrackOrders.{ahead_by_key, ahead_by_number}
 
--- one number more is far from the greatest one
+-- the earlier numbers stay when one is added at the end
 pub rest_more : (rests : List ℕ) (p rest : ℕ) → p < length rests → get_or (rests ++ rest ∷ []) p 0 ≡ get_or rests p 0
 rest_more rests p rest l = grind (arith, common_steps)
 
 count_more : (rests : List ℕ) (rest : ℕ) → length (rests ++ rest ∷ []) ≡ length rests + 1
 count_more rests rest = grind (arith, common_steps)
 
+-- the rest that was added last is read at the end
 pub rest_last : (rests : List ℕ) (rest : ℕ) → get_or (rests ++ rest ∷ []) (length rests) 0 ≡ rest
 rest_last rests rest = grind (arith, common_steps)
 
+-- given processes ranked by how far their keys are from the greatest number
 module _ (keys rests order : List ℕ) (are : AreRests keys rests) (ranked : AreRanked rests order) where
+  -- processes ranked by their rests are all processes
   pub all_ranked : IsPermutation (numbers_below (length keys)) order
   all_ranked = subst (λ n. IsPermutation (numbers_below n) order) are.count ranked.all
 
@@ -42,6 +45,7 @@ module _ (keys rests order : List ℕ) (are : AreRests keys rests) (ranked : Are
             (ltb-true p q s.1)
       ]
 
+  -- processes ranked by their rests rise by key
   pub rising_by_key : AllPairs (λ p q. is_ahead keys p q ≡ true) order
   rising_by_key i j d h l =
       let within : (p : ℕ) → Contains order p → p < length keys = from_order (length keys) order all_ranked in
@@ -49,7 +53,7 @@ module _ (keys rests order : List ℕ) (are : AreRests keys rests) (ranked : Are
       (within (get_or order j d) (Contains-get_or order j d l))
       (ranked.falling i j d h l)
 
--- one more of the numbers
+-- with one number more, the distances of all numbers so far are known
 pub rests_more : (keys rests next : List ℕ) (n rest : ℕ) → AreRestsUpTo keys n rests →
     rest + get_or keys n 0 ≡ 2 ^ 64 - 1 → next ≡ rests ++ rest ∷ [] →
     AreRestsUpTo keys (n + 1) next

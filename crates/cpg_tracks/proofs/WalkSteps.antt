@@ -13,7 +13,7 @@ use Rattle.cpg_tracks.specs.Track.{Track, outcomes_of}
 use Rattle.cpg_tracks.proofs.TracksFound.{walk_finds_tracks, never_fewer}
 use Rattle.cpg_tracks.proofs.TrackSteps.{over_append}
 
--- what the first elements of a list give, and one more
+-- the first elements of a list give what those before the last one give, and what this one gives
 flat_map_next : {X Y : Type 0} (f : X → List Y) (xs : List X) (i : ℕ) (d : X) → i < length xs →
     flat_map f (take (i + 1) xs) ≡ flat_map f (take i xs) ++ f (get_or xs i d)
 flat_map_next f xs i d l = ap (flat_map f) (take_more xs i d l) ∙ flat_map-append f (take i xs) (get_or xs i d ∷ [])
@@ -25,6 +25,7 @@ map_next f xs i d l = ap (map f) (take_more xs i d l) ∙ map-append f (take i x
 
 -- ---- the ways of one more outcome
 
+-- the outcomes that one more scenario makes at a condition come at the end
 pub ways_more : (g : Graph) (c : ℕ) (xs before after : List Scenario) (i : ℕ) (d : Scenario) → i < length xs →
     outcomes_of before ≡ flat_map (both_ways_at g c) (outcomes_of (take i xs)) →
     outcomes_of after ≡ outcomes_of before ++ both_ways_at g c (get_or xs i d).values →
@@ -37,6 +38,7 @@ ways_more g c xs before after i d l h e = e ∙ ap (λ ys. ys ++ both_ways_at g 
 
 -- ---- one more process of the order
 
+-- the outcomes up to the next process are made of those before it, over its condition if it has one
 over_next : (g : Graph) (order : List ℕ) (i : ℕ) (o : Option ℕ) → i < length order →
     condition_of g (get_or order i 0) ≡ o →
     tracks_over g (conditions_along g (take (i + 1) order)) (all_false g ∷ [])
@@ -46,6 +48,7 @@ over_next g order i o l e = ap (λ cs. tracks_over g cs (all_false g ∷ []))
     ∙ ap (λ r. conditions_along g (take i order) ++ option_to_list r) e)
     ∙ over_append g (conditions_along g (take i order)) (option_to_list o) (all_false g ∷ [])
 
+-- a process with a condition takes the walk over the condition
 pub walk_takes : (g : Graph) (order : List ℕ) (i c : ℕ) (before after : List Scenario) → i < length order →
     condition_of g (get_or order i 0) ≡ Some c →
     outcomes_of before ≡ tracks_over g (conditions_along g (take i order)) (all_false g ∷ []) →
@@ -54,13 +57,14 @@ pub walk_takes : (g : Graph) (order : List ℕ) (i c : ℕ) (before after : List
 walk_takes g order i c before after l e h k =
     k ∙ ap (flat_map (both_ways_at g c)) h ∙ sym (over_next g order i (Some c) l e)
 
+-- a process without a condition leaves the outcomes as they are
 pub walk_skips : (g : Graph) (order : List ℕ) (i : ℕ) (scenarios : List Scenario) → i < length order →
     condition_of g (get_or order i 0) ≡ None →
     outcomes_of scenarios ≡ tracks_over g (conditions_along g (take i order)) (all_false g ∷ []) →
     outcomes_of scenarios ≡ tracks_over g (conditions_along g (take (i + 1) order)) (all_false g ∷ [])
 walk_skips g order i scenarios l e h = h ∙ sym (over_next g order i None l e)
 
--- a walk that has found too many may stop
+-- a walk that has found too many outcomes shows that there are too many tracks
 pub stopped_at : (g : Graph) (order : List ℕ) → IsUrgencyOrder g order → IsTopological g order → (i : ℕ) →
     most_scheduled_tracks < length (tracks_over g (conditions_along g (take i order)) (all_false g ∷ [])) →
     HasManyTracks g
@@ -80,6 +84,7 @@ stopped_at g order urgency top i l =
 
 -- ---- the track of one more outcome
 
+-- one more track has the outcome of the next scenario
 pub outcomes_more : (xs : List Scenario) (before after : List Track) (t : Track) (i : ℕ) (d : Scenario) →
     i < length xs →
     map (λ (t : Track). t.outcome) before ≡ outcomes_of (take i xs) →
@@ -90,6 +95,7 @@ outcomes_more xs before after t i d l h e k =
     ∙ ap (λ ys. ys ++ t.outcome ∷ []) h ∙ ap (λ o. outcomes_of (take i xs) ++ o ∷ []) e
     ∙ sym (map_next (λ (s : Scenario). s.values) xs i d l)
 
+-- an optional number that has no value is none
 pub none_if : (o : Option ℕ) → ((x : ℕ) → o ≡ Some x → ⊥) → o ≡ None
 none_if None h = refl
 none_if (Some x) h = absurd (h x refl)

@@ -1,4 +1,4 @@
--- Keys as they are found.
+-- The keys of processes, and their bounds.
 use Rattle.std.specs.Prelude.{ℕ, ◌+◌, ◌≤◌, List, ◌++◌, Option, None, get_or, map, option_to_list}
 use Rattle.std.specs.List.{flat_map}
 use Rattle.cpg_base.specs.Numbers.{greatest}

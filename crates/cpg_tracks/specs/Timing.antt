@@ -1,4 +1,4 @@
--- What placing the processes of a track rests on, and what it has come to.
+-- The facts that placing the processes of a track needs, and how far it has come.
 use Rattle.std.specs.Prelude.{ℕ, ◌≡◌, ◌≢◌, ◌<◌, ◌≤◌, ◌^◌, ◌⊎◌, Bool, true, List, Option, Some, None, map, length}
 use Rattle.std.specs.Prelude.{Contains}
 use Rattle.cpg_base.specs.Numbers.{numbers_below}
@@ -52,7 +52,7 @@ pub record AreFed (g : Graph) (o : List Bool) (starts : List (Option ℕ)) (fed 
   pub each : (f : FedProcess) → Contains fed f → IsFedAt g o starts f
   pub all : (q : ℕ) → IsFed g o starts q → Contains (map (λ f. f.process) fed) q
 
--- the same, but for the targets of p's live outputs, which may be missing
+-- the processes that can be placed, except that targets of p's live outputs may be missing
 pub record AreFedBut (g : Graph) (o : List Bool) (starts : List (Option ℕ)) (p : ℕ)
     (fed : List FedProcess) : Type 0 where
   pub each : (f : FedProcess) → Contains fed f → IsFedAt g o starts f
@@ -60,7 +60,7 @@ pub record AreFedBut (g : Graph) (o : List Bool) (starts : List (Option ℕ)) (p
       Contains (map (λ f. f.process) fed) q ⊎
       ((e : ℕ) × Contains (outputs g p) e × (live g o e ≡ true) × (target g e ≡ q))
 
--- p is added to them, if it can be placed
+-- p is added to the list, if it can be placed
 pub record Feeds (g : Graph) (o : List Bool) (starts : List (Option ℕ)) (p : ℕ)
     (old new : List FedProcess) : Type 0 where
   pub each : ((f : FedProcess) → Contains old f → IsFedAt g o starts f) → (f : FedProcess) → Contains new f →
@@ -79,6 +79,7 @@ pub record IsBestCandidate (g : Graph) (o : List Bool) (starts : List (Option �
   pub candidate : IsCandidate g o starts c
   pub best : (q : ℕ) → Contains qs q → IsFed g o starts q → c.process ≢ q → IsSooner g o starts c.process q
 
+-- the best of some processes, or none if none of them can be placed
 abbrev pub IsBestOf : Graph → List Bool → List (Option ℕ) → List ℕ → Option Candidate → Type 0
 IsBestOf g o starts qs None = (q : ℕ) → Contains qs q → IsFed g o starts q → ⊥
 IsBestOf g o starts qs (Some c) = IsBestCandidate g o starts qs c

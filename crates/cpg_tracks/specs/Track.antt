@@ -1,4 +1,4 @@
--- Tracks as the code keeps them, and what placing the processes of one rests on.
+-- Tracks as the code keeps them, and the facts that placing the processes of a track needs.
 use Rattle.std.specs.Prelude.{ℕ, ◌≡◌, ◌≤◌, Bool, List, Option, map, filter, length, All}
 use Rattle.cpg_base.specs.Numbers.{numbers_below}
 use Rattle.cpg_base.specs.Graph.{Graph, process_count, condition_count}

@@ -72,10 +72,12 @@ fn input_time(
     ensures { result ≡ option_map (λ _. input_ready problem.now starts.now edge) (get_or starts.now (source problem.now edge) None) }
 {
     let source = problem.source(edge);
+    // the source isn't placed yet
     let Some(start) = starts[source as usize] else {
         return None;
     };
     let end = start + timing.durations[source as usize];
+    // a message is there a round after its source has ended
     if problem.is_message(edge) {
         return Some(end + timing.round);
     }
@@ -97,9 +99,11 @@ fn ready_time(
     ensures fed { IfSome result (λ _. IsFed problem.now (outcome_of timing.now) starts.now process) }
     ensures ready { IfSome result (λ time. time ≡ ready_at problem.now (outcome_of timing.now) starts.now process) }
 {
+    // the process is placed already
     if starts[process as usize].is_some() {
         return None;
     }
+    // ready at the latest of the release and of the times of the live inputs
     let mut ready = problem.release(process);
     for edge in timing.links.inputs(process) {
         if timing.live[*edge as usize] {
@@ -125,6 +129,7 @@ fn feed(
     requires process { process < process_count problem.now }
     ensures { OnOk result (Feeds problem.now (outcome_of timing.now) starts.now process fed.old.items fed.new.items) }
 {
+    // an inactive process is never placed
     if !timing.active[process as usize] {
         return Ok(());
     }
@@ -154,7 +159,7 @@ fn all_fed(
     Ok(fed)
 }
 
-/// Adds the processes that waited for this one, which is placed, and can be placed now.
+/// Adds the processes that waited for this placed process and can be placed now.
 fn feed_targets(
     problem: &Problem,
     timing: &Timing<'_>,
@@ -183,7 +188,7 @@ fn drop_placed(fed: &mut Vec<FedProcess>, process: u32)
     fed.retain(|it| it.process != process);
 }
 
-/// A process that can be placed as a candidate.
+/// The candidate for a process that can be placed.
 fn candidate_of(problem: &Problem, free: &[u64], fed: FedProcess) -> Candidate
     requires free { length free.now ≡ length problem.now.nodes }
     requires process { fed.process < process_count problem.now }
@@ -210,6 +215,7 @@ fn sooner(order: &Order, best: Candidate, other: Candidate) -> Candidate
     if other.start < best.start {
         return other;
     }
+    // both start together, so the more urgent one is first
     if order.place(best.process) < order.place(other.process) {
         return best;
     }
@@ -265,7 +271,9 @@ fn place_all(
     let mut starts: Vec<Option<u64>> = vec![in alloc; None; count]?;
     let mut free = vec![in alloc; 0u64; problem.nodes().len()]?;
     let mut fed = all_fed(alloc, problem, &timing, starts.as_slice())?;
+    // each turn places one process, until none can be placed
     for _placed in 0..count {
+        // all active processes are placed
         let Some(chosen) = next(problem, order, free.as_slice(), fed.as_slice()) else {
             return Ok(starts);
         };

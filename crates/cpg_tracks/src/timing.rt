@@ -1,4 +1,4 @@
-//! What placing the processes of a track rests on.
+//! The facts that placing the processes of a track needs.
 ghost use Rattle.std.specs.Prelude.{◌≡◌, ◌<◌, ◌≤◌, IfOk, map};
 ghost use Rattle.cpg_base.specs.Numbers.{numbers_below};
 ghost use Rattle.cpg_base.specs.Graph.{process_count, edge_count};
@@ -15,7 +15,7 @@ use cpg_order::Links;
 use cpg_rules::GuardTrees;
 use std::alloc::Global;
 
-/// What placing the processes of a track rests on, found once.
+/// The facts that placing the processes of a track needs, found once.
 #[derive(Drop)]
 pub(crate) struct Timing<'a> {
     /// The track.
@@ -79,7 +79,7 @@ fn durations(alloc: Global, problem: &Problem) -> Result<Vec<u64>, OutOfMemory>
 }
 
 impl<'a> Timing<'a> {
-    /// What placing the processes of a track rests on.
+    /// Finds the facts that placing the processes of a track needs.
     pub(crate) fn of(
         alloc: Global,
         problem: &Problem,

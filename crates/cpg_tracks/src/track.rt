@@ -25,6 +25,7 @@ const MOST_TRACKS: usize = 256;
 pub struct Track {
     /// The values, without faults.
     scenario: Scenario,
+    /// The numbers of the active processes, rising.
     active: Vec<u32>,
 }
 
@@ -67,6 +68,7 @@ fn push_ways(
     ensures values { OnOk result (All (HasValues problem.now) found.old.items → All (HasValues problem.now) found.new.items) }
 {
     found.push(scenario.copy()?)?;
+    // the condition of an inactive process stays false
     if !guards.active(problem.process_of(condition), scenario) {
         return Ok(());
     }
@@ -116,6 +118,7 @@ fn outcomes(
     for process in order.processes() {
         if let Some(condition) = problem.condition_of(*process) {
             scenarios = both_ways(alloc, problem, guards, condition, scenarios.as_slice())?;
+            // too many tracks to schedule
             if scenarios.len() > MOST_TRACKS {
                 return Ok(None);
             }
@@ -183,7 +186,7 @@ fn tracks_of(
     Ok(tracks)
 }
 
-/// The outcomes of the tracks of a graph, in order, without faults. `None` exactly where there are more than 256.
+/// The outcomes of the tracks of a graph, in order, without faults. `None` exactly if there are more than 256.
 pub fn track_outcomes(
     alloc: Global,
     admitted: &Admitted,

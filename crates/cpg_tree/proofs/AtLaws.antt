@@ -1,4 +1,4 @@
--- What a list tells of a scenario's value, and of how many leaves there are.
+-- What a list says about a scenario's value, and about the number of leaves.
 use Rattle.std.proofs.Common.{ℕ, ◌+◌, ◌*◌, ◌-◌, ◌/◌, ◌<◌, ◌≤◌, ◌≡◌, List, [], ◌∷◌, ◌++◌, length, arith, refl, sym, ap}
 use Rattle.std.proofs.Common.{◌∙◌}
 use Rattle.std.proofs.lemmas.List.{length-append}
@@ -14,11 +14,14 @@ use Rattle.cpg_tree.specs.Paths.{paths_from, up_to, above}
 use Rattle.cpg_tree.proofs.Forks.{value_below, value_above}
 use Rattle.cpg_tree.proofs.Flats.{flat-same}
 
+-- given: a list of items, the tree that it is of, and a scenario
 module _ {T : Type 0} (items : List (TreeItem T)) (n : TreeNode T) (are : items ≡ flat n) (s : Scenario) where
+  -- if the list is of a leaf, the leaf's value is that of the scenario
   pub at_leaf : (x : T) → items ≡ flat (Leaf x) → x ≡ value_at n s
   at_leaf x is = ap (λ (m : TreeNode T). value_at m s) (flat-same (Leaf x) n (sym is ∙ are))
 
   module _ (v cut : ℕ) (x y : TreeNode T) (is : items ≡ flat (Fork v cut x y)) (z : T) where
+    -- the scenario's value on the side it goes to, below or above, is its value in the whole tree
     pub at_below : number_of s v ≤ cut → z ≡ value_at x s → z ≡ value_at n s
     at_below h e = e ∙ sym (value_below v cut x y s h)
         ∙ ap (λ (m : TreeNode T). value_at m s) (flat-same (Fork v cut x y) n (sym is ∙ are))
@@ -46,6 +49,7 @@ length-flat {T} (Fork v cut x y) k cube =
 half : (a b : ℕ) → a + 1 ≡ 2 * b → a - a / 2 ≡ b
 half a b e = omega arith
 
+-- half of a list's items, rounded up, are as many as the tree's paths
 pub leaves_are : {T : Type 0} (items : List (TreeItem T)) (n : TreeNode T) (k : ℕ) (cube : List Literal) →
     items ≡ flat n →
     length items - length items / 2 ≡ length (paths_from k cube n)

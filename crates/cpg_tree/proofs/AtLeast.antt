@@ -11,7 +11,7 @@ use Rattle.cpg_tree.specs.Later.{AreAtLeast, IsItemFrom, time_later}
 use Rattle.cpg_tree.specs.Paths.{up_to, above, paths_from}
 use Rattle.cpg_tree.specs.Tree.{Path}
 
--- what all of two lists have, all of each have
+-- a fact of all elements of two lists together is one of all elements of each
 module _ {A : Type 0} (P : A → Type 0) (front back : List A) (all : All P (front ++ back)) where
   all_front : All P front
   all_front = subst (All P) (take-append_seam front back) (All-take P (length front) (front ++ back) all)
@@ -23,6 +23,7 @@ module _ (least : ℕ) where
   abbrev pub IsFrom : Path (Option ℕ) → Type 0
   IsFrom p = p.1 ≡ Some (max (time_later 0 p.1) least)
 
+  -- if each leaf is a time of at least this, so is the time of each path
   pub at_least_paths : (k : ℕ) (node : TreeNode (Option ℕ)) (cube : List Literal) → AreAtLeast least node →
       All IsFrom (paths_from k cube node)
   at_least_paths k (Leaf x) cube h = All-cons IsFrom (cube, x) [] h (All-nil IsFrom)
@@ -32,7 +33,7 @@ module _ (least : ℕ) where
       (at_least_paths k below (narrowed_by (up_to v cut) cube) h.0)
       (at_least_paths k upper (narrowed_by (above k v cut) cube) h.1)
 
-  -- what a list tells of its tree
+  -- if each item of a list is a cut or a time of at least this, so is each leaf of its tree
   pub at_least_listed : (n : TreeNode (Option ℕ)) → All (IsItemFrom least) (flat n) → AreAtLeast least n
   at_least_listed (Leaf x) h = All-head (IsItemFrom least) (Value x) [] h
   at_least_listed (Fork v cut x y) h =

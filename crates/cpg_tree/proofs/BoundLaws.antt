@@ -44,11 +44,12 @@ forks_in number (Fork v cut below above) = omega (
 half : (items forks : ℕ) → items ≡ 2 * forks + 1 → items / 2 ≡ forks
 half items forks e = omega (arith, e)
 
+-- half of a list's items, rounded down, are as many as the tree's forks
 pub forks_are : {T : Type 0} (number : T → ℕ) (n : TreeNode T) (items : List (TreeItem T)) → items ≡ flat n →
     length items / 2 ≡ length (bounds_in number n)
 forks_are number n items are = half (length items) (length (bounds_in number n)) (ap length are ∙ forks_in number n)
 
--- the span of a fork
+-- given: a fork whose span is made of those of its two sides
 module _ {T : Type 0} (number : T → ℕ) (v cut : ℕ) (x y n : TreeNode T) (items : List (TreeItem T))
     (is : items ≡ flat (Fork v cut x y)) (are : items ≡ flat n) (first second both : Span)
     (low : first ≡ span_in number x) (high : second ≡ span_in number y)
@@ -59,10 +60,11 @@ module _ {T : Type 0} (number : T → ℕ) (v cut : ℕ) (x y n : TreeNode T) (i
   of_fork : both ≡ span_in number (Fork v cut x y)
   of_fork = made ∙ ap₂ (λ (p q : Span). record { least = min p.least q.least; most = max p.most q.most }) low high
 
+  -- the span made of those of the two sides is that of the tree
   pub span_fork : both ≡ span_in number n
   span_fork = of_fork ∙ ap (span_in number) fork_is
 
-  -- which is added behind those of its sides
+  -- the fork's span is added behind those of its sides
   pub bounds_fork : (old lower higher new : List Span) → lower ≡ old ++ bounds_in number x →
       higher ≡ lower ++ bounds_in number y → new ≡ higher ++ (both ∷ []) →
       new ≡ old ++ bounds_in number n
@@ -74,15 +76,17 @@ module _ {T : Type 0} (number : T → ℕ) (v cut : ℕ) (x y n : TreeNode T) (i
       ∙ ap (λ (s : Span). old ++ (bounds_in number x ++ bounds_in number y ++ (s ∷ []))) of_fork
       ∙ ap (λ (m : TreeNode T). old ++ bounds_in number m) fork_is
 
--- the span of a value
+-- given: a leaf, and the list of its item
 module _ {T : Type 0} (number : T → ℕ) (x : T) (n : TreeNode T) (items : List (TreeItem T)) (is : items ≡ flat (Leaf x))
     (are : items ≡ flat n) where
   leaf_is : Leaf x ≡ n
   leaf_is = flat-same (Leaf x) n (sym is ∙ are)
 
+  -- the span made of one value is that of the tree, which is a leaf
   pub span_leaf : (m : ℕ) (one : Span) → m ≡ number x → one ≡ record { least = m; most = m } → one ≡ span_in number n
   span_leaf m one at made = made ∙ ap (λ (k : ℕ). record { least = k; most = k }) at ∙ ap (span_in number) leaf_is
 
+  -- a leaf has no forks, so no spans are added for it
   pub bounds_leaf : (old : List Span) → old ≡ old ++ bounds_in number n
   bounds_leaf old = sym (append-nil old) ∙ ap (λ (m : TreeNode T). old ++ bounds_in number m) leaf_is
 
@@ -94,6 +98,7 @@ module _ {T : Type 0} (number : T → ℕ) where
   last_span (Fork v cut below above) sides span e = last_same sides
       (bounds_in number below ++ bounds_in number above) span (span_in number (Fork v cut below above)) (sym e)
 
+  -- if a tree's spans end in a span, that is the span of the whole tree
   pub span_last : (items : List (TreeItem T)) (bounds : List Span) → IsBounded number items bounds →
       (span : Span) (sides : List Span) →
       bounds ≡ sides ++ (span ∷ []) →
@@ -102,7 +107,7 @@ module _ {T : Type 0} (number : T → ℕ) where
   span_last items bounds is span sides last n are =
       last_span is.0 sides span (sym is.2 ∙ last) ∙ ap (span_in number) (flat-same is.0 n (sym is.1 ∙ are))
 
-  -- and a fork has one
+  -- a fork has a span of its own
   pub fork_bounded : (items : List (TreeItem T)) (bounds : List Span) → IsBounded number items bounds →
       (v cut : ℕ) (x y : TreeNode T) → items ≡ flat (Fork v cut x y) →
       0 < length bounds
@@ -115,11 +120,12 @@ module _ {T : Type 0} (number : T → ℕ) where
         length-append (bounds_in number x ++ bounds_in number y) (span_in number (Fork v cut x y) ∷ []),
       )
 
--- the bounds of two trees in one list
+-- given: the spans of two trees, one behind the other in one list
 module _ {T U : Type 0} (number : T → ℕ) (other_number : U → ℕ) (n : TreeNode T) (m : TreeNode U)
     (none first both : List Span) (forks : ℕ) (empty : none ≡ [])
     (one : first ≡ none ++ bounds_in number n) (two : both ≡ first ++ bounds_in other_number m)
     (long : forks ≡ length first) where
+  -- cut at the number of the first tree's forks, the list gives the spans of each tree
   pub first_bounds : take forks both ≡ bounds_in number n
   first_bounds =
       ap (λ k. take k both) long ∙ ap (take (length first)) two ∙ take-append_seam first (bounds_in other_number m)
@@ -129,7 +135,7 @@ module _ {T U : Type 0} (number : T → ℕ) (other_number : U → ℕ) (n : Tre
   second_bounds =
       ap (λ k. drop k both) long ∙ ap (drop (length first)) two ∙ drop-append_seam first (bounds_in other_number m)
 
--- what the spans tell
+-- if the least number of one span is at least the greatest of another, the one tree is at least the other everywhere
 pub at_least_by : {T U : Type 0} (number : T → ℕ) (other_number : U → ℕ) (a : TreeNode T) (b : TreeNode U)
     (own others : Span) (is : Bool) →
     own ≡ span_in number a → others ≡ span_in other_number b → is ≡ nat_le others.most own.least → is ≡ true →

@@ -15,17 +15,19 @@ use Rattle.cpg_cube.proofs.CubeLows.{holds-low}
 use Rattle.cpg_cube.proofs.Ranges.{rising_rest, rising_first}
 use Rattle.cpg_tree.specs.Space.{Space, IsInSpace, beyond, faults_of, asked_beyond}
 
--- the numbers of a function but for one
+-- the numbers of a function, with 0 for one variable
 abbrev pub without : ℕ → (ℕ → ℕ) → ℕ → ℕ
 without v f u = cond (u == v) 0 (f u)
 
+-- `without` gives 0 for the variable itself, and the function's number for each other one
 pub without_here : (v : ℕ) (f : ℕ → ℕ) → without v f v ≡ 0
 without_here v f = cond-true (v == v) 0 (f v) (eq-eqb v v refl)
 
 pub without_other : (v u : ℕ) (f : ℕ → ℕ) → u ≢ v → without v f u ≡ f u
 without_other v u f n = cond-false (u == v) 0 (f u) (ne_eqb u v n)
 
--- what each literal is given is at most a number of its variable, or nothing from a variable on
+-- if each literal's weight is at most a number of its variable, and 0 from a variable on, the weights add up to no
+-- more than the numbers
 pub weights_le : (g : Literal → ℕ) (n : ℕ) (f : ℕ → ℕ) (ls : List Literal) → IsRising ls →
     ((l : Literal) → Contains ls l → l.variable < n → g l ≤ f l.variable) →
     ((l : Literal) → n ≤ l.variable → g l ≤ 0) → sum_by g ls ≤ sum_by f (numbers_below n)
@@ -45,6 +47,7 @@ weights_le g n f (l ∷ ls) rising each none = elim (cases_lt l.variable n) [
 module _ (space : Space) where
   module _ (s : Scenario) (lies : IsInSpace space s) (ls : List Literal) (rising : IsRising ls)
       (all : matches ls s ≡ true) where
+    -- a matching literal on a count asks for no more beyond the low than the scenario has beyond it
     beyond_le : (l : Literal) → Contains ls l → l.variable < 128 → asked_beyond space l ≤ beyond space s l.variable
     beyond_le l c few =
         let low = holds-low s l (from_all (holds s) ls l all c) in
@@ -55,6 +58,8 @@ module _ (space : Space) where
           cond-true (nat_lt l.variable 128) (l.low - get_or space.low l.variable 0) 0 (lt-ltb l.variable 128 few),
         )
 
+    -- from any place on, the literals of a cube that matches ask for no more faults beyond the lows than the space
+    -- has left
     pub demands_left : (from : ℕ) → sum_by (asked_beyond space) (drop from ls) ≤ space.left
     demands_left from =
         let all_of = weights_le (asked_beyond space) 128 (beyond space s) ls rising beyond_le
@@ -64,7 +69,7 @@ module _ (space : Space) where
         )) in
         omega (arith, all_of, lies.left, sum_by-take-drop (asked_beyond space) ls from)
 
-  -- the next literal's demand, and the rest
+  -- given: the next literal and the faults that it asks for, and enough faults left for it and all behind it
   module _ (ls : List Literal) (at : ℕ) (d : Literal) (there : at < length ls) (left low more : ℕ)
       (low_is : low ≡ (get_or ls at d).low - get_or space.low (get_or ls at d).variable 0)
       (more_is : more ≡ faults_of (get_or ls at d).variable low)
@@ -72,8 +77,10 @@ module _ (space : Space) where
     this_one : more ≡ asked_beyond space (get_or ls at d)
     this_one = more_is ∙ ap (faults_of (get_or ls at d).variable) low_is
 
+    -- the faults that the next literal asks for are left
     pub demand_fits : more ≤ left
     demand_fits = omega (arith, this_one, sum_by-drop_more (asked_beyond space) ls at d there, most)
 
+    -- the other literals ask for no more than is left then
     pub demand_rest : sum_by (asked_beyond space) (drop (at + 1) ls) ≤ left - more
     demand_rest = omega (arith, this_one, sum_by-drop_more (asked_beyond space) ls at d there, most)

@@ -10,13 +10,14 @@ use Rattle.cpg_tree.specs.TreeNode.{TreeNode, Leaf, Fork}
 use Rattle.cpg_tree.specs.Space.{Space, IsWhole, is_open_below, is_open_above, below_cut, above_cut, faults_of}
 use Rattle.cpg_tree.specs.Decision.{IsFit}
 
--- a space as another, but for highs that are no lower, and no fewer faults left
+-- another space with the same lows, highs that are no lower, and no fewer faults left
 record IsHigher (space other : Space) : Type 0 where
   pub low : space.low ≡ other.low
   pub left : space.left ≤ other.left
   pub long : length space.high ≡ length other.high
   pub high : (v : ℕ) → get_or space.high v 0 ≤ get_or other.high v 0
 
+-- setting the same cut in both lists of highs keeps the one no lower than the other
 higher_set : (highs others : List ℕ) (v cut u : ℕ) → length highs ≡ length others →
     get_or highs u 0 ≤ get_or others u 0 →
     (u ≡ v) ⊎ (u ≢ v) →
@@ -45,6 +46,7 @@ allows_more v cut low a b l h = elim (or_cases (nat_le 128 v) (nat_lt cut (low +
   | inr count ↦ or_right (nat_le 128 v) _ (lt-ltb cut (low + b) (omega (arith, ltb-true cut (low + a) count, l)))
 ]
 
+-- given: a space, another whose highs are no lower and that has no fewer faults left, and a cut
 module _ (space other : Space) (h : IsHigher space other) (v cut : ℕ) where
   higher_below : IsHigher (below_cut space v cut) (below_cut other v cut)
   higher_below = record {
@@ -76,6 +78,7 @@ module _ (space other : Space) (h : IsHigher space other) (v cut : ℕ) where
       (subst (λ (lows : List ℕ). (nat_le 128 v || nat_lt cut (get_or lows v 0 + other.left)) ≡ true) h.low
       (allows_more v cut (get_or space.low v 0) space.left other.left h.left parts.1))
 
+-- a tree that fits a space fits any that is higher
 fits_higher : {T : Type 0} (node : TreeNode T) (space other : Space) → IsHigher space other → IsFit space node →
     IsFit other node
 fits_higher (Leaf x) space other h fit = fit
@@ -87,7 +90,7 @@ fits_higher (Fork v cut below above) space other h fit = (
   fits_higher above (above_cut space v cut) (above_cut other v cut) (higher_above space other h v cut) fit.4,
 )
 
--- what fits the numbers up to a cut fits without the cut
+-- a tree that fits the numbers up to a cut fits the space without the cut
 pub fits_uncut : {T : Type 0} (node : TreeNode T) (space : Space) (v cut : ℕ) → is_open_above space v cut ≡ true →
     IsFit (below_cut space v cut) node →
     IsFit space node
@@ -120,6 +123,7 @@ at_set xs v y = elim (cases_lt v (length xs)) [
       inr (get_or_past (slice_set xs v y) v 0 (omega (arith, past, length-set xs v y)), get_or_past xs v 0 past)
 ]
 
+-- a list with a lower number put at v has nowhere a higher number
 set_lower : (highs : List ℕ) (v cut far u : ℕ) → cut < far →
     get_or (slice_set highs v cut) u 0 ≤ get_or (slice_set highs v far) u 0
 set_lower highs v cut far u less = elim (cases_eq u v) [
@@ -132,12 +136,14 @@ set_lower highs v cut far u less = elim (cases_eq u v) [
       ])
 ]
 
+-- if the faults left beyond the lower cut allow a number above the higher one, so do those left without the lower cut
 twice_allows : (low cut far left here : ℕ) → (here ≡ cut + 1) ⊎ ((here ≡ 0) × (low ≡ 0)) → low ≤ cut → cut < far →
     far < here + (left - (cut + 1 - low)) →
     far < low + left
 twice_allows low cut far left here (inl e) below less h = omega arith
 twice_allows low cut far left here (inr e) below less h = omega (arith, e.0, e.1)
 
+-- cutting twice leaves no more faults than cutting at the higher cut alone
 twice_left : (low cut far left here : ℕ) → (here ≡ cut + 1) ⊎ ((here ≡ 0) × (low ≡ 0)) → low ≤ cut → cut < far →
     left - (cut + 1 - low) - (far + 1 - here) ≤ left - (far + 1 - low)
 twice_left low cut far left here (inl e) below less = omega arith
@@ -149,6 +155,7 @@ no_faults v n l = cond-false (nat_lt v 128) n 0 (le-ltb v 128 l)
 all_faults : (v n : ℕ) → v < 128 → faults_of v n ≡ n
 all_faults v n l = cond-true (nat_lt v 128) n 0 (lt-ltb v 128 l)
 
+-- given: a space, two cuts of one variable, and a number of the space that is not above the lower cut
 module _ (space : Space) (v cut far : ℕ) (less : cut < far) (below : is_open_below space v cut ≡ true) where
   low_under : get_or space.low v 0 ≤ cut
   low_under = leb-true (get_or space.low v 0) cut below
@@ -160,6 +167,7 @@ module _ (space : Space) (v cut far : ℕ) (less : cut < far) (below : is_open_b
   joined_open_below : is_open_below space v far ≡ true
   joined_open_below = le-leb (get_or space.low v 0) far (omega (arith, low_under, less))
 
+  -- if numbers above the higher cut are open after the lower cut, they are open before it; by kind of variable
   joined_open_above : is_open_above (above_cut space v cut) v far ≡ true → is_open_above space v far ≡ true
   joined_open_above o =
       let parts = and_parts (nat_lt far (get_or space.high v 0)) _ o in
@@ -183,6 +191,7 @@ module _ (space : Space) (v cut far : ℕ) (less : cut < far) (below : is_open_b
     high = λ u. set_lower space.high v cut far u less;
   }
 
+  -- raising the low twice, to the lower cut and then to the higher one, leaves no more faults than raising it at once
   joined_left : (space.left - faults_of v (cut + 1 - get_or space.low v 0))
       - faults_of v (far + 1 - get_or (slice_set space.low v (cut + 1)) v 0) ≤ space.left - faults_of v
       (far + 1 - get_or space.low v 0)
@@ -235,6 +244,7 @@ module _ (k : ℕ) (space other : Space) (one : IsWhole k space) (two : IsWhole 
   whole_low : (v : ℕ) → v < length space.low → get_or space.low v 0 ≡ get_or other.low v 0
   whole_low v l = let there : v < 256 = omega (arith, l, one.long) in one.lows v there ∙ sym (two.lows v there)
 
+  -- between two such spaces no number differs, so a tree that fits one fits the other
   pub fits_whole : {T : Type 0} (node : TreeNode T) → IsFit space node → IsFit other node
   fits_whole node = fits_higher node space other
       (record { low = same_number_lists space.low other.low (one.long ∙ sym two.long) whole_low; left = omega (arith, one.left, two.left); long = one.longer ∙ sym two.longer; high = whole_high })

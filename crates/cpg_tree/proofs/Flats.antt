@@ -1,4 +1,4 @@
--- What a list tells of the tree that it is of.
+-- What a list says about the tree that it is of.
 use Rattle.std.proofs.Common.{ℕ, ◌<◌, ◌≡◌, List, [], ◌∷◌, ◌++◌, length, take, drop, min, arith, refl, sym, ap, ◌∙◌}
 use Rattle.std.proofs.lemmas.List.{length-append}
 use Rattle.std.proofs.Math.Seq.{take-append_seam, drop-append_seam}
@@ -16,6 +16,7 @@ read_back-append : {T : Type 0} (xs ys : List (TreeItem T)) (stack : List (TreeN
 read_back-append [] ys stack = refl
 read_back-append (x ∷ xs) ys stack = read_back-append xs ys (stacked x stack)
 
+-- reading a tree's list back puts the tree on the stack
 pub read_back-flat : {T : Type 0} (n : TreeNode T) (stack : List (TreeNode T)) → read_back (flat n) stack ≡ n ∷ stack
 read_back-flat (Leaf x) stack = refl
 read_back-flat {T} (Fork v cut below above) stack =
@@ -28,7 +29,7 @@ first_or : {T : Type 0} → T → List T → T
 first_or x [] = x
 first_or x (y ∷ ys) = y
 
--- so no two trees have one list
+-- two trees with the same list are the same
 pub flat-same : {T : Type 0} (a b : TreeNode T) → flat a ≡ flat b → a ≡ b
 unfolding first_or
 flat-same a b e = ap (first_or a) (sym (read_back-flat a []) ∙ ap (λ xs. read_back xs []) e ∙ read_back-flat b [])
@@ -44,12 +45,12 @@ flat-long (Leaf x) = omega arith
 flat-long (Fork v cut below above) =
     omega (arith, length-append (flat below ++ flat above) (Cut v cut (length (flat below)) ∷ []))
 
--- what is added to no items is all there is
+-- if the list of a tree is added to no items, the new list is that of the tree
 pub all_added : {T : Type 0} (old new : List (TreeItem T)) (n : TreeNode T) → old ≡ [] → new ≡ old ++ flat n →
     new ≡ flat n
 all_added {T} old new n none added = added ∙ ap (λ (xs : List (TreeItem T)). xs ++ flat n) none
 
--- ---- the last item tells what the tree is
+-- ---- the last item shows what the tree is
 
 module _ {A : Type 0} where
   last_or : A → List A → A
@@ -61,10 +62,11 @@ module _ {A : Type 0} where
   last-append d x [] = refl
   last-append d x (y ∷ ys) = last-append y x ys
 
-  -- two lists with one item more each
+  -- if two lists with one item more each are equal, their last items are
   pub last_same : (xs ys : List A) (x y : A) → xs ++ (x ∷ []) ≡ ys ++ (y ∷ []) → x ≡ y
   last_same xs ys x y e = sym (last-append x x xs) ∙ ap (last_or x) e ∙ last-append x y ys
 
+  -- the items before the last one are the same too
   pub rest_same : (xs ys : List A) (x y : A) → xs ++ (x ∷ []) ≡ ys ++ (y ∷ []) → xs ≡ ys
   rest_same xs ys x y e =
       let long : length xs ≡ length ys =
@@ -72,7 +74,7 @@ module _ {A : Type 0} where
       sym (take-append_seam xs (x ∷ [])) ∙ ap (take (length xs)) e ∙ ap (λ n. take n (ys ++ (y ∷ []))) long
       ∙ take-append_seam ys (y ∷ [])
 
--- what stands before the last item, and which it is
+-- the items before the last one, and the last one itself
 abbrev pub sides_of : {T : Type 0} → TreeNode T → List (TreeItem T)
 sides_of (Leaf x) = []
 sides_of (Fork v cut below above) = flat below ++ flat above
@@ -81,12 +83,14 @@ abbrev pub item_of : {T : Type 0} → TreeNode T → TreeItem T
 item_of (Leaf x) = Value x
 item_of (Fork v cut below above) = Cut v cut (length (flat below))
 
+-- a tree's list is the items of its sides, and then its own item
 pub flat-last : {T : Type 0} (n : TreeNode T) → flat n ≡ sides_of n ++ (item_of n ∷ [])
 flat-last (Leaf x) = refl
 flat-last (Fork v cut below above) = refl
 
 -- the parts of a list that is cut at the first part's length
 module _ {A : Type 0} (front back : List A) (n : ℕ) (long : n ≡ length front) where
+  -- up to the first part's length it is the first part, and from there on the second
   pub take_front : take n (front ++ back) ≡ front
   take_front = ap (λ m. take m (front ++ back)) long ∙ take-append_seam front back
 
@@ -95,13 +99,14 @@ module _ {A : Type 0} (front back : List A) (n : ℕ) (long : n ≡ length front
 
 -- ---- the top
 
+-- a value is no cut, nor a cut a value
 pub value_is_no_cut : {T : Type 0} {x : T} {v cut n : ℕ} → Value x ≡ Cut v cut n → ⊥
 value_is_no_cut e = cc
 
 pub cut_is_no_value : {T : Type 0} {x : T} {v cut n : ℕ} → Cut v cut n ≡ Value x → ⊥
 cut_is_no_value e = cc
 
--- a list whose last item is a value
+-- a list whose last item is a value is that of a leaf
 pub shows_value : {T : Type 0} (n : TreeNode T) (items sides : List (TreeItem T)) (x : T) → items ≡ flat n →
     items ≡ sides ++ (Value x ∷ []) →
     items ≡ flat (Leaf x)
@@ -110,7 +115,7 @@ shows_value (Leaf y) items sides x is last =
 shows_value (Fork v cut below above) items sides x is last = absurd (value_is_no_cut
     (last_same sides (flat below ++ flat above) (Value x) (Cut v cut (length (flat below))) (sym last ∙ is)))
 
--- and one whose last item is a cut
+-- a list whose last item is a cut is that of a fork: the items before it, cut at its number, are those of the sides
 pub shows_cut : {T : Type 0} (n : TreeNode T) (items sides : List (TreeItem T)) (v cut m : ℕ) → items ≡ flat n →
     items ≡ sides ++ (Cut v cut m ∷ []) →
     (x : TreeNode T) × (y : TreeNode T) × (take (min m (length sides)) sides ≡ flat x) ×

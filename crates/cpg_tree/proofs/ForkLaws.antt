@@ -15,6 +15,7 @@ use Rattle.cpg_tree.proofs.Flats.{flat-same, last_same, rest_same, take_front, d
 -- ---- of trees
 
 module _ {T : Type 0} (v cut : ℕ) (below above : TreeNode T) where
+  -- if both sides are the same tree, that tree is a fork of them
   pub forked_same : IsForked v cut below below below
   forked_same = record {
     made = record {
@@ -31,6 +32,7 @@ module _ {T : Type 0} (v cut : ℕ) (below above : TreeNode T) where
     pass = λ test is p q. p;
   }
 
+  -- the plain fork of two trees is a fork of them
   pub forked_plain : v < 256 → IsForked v cut below above (Fork v cut below above)
   forked_plain small = record {
     made = record {
@@ -51,6 +53,8 @@ module _ {T : Type 0} (v cut : ℕ) (below above : TreeNode T) where
     farther : (s : Scenario) → number_of s v ≤ cut → number_of s v ≤ far
     farther s h = omega (arith, h, less)
 
+    -- if the side above is itself a fork on the variable, farther up, with the same side below, it is a fork of both
+    -- sides
     pub forked_met : IsForked v cut below (Fork v far below above) (Fork v far below above)
     forked_met = record {
       made = record {
@@ -68,7 +72,8 @@ module _ {T : Type 0} (v cut : ℕ) (below above : TreeNode T) where
       pass = λ test is p q. q;
     }
 
--- a tree whose list begins with that of another and ends in a cut behind it
+-- a tree whose list begins with that of another and ends in a cut behind it is a fork with that other as its side
+-- below
 pub met_is : {T : Type 0} (a b : TreeNode T) (rest : List (TreeItem T)) (v far : ℕ) →
     flat a ≡ flat b ++ rest ++ (Cut v far (length (flat b)) ∷ []) →
     (y : TreeNode T) × (a ≡ Fork v far b y)
@@ -86,6 +91,7 @@ met_is {T} (Fork u cut x y) b rest v far e =
 
 -- ---- of lists
 
+-- given: a list that ends in the lists of two trees, split at `start` and `middle`
 module _ {T : Type 0} (start middle : ℕ) (old before : List (TreeItem T)) (below above : TreeNode T)
     (split : IsSplit start middle old before below above) where
   behind : middle ≡ length (before ++ flat below)
@@ -111,7 +117,7 @@ module _ {T : Type 0} (start middle : ℕ) (old before : List (TreeItem T)) (bel
   again = omega (arith, split.first, split.second)
 
   module _ (v cut : ℕ) (new : List (TreeItem T)) where
-    -- both sides are equal
+    -- both sides are equal: one of them is the fork
     pub forks_same : drop start (take middle old) ≡ drop middle old → new ≡ take middle old →
         AddsTree (IsForked v cut below above) before new
     forks_same same cutoff =
@@ -121,7 +127,7 @@ module _ {T : Type 0} (start middle : ℕ) (old before : List (TreeItem T)) (bel
           subst (λ (n : TreeNode T). IsForked v cut below n below) one (forked_same v cut below above),
         )
 
-    -- the side below is met again
+    -- the side below is repeated on the side above: the side above is the fork
     pub forks_repeated : RepeatsBelow (drop start (take middle old)) (drop middle old) v cut →
         new ≡ take start old ++ drop (start + (middle - start)) old
         → AddsTree (IsForked v cut below above) before new
@@ -135,7 +141,7 @@ module _ {T : Type 0} (start middle : ℕ) (old before : List (TreeItem T)) (bel
           subst (λ (n : TreeNode T). IsForked v cut below n n) (sym is.1) (forked_met v cut below is.0 far less),
         )
 
-    -- else the fork is added
+    -- otherwise the fork itself is added
     pub forks_plain : v < 256 → new ≡ old ++ (Cut v cut (middle - start) ∷ []) →
         AddsTree (IsForked v cut below above) before new
     forks_plain small added = (

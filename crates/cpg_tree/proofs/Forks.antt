@@ -15,6 +15,8 @@ use Rattle.cpg_tree.specs.declared.asked.Highs.{Highs}
 -- ---- what a scenario finds
 
 module _ {T : Type 0} (v cut : ℕ) (below : TreeNode T) (above : TreeNode T) (s : Scenario) where
+  -- a scenario whose number is at most the cut finds the value and the ranges of the side below; the variable's own
+  -- range ends at the cut
   module _ (h : number_of s v ≤ cut) where
     goes_below : nat_le (number_of s v) cut ≡ true
     goes_below = le-leb (number_of s v) cut h
@@ -32,6 +34,8 @@ module _ {T : Type 0} (v cut : ℕ) (below : TreeNode T) (above : TreeNode T) (s
     pub high_here : (k : ℕ) → high_at k (Fork v cut below above) s v ≡ min cut (high_at k below s v)
     high_here k = cond-true (nat_le (number_of s v) cut) _ _ goes_below ∙ cond-true (v == v) _ _ (eq-eqb v v refl)
 
+  -- a scenario whose number is above the cut finds those of the side above; the variable's own range begins above the
+  -- cut
   module _ (h : cut < number_of s v) where
     goes_above : nat_le (number_of s v) cut ≡ false
     goes_above = lt-leb (number_of s v) cut h
@@ -51,9 +55,11 @@ module _ {T : Type 0} (v cut : ℕ) (below : TreeNode T) (above : TreeNode T) (s
 
 -- ---- made of two sides
 
+-- given: the fact and the ranges that a result tree is to have in a domain, and a cut
 module _ {T : Type 0} (domain : Scenario → Type 0) (fact : Scenario → T → Type 0) (low : Scenario → ℕ → ℕ)
     (high : ℕ → Scenario → ℕ → ℕ) (v cut : ℕ) where
-  -- what a scenario that goes to a side is told there
+  -- what holds for a scenario that goes to a side: it lies in the side's domain, and the side's fact and ranges imply
+  -- those of the whole
   pub record Side (inner : Scenario → Type 0) (inner_fact : Scenario → T → Type 0) (inner_low : Scenario → ℕ → ℕ)
       (inner_high : ℕ → Scenario → ℕ → ℕ) (s : Scenario) : Type 0 where
     pub lies : inner s
@@ -61,6 +67,10 @@ module _ {T : Type 0} (domain : Scenario → Type 0) (fact : Scenario → T → 
     pub lows : (u : ℕ) → u ≢ v → inner_low s u ≤ low s u
     pub highs : (k u : ℕ) → u ≢ v → high k s u ≤ inner_high k s u
 
+  -- given: a result tree for each side and a fork of the two, and each scenario of the domain lies in the domain of
+  -- the side that it goes to
+  -- `first`, `first_low`, `first_high`: for scenarios that go below the cut, on all variables and then on v itself;
+  -- `second`, `second_low`, `second_high`: the same for scenarios that go above
   module _ (one : Scenario → Type 0) (one_fact : Scenario → T → Type 0) (one_low : Scenario → ℕ → ℕ)
       (one_high : ℕ → Scenario → ℕ → ℕ)
       (two : Scenario → Type 0) (two_fact : Scenario → T → Type 0) (two_low : Scenario → ℕ → ℕ)
@@ -73,12 +83,14 @@ module _ {T : Type 0} (domain : Scenario → Type 0) (fact : Scenario → T → 
       (second : (s : Scenario) → domain s → cut < number_of s v → Side two two_fact two_low two_high s)
       (second_low : (s : Scenario) → domain s → cut < number_of s v → max (cut + 1) (two_low s v) ≤ low s v)
       (second_high : (k : ℕ) (s : Scenario) → domain s → cut < number_of s v → high k s v ≤ two_high k s v) where
+    -- the value of the fork has the fact: by the side that the scenario goes to
     value_is : (s : Scenario) → domain s → (cut < number_of s v) ⊎ (number_of s v ≤ cut) → fact s (value_at r s)
     value_is s d (inr h) = let side = first s d h in
         subst (fact s) (sym (fork.value_below s h)) (side.gives (value_at lo s) (of_lo.value s side.lies))
     value_is s d (inl h) = let side = second s d h in
         subst (fact s) (sym (fork.value_above s h)) (side.gives (value_at hi s) (of_hi.value s side.lies))
 
+    -- the low that the fork gives u is not above the wanted low: by the side that s goes to, and by whether u is v
     low_is : (s : Scenario) (u : ℕ) → domain s → (cut < number_of s v) ⊎ (number_of s v ≤ cut) → (u ≡ v) ⊎ (u ≢ v) →
         low_at r s u ≤ low s u
     low_is s u d (inr h) (inl e) = let side = first s d h in
@@ -92,6 +104,7 @@ module _ {T : Type 0} (domain : Scenario → Type 0) (fact : Scenario → T → 
     low_is s u d (inl h) (inr n) = let side = second s d h in
         omega (arith, fork.low_above s u h n, of_hi.lows s u side.lies, side.lows u n)
 
+    -- the high that the fork gives u is not below the wanted high, by the same four cases
     high_is : (k : ℕ) (s : Scenario) (u : ℕ) → domain s → (cut < number_of s v) ⊎ (number_of s v ≤ cut) →
         (u ≡ v) ⊎ (u ≢ v) →
         high k s u ≤ high_at k r s u
@@ -105,6 +118,7 @@ module _ {T : Type 0} (domain : Scenario → Type 0) (fact : Scenario → T → 
     high_is k s u d (inl h) (inr n) = let side = second s d h in
         omega (arith, fork.high_above k s u h, of_hi.highs k s u side.lies, side.highs k u n)
 
+    -- then the fork is a result tree for the whole domain
     pub made_of_sides : IsResultTree domain fact low high r
     made_of_sides = record {
       value = λ s d. value_is s d (cases_lt cut (number_of s v));
@@ -112,7 +126,7 @@ module _ {T : Type 0} (domain : Scenario → Type 0) (fact : Scenario → T → 
       highs = λ k s u d. high_is k s u d (cases_lt cut (number_of s v)) (cases_eq u v);
     }
 
--- what tells more is made too
+-- a result tree for a fact and given ranges is one for any weaker fact and narrower ranges
 pub made_weaker : {T : Type 0} (domain : Scenario → Type 0) (fact other_fact : Scenario → T → Type 0)
     (low other_low : Scenario → ℕ → ℕ) (high other_high : ℕ → Scenario → ℕ → ℕ) (r : TreeNode T) →
     IsResultTree domain fact low high r →
@@ -126,7 +140,7 @@ made_weaker domain fact other_fact low other_low high other_high r made gives lo
   highs = λ k s u d. omega (arith, made.highs k s u d, highs k s u d);
 }
 
--- what is made in some scenarios is made in fewer
+-- a result tree in a domain is one in any smaller domain
 pub made_narrower : {T : Type 0} (domain fewer : Scenario → Type 0) (fact : Scenario → T → Type 0)
     (low : Scenario → ℕ → ℕ) (high : ℕ → Scenario → ℕ → ℕ) (r : TreeNode T) →
     IsResultTree domain fact low high r →
@@ -137,7 +151,7 @@ made_narrower domain fewer fact low high r made only = record {
   highs = λ k s u d. made.highs k s u (only s d);
 }
 
--- what is made in the space that is asked for is made in both
+-- answers made in the space that is asked for are made in both spaces
 pub made_in_both : {T U V : Type 0} (answers : T → U → V → Type 0) (spaces : SpacePair) (a : TreeNode T)
     (b : TreeNode U) (r : TreeNode V) →
     IsJoinOf answers spaces.asked a b r →
@@ -145,7 +159,7 @@ pub made_in_both : {T U V : Type 0} (answers : T → U → V → Type 0) (spaces
 made_in_both answers spaces a b r made =
     made_narrower (IsInSpace spaces.asked) (IsInBothSpaces spaces) _ _ _ r made (λ s d. d.0)
 
--- what is made with the part of a tree that the space walked comes to is made with the tree
+-- answers made with the part of a tree that the space walked comes to are made with the tree
 pub both_whole : {T U V : Type 0} (answers : T → U → V → Type 0) (spaces : SpacePair) (a : TreeNode T)
     (b part : TreeNode U) (r : TreeNode V) →
     IsTreeWithin spaces.walked b part →
@@ -154,7 +168,7 @@ both_whole answers spaces a b part r same made = made_weaker (IsInBothSpaces spa
     (λ s z d t. subst (λ y. answers (value_at a s) y z) (same.value s d.1) t)
     (λ s u d. omega (arith, same.lows s u d.1)) (λ k s u d. omega (arith, same.highs k s u d.1))
 
--- what is made with the part of a tree that a space comes to is made with the tree
+-- answers made with the part of a tree that a space comes to are made with the tree
 pub join_whole : {T U V : Type 0} (answers : T → U → V → Type 0) (space : Space) (a : TreeNode T) (b part : TreeNode U)
     (r : TreeNode V) →
     IsTreeWithin space b part →
@@ -199,6 +213,7 @@ module _ {T U : Type 0} (fact : Scenario → T → U → Type 0) where
     abbrev whole : TreeNode T
     whole = Fork v cut below above
 
+    -- if all scenarios go below, a result tree of the side below is one of the fork
     pub one_below : IsOne domain below r → ((s : Scenario) → domain s → number_of s v ≤ cut) →
         IsOne domain (Fork v cut below above) r
     one_below made only = made_weaker domain _ _ _ _ _ _ r made
@@ -210,6 +225,7 @@ module _ {T U : Type 0} (fact : Scenario → T → U → Type 0) where
           | inr n ↦ omega (arith, high_below v cut below above s (only s d) k u n)
         ])
 
+    -- if all scenarios go above, a result tree of the side above is one of the fork
     pub one_above : IsOne domain above r → ((s : Scenario) → domain s → cut < number_of s v) →
         IsOne domain (Fork v cut below above) r
     one_above made only = made_weaker domain _ _ _ _ _ _ r made
@@ -221,6 +237,7 @@ module _ {T U : Type 0} (fact : Scenario → T → U → Type 0) where
         ])
         (λ k s u d. omega (arith, high_above v cut below above s (only s d) k u))
 
+    -- a fork of result trees of the two sides is a result tree of the fork
     pub one_fork : (one two : Scenario → Type 0) (lo hi : TreeNode U) → IsOne one below lo → IsOne two above hi →
         IsForkOf v cut lo hi r →
         ((s : Scenario) → domain s → number_of s v ≤ cut → one s) →
@@ -258,6 +275,7 @@ module _ {T U : Type 0} (fact : Scenario → T → U → Type 0) (more_low : Sce
     abbrev both : TreeNode T
     both = Fork v cut below above
 
+    -- if all scenarios go below, a result tree of the side below is one of the fork
     pub two_below : IsTwo domain below r → ((s : Scenario) → domain s → number_of s v ≤ cut) →
         IsTwo domain (Fork v cut below above) r
     two_below made only = made_weaker domain _ _ _ _ _ _ r made
@@ -282,6 +300,7 @@ module _ {T U : Type 0} (fact : Scenario → T → U → Type 0) (more_low : Sce
           )
         ])
 
+    -- if all scenarios go above, a result tree of the side above is one of the fork
     pub two_above : IsTwo domain above r → ((s : Scenario) → domain s → cut < number_of s v) →
         IsTwo domain (Fork v cut below above) r
     two_above made only = made_weaker domain _ _ _ _ _ _ r made
@@ -306,6 +325,7 @@ module _ {T U : Type 0} (fact : Scenario → T → U → Type 0) (more_low : Sce
           ap (λ x. more_high k s x u) (value_above v cut below above s (only s d)),
         ))
 
+    -- a fork of result trees of the two sides is a result tree of the fork
     pub two_fork : (one two : Scenario → Type 0) (lo hi : TreeNode U) → IsTwo one below lo → IsTwo two above hi →
         IsForkOf v cut lo hi r →
         ((s : Scenario) → domain s → number_of s v ≤ cut → one s) →
@@ -349,16 +369,17 @@ module _ {T U : Type 0} (fact : Scenario → T → U → Type 0) (more_low : Sce
           ap (λ x. more_high k s x v) (value_above v cut below above s h),
         ))
 
--- what follows of an answer holds of it too
+-- if an answer has a fact, it has what follows from that
 pub of_answer : {T E : Type 0} (r : Result T E) (P Q : T → Type 0) → IfOk r P → ((x : T) → P x → Q x) → IfOk r Q
 of_answer (Ok x) P Q h f = f x h
 of_answer (Err e) P Q h f = h
 
+-- an answer that has two facts has both at once
 pub of_both : {T E : Type 0} (r : Result T E) (P Q : T → Type 0) → IfOk r P → IfOk r Q → IfOk r (λ x. P x × Q x)
 of_both (Ok x) P Q p q = (p, q)
 of_both (Err e) P Q p q = p
 
--- what a test that failed tells
+-- if a test is false, what it implies when it is false holds; the same for true
 pub from_false : {P : Type 0} (b : Bool) → b ≡ false → OnFalse b P → P
 from_false true e h = cc
 from_false false e h = h
@@ -367,7 +388,7 @@ pub from_true : {P : Type 0} (b : Bool) → b ≡ true → OnTrue b P → P
 from_true true e h = h
 from_true false e h = cc
 
--- the same of a tree that is a fork
+-- given: a tree that is equal to a fork; the three lemmas above hold for it
 module _ {T U : Type 0} (fact : Scenario → T → U → Type 0) (domain : Scenario → Type 0) (v cut : ℕ)
     (below above n : TreeNode T) (is : n ≡ Fork v cut below above)
     (r : TreeNode U) where
@@ -381,6 +402,7 @@ module _ {T U : Type 0} (fact : Scenario → T → U → Type 0) (domain : Scena
   one_above_of made only =
       subst (λ (m : TreeNode T). IsOne fact domain m r) (sym is) (one_above fact domain v cut below above r made only)
 
+  -- a fork of result trees of the two sides is a result tree of the whole tree
   pub one_fork_of : (one two : Scenario → Type 0) (lo hi : TreeNode U) → IsOne fact one below lo →
       IsOne fact two above hi →
       IsForkOf v cut lo hi r →
@@ -390,7 +412,7 @@ module _ {T U : Type 0} (fact : Scenario → T → U → Type 0) (domain : Scena
       subst (λ (m : TreeNode T). IsOne fact domain m r) (sym is)
       (one_fork fact domain v cut below above r one two lo hi of_lo of_hi fork goes_one goes_two)
 
--- the same of a tree that is a fork
+-- given: a tree that is equal to a fork; the three lemmas above hold for it
 module _ {T U : Type 0} (fact : Scenario → T → U → Type 0) (more_low : Scenario → T → ℕ → ℕ)
     (more_high : ℕ → Scenario → T → ℕ → ℕ) (domain : Scenario → Type 0) (v cut : ℕ)
     (below above n : TreeNode T) (is : n ≡ Fork v cut below above) (r : TreeNode U) where
@@ -404,6 +426,7 @@ module _ {T U : Type 0} (fact : Scenario → T → U → Type 0) (more_low : Sce
   two_above_of made only = subst (λ (m : TreeNode T). IsTwo fact more_low more_high domain m r) (sym is)
       (two_above fact more_low more_high domain v cut below above r made only)
 
+  -- a fork of result trees of the two sides is a result tree of the whole tree
   pub two_fork_of : (one two : Scenario → Type 0) (lo hi : TreeNode U) → IsTwo fact more_low more_high one below lo →
       IsTwo fact more_low more_high two above hi →
       IsForkOf v cut lo hi r →
@@ -413,10 +436,11 @@ module _ {T U : Type 0} (fact : Scenario → T → U → Type 0) (more_low : Sce
       subst (λ (m : TreeNode T). IsTwo fact more_low more_high domain m r) (sym is)
       (two_fork fact more_low more_high domain v cut below above r one two lo hi of_lo of_hi fork goes_one goes_two)
 
--- the same of a tree that is one value
+-- given: a tree that is equal to a leaf
 module _ {T U : Type 0} (fact : Scenario → T → U → Type 0) (more_low : Scenario → T → ℕ → ℕ)
     (more_high : ℕ → Scenario → T → ℕ → ℕ) (domain : Scenario → Type 0) (x : T) (n : TreeNode T)
     (is : n ≡ Leaf x) (r : TreeNode U) where
+  -- a result tree for the one value is one of the tree
   pub two_leaf_of : IsResultTree domain (λ s z. fact s x z) (λ s u. more_low s x u) (λ k s u. more_high k s x u) r →
       IsTwo fact more_low more_high domain n r
   two_leaf_of made = subst (λ (m : TreeNode T). IsTwo fact more_low more_high domain m r) (sym is)
@@ -429,7 +453,7 @@ pub passes_parts : {T : Type 0} (test : ℕ → Bool) (v cut : ℕ) (below above
     DoForksPass test below × DoForksPass test above
 passes_parts test v cut below above n is pass = subst (DoForksPass test) is pass
 
--- if such a tree fits, so do its sides
+-- if a tree that is equal to a fork fits, so does the fork
 pub fit_parts : {T : Type 0} (space : Space) (v cut : ℕ) (below above n : TreeNode T) → n ≡ Fork v cut below above →
     IsFit space n →
     IsFit space (Fork v cut below above)
@@ -437,12 +461,14 @@ fit_parts space v cut below above n is fit = subst (IsFit space) is fit
 
 -- ---- two spaces, put back above a cut
 
+-- given: two spaces whose highs were lowered, and that get their highs back
 module _ (spaces shut inner opened : SpacePair) (v : ℕ) (highs : Highs) (back : lowered shut v highs ≡ spaces)
     (same : inner ≡ shut) (put : opened ≡ lowered inner v highs) where
+  -- then they are the two spaces from before
   pub both_opened : opened ≡ spaces
   both_opened = put ∙ ap (λ (r : SpacePair). lowered r v highs) same ∙ back
 
-  -- what is above the cut in them is in those closed below it
+  -- a scenario above the cut lies in the spaces that are closed below it
   pub both_reopened : (upper : SpacePair) (cut : ℕ) →
       ((s : Scenario) → IsInBothSpaces opened s → cut < number_of s v → IsInBothSpaces upper s) → (s : Scenario) →
       IsInBothSpaces spaces s
@@ -452,11 +478,12 @@ module _ (spaces shut inner opened : SpacePair) (v : ℕ) (highs : Highs) (back 
 
 -- ---- a fork at which all scenarios of two spaces go one way
 
+-- given: a fork, and the part of another tree that the space walked comes to
 module _ {T U V : Type 0} (answers : T → U → V → Type 0) (spaces inner : SpacePair) (v cut : ℕ)
     (below above n : TreeNode T) (is : n ≡ Fork v cut below above)
     (other part : TreeNode U) (same : IsTreeWithin spaces.walked other part) (r : TreeNode V) where
-  -- what is made in the spaces left, with the part of the other tree that the space walked comes to, is made with both
-  -- trees
+  -- answers made in the spaces left, with the part of the other tree that the space walked comes to, are answers of
+  -- both trees
   pub made_all_below : IsInner spaces (λ s. number_of s v ≤ cut) inner →
       IsJoinIn answers (IsInBothSpaces inner) below part r →
       IsJoinIn answers (IsInBothSpaces spaces) n other r

@@ -17,13 +17,16 @@ abbrev pub state_in : {T : Type 0} → ℕ → List (TreeItem T) → TreeState T
 state_in k items = record { faults = k; paths = paths_in k items }
 
 module _ {T : Type 0} (k : ℕ) (items : List (TreeItem T)) where
+  -- the state that a list gives back is that of its tree
   pub state_is : (n : TreeNode T) → items ≡ flat n → state_in k items ≡ state k n
   state_is n are = ap (λ (ps : List (Path T)). record { faults = k; paths = ps }) (paths_in-flat k items n are)
 
+  -- in a good list each scenario of at most k faults is on one path
   pub one_each : IsGoodList k items → HasOnePathEach k (paths_in k items)
   one_each good =
       subst (HasOnePathEach k) (sym (paths_in-flat k items good.0 good.1)) (λ s few. one_path k good.0 good.2 s few)
 
+  -- each path of a good list is tidy
   pub all_tidy : IsGoodList k items → All (IsTidyPath k) (paths_in k items)
   all_tidy good = subst (λ (ps : List (Path T)). All (IsTidyPath k) ps) (sym (paths_in-flat k items good.0 good.1))
       (tidy_all k good.0 good.2)

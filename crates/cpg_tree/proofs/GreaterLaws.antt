@@ -21,12 +21,14 @@ use Rattle.cpg_tree.proofs.JoinLaws.{split_of}
 
 -- ---- parts with bounds
 
+-- given: a fork, and the list of its items
 module _ {T : Type 0} (v cut : ℕ) (x y n : TreeNode T) (items : List (TreeItem T)) (is : items ≡ flat (Fork v cut x y))
     (are : items ≡ flat n) where
   fork_is : n ≡ Fork v cut x y
   fork_is = flat-same n (Fork v cut x y) (sym are ∙ is)
 
   module _ (space : Space) (bounds side spans : List Span) (part : List (TreeItem T)) where
+    -- if all scenarios of the space go one way, the part of that side, with its spans, is the part of the fork
     pub bounded_above : ((s : Scenario) → IsInSpace space s → cut < number_of s v) →
         ((number : T → ℕ) → bounds ≡ bounds_in number (Fork v cut x y) → side ≡ bounds_in number y) →
         IsBoundedPartList space y side part spans → IsBoundedPartList space n bounds part spans
@@ -40,6 +42,7 @@ module _ {T : Type 0} (v cut : ℕ) (x y n : TreeNode T) (items : List (TreeItem
       λ number e. p.3 number (cuts number (e ∙ ap (bounds_in number) fork_is)),
     )
 
+    -- if all scenarios of the space go below, the part of the side below is the part of the fork
     pub bounded_below : ((s : Scenario) → IsInSpace space s → number_of s v ≤ cut) →
         ((number : T → ℕ) → bounds ≡ bounds_in number (Fork v cut x y) → side ≡ bounds_in number x) →
         IsBoundedPartList space x side part spans → IsBoundedPartList space n bounds part spans
@@ -61,7 +64,7 @@ pub side_bounded : {T : Type 0} (number : T → ℕ) (n side : TreeNode T) (item
 side_bounded number n side items part bounds spans is are part_is cuts =
     (side, part_is, cuts (is.2 ∙ ap (bounds_in number) (flat-same is.0 n (sym is.1 ∙ are))))
 
--- and so does a part
+-- the part of a tree that a space comes to has the spans of its forks, too
 pub part_bounded : {T : Type 0} (number : T → ℕ) (space : Space) (items part : List (TreeItem T))
     (bounds spans : List Span) →
     IsBounded number items bounds →
@@ -70,12 +73,14 @@ part_bounded number space items part bounds spans is parts = let p = parts is.0 
 
 -- ---- one of two trees, with the part of the other that the space walked comes to
 
+-- given: two trees, and the part of the second that the space walked comes to
 module _ {T U V : Type 0} (number : T → ℕ) (other_number : U → ℕ) (makes : ℕ → V → Type 0) (spaces : SpacePair)
     (n : TreeNode T) (m part : TreeNode U) (is : IsPartInSpace spaces.walked m part)
     (old new : List (TreeItem V)) where
   abbrev answers : T → U → V → Type 0
   answers x y z = makes (max (number x) (other_number y)) z
 
+  -- if the first tree is at least the part everywhere, its own values are added
   pub own_added : IsAtLeast number other_number n part →
       AddsTree (IsFilled (λ (x : ℕ) (y : T) (z : V). makes (max x (number y)) z) spaces.asked 0 n) old new
       → AddsTree (IsJoinedIn answers spaces n m) old new
@@ -90,6 +95,7 @@ module _ {T U V : Type 0} (number : T → ℕ) (other_number : U → ℕ) (makes
     },
   )
 
+  -- if the part is at least the first tree everywhere, the part's values are added
   pub other_added : IsAtLeast other_number number part n →
       AddsTree (IsFilled (λ (x : ℕ) (y : U) (z : V). makes (max x (other_number y)) z) spaces.asked 0 part) old new →
       AddsTree (IsJoinedIn answers spaces n m) old new
@@ -104,6 +110,7 @@ module _ {T U V : Type 0} (number : T → ℕ) (other_number : U → ℕ) (makes
     },
   )
 
+  -- if the first tree is one value, the greater of that value and the part's is added
   pub leaf_added : (x : T) (at : ℕ) → n ≡ Leaf x → at ≡ number x →
       AddsTree (IsFilled (λ (x : ℕ) (y : U) (z : V). makes (max x (other_number y)) z) spaces.asked at part) old new →
       AddsTree (IsJoinedIn answers spaces n m) old new
@@ -120,12 +127,14 @@ module _ {T U V : Type 0} (number : T → ℕ) (other_number : U → ℕ) (makes
 
 -- ---- a fork and such a part
 
+-- given: a fork, and the part of another tree that the space walked comes to
 module _ {T U V : Type 0} (answers : T → U → V → Type 0) (spaces : SpacePair) (v cut : ℕ) (x y n : TreeNode T)
     (items : List (TreeItem T)) (is : items ≡ flat (Fork v cut x y)) (are : items ≡ flat n)
     (m part : TreeNode U) (part_is : IsPartInSpace spaces.walked m part) (old new : List (TreeItem V)) where
   whole : n ≡ Fork v cut x y
   whole = fork_is v cut x y n items is are
 
+  -- if all scenarios of both spaces go one way, the answers added for that side are those of the fork
   pub added_below : (inner : SpacePair) → IsInner spaces (λ s. number_of s v ≤ cut) inner →
       AddsTree (IsJoinedIn answers inner x part) old new →
       AddsTree (IsJoinedIn answers spaces n m) old new
@@ -139,6 +148,7 @@ module _ {T U V : Type 0} (answers : T → U → V → Type 0) (spaces : SpacePa
     },
   )
 
+  -- if all scenarios go above, the answers added for the side above are those of the fork
   pub added_above : (inner : SpacePair) → IsInner spaces (λ s. cut < number_of s v) inner →
       AddsTree (IsJoinedIn answers inner y part) old new →
       AddsTree (IsJoinedIn answers spaces n m) old new
@@ -152,12 +162,15 @@ module _ {T U V : Type 0} (answers : T → U → V → Type 0) (spaces : SpacePa
     },
   )
 
+  -- given: the spaces open on both sides of the cut, the spaces closed above it and below it, and the lists after
+  -- either side
   module _ (met shut upper : SpacePair) (opens : AreBothOpen spaces v cut) (same : met ≡ spaces)
       (shut_is : shut.asked ≡ below_cut met.asked v cut) (upper_is : upper.asked ≡ above_cut met.asked v cut)
       (lies_shut : (s : Scenario) → IsInBothSpaces met s → number_of s v ≤ cut → IsInBothSpaces shut s)
       (lies_upper : (s : Scenario) → IsInBothSpaces met s → cut < number_of s v → IsInBothSpaces upper s)
       (start middle : ℕ) (lower higher : List (TreeItem V)) (first : start ≡ length old)
       (second : middle ≡ length lower) (forks : ForksEnd start middle v cut higher new) where
+    -- the answers for both sides, joined by a fork, are those of the fork
     pub added_fork : AddsTree (IsJoinedIn answers shut x part) old lower →
         AddsTree (IsJoinedIn answers upper y part) lower higher →
         AddsTree (IsJoinedIn answers spaces n m) old new
@@ -186,12 +199,13 @@ module _ {T U V : Type 0} (answers : T → U → V → Type 0) (spaces : SpacePa
 
 -- ---- two whole trees in one space
 
+-- given: two trees, and a function of the greater of their numbers
 module _ {T U V : Type 0} (number : T → ℕ) (other_number : U → ℕ) (makes : ℕ → V → Type 0) (space : Space)
     (n : TreeNode T) (m : TreeNode U) (old new : List (TreeItem V)) where
   abbrev both_answers : T → U → V → Type 0
   both_answers x y z = makes (max (number x) (other_number y)) z
 
-  -- of one tree alone, if its number is the greater one
+  -- if one tree's number is always the greater, the answers made of that tree alone are those of both
   first_alone : (at : ℕ) →
       ((s : Scenario) → max at (number (value_at n s)) ≡ max (number (value_at n s)) (other_number (value_at m s))) →
       IsFit space n →
@@ -211,6 +225,7 @@ module _ {T U V : Type 0} (number : T → ℕ) (other_number : U → ℕ) (makes
     },
   )
 
+  -- if the second tree's number is always the greater, the answers made of that tree alone are those of both
   second_alone : (at : ℕ) → ((s : Scenario) →
       max at (other_number (value_at m s)) ≡ max (number (value_at n s)) (other_number (value_at m s))) →
       IsFit space m →
@@ -230,28 +245,33 @@ module _ {T U V : Type 0} (number : T → ℕ) (other_number : U → ℕ) (makes
     },
   )
 
+  -- if one tree is one value, the greater of that value and the other tree's is added
   pub first_added : (x : T) (at : ℕ) → n ≡ Leaf x → at ≡ number x → IsFit space m →
       AddsTree (IsMapped (λ (y : U) (z : V). makes (max at (other_number y)) z) m) old new →
       AddsTree (IsJoined both_answers space n m) old new
   first_added x at leaf value =
       second_alone at (λ s. omega (arith, value, ap (λ (c : TreeNode T). number (value_at c s)) leaf))
 
+  -- if the second tree is one value, the greater of that value and the first tree's is added
   pub second_added : (y : U) (at : ℕ) → m ≡ Leaf y → at ≡ other_number y → IsFit space n →
       AddsTree (IsMapped (λ (x : T) (z : V). makes (max at (number x)) z) n) old new →
       AddsTree (IsJoined both_answers space n m) old new
   second_added y at leaf value =
       first_alone at (λ s. omega (arith, value, ap (λ (c : TreeNode U). other_number (value_at c s)) leaf))
 
+  -- if one tree is at least the other everywhere, its values are added
   pub first_whole : IsAtLeast number other_number n m → IsFit space n →
       AddsTree (IsMapped (λ (x : T) (z : V). makes (max 0 (number x)) z) n) old new
       → AddsTree (IsJoined both_answers space n m) old new
   first_whole least = first_alone 0 (λ s. omega (arith, least s s))
 
+  -- if the second tree is at least the first everywhere, its values are added
   pub second_whole : IsAtLeast other_number number m n → IsFit space m →
       AddsTree (IsMapped (λ (y : U) (z : V). makes (max 0 (other_number y)) z) m) old new
       → AddsTree (IsJoined both_answers space n m) old new
   second_whole least = second_alone 0 (λ s. omega (arith, least s s))
 
+  -- answers made with one space both asked for and walked are answers in that space
   pub joined_added : AddsTree (IsJoinedIn both_answers (record { asked = space; walked = space }) n m) old new →
       AddsTree (IsJoined both_answers space n m) old new
   joined_added p = (

@@ -9,6 +9,7 @@ use Rattle.cpg_cube.specs.declared.literal.Literal.{Literal}
 use Rattle.cpg_cube.specs.Cube.{holds, matches}
 
 module _ (s : Scenario) (l : Literal) where
+  -- a literal does not hold if the number of its variable is under its low or over its high
   pub below_low : number_of s l.variable < l.low → holds s l ≡ false
   below_low h = ap (λ b. b && nat_le (number_of s l.variable) l.high) (lt-leb l.low (number_of s l.variable) h)
 
@@ -16,17 +17,19 @@ module _ (s : Scenario) (l : Literal) where
   above_high h = ap (λ b. nat_le l.low (number_of s l.variable) && b) (lt-leb (number_of s l.variable) l.high h)
       ∙ and-false (nat_le l.low (number_of s l.variable))
 
--- a number on a side of the cut under a low
+-- a number up to the cut just under a low is under the low, and one above that cut is not
 pub under : (low n : ℕ) → (low ≡ 0 → ⊥) → n ≤ low - 1 → n < low
 under low n some h = elim (cases_lt 0 low) [ inl l ↦ omega (arith, l, h) | inr l ↦ absurd (some (omega (arith, l))) ]
 
 pub over : (low n : ℕ) → (low ≡ 0 → ⊥) → low ≤ n → low - 1 < n
 over low n some h = elim (cases_lt 0 low) [ inl l ↦ omega (arith, l, h) | inr l ↦ absurd (some (omega (arith, l))) ]
 
--- each literal of a cube that matches holds
+-- given: a literal of a cube
 module _ (s : Scenario) (ls : List Literal) (i : ℕ) (d : Literal) (there : i < length ls) where
+  -- if one literal does not hold, the cube does not match
   pub unmatched : holds s (get_or ls i d) ≡ false → matches ls s ≡ false
   unmatched h = list_all_at (holds s) ls i d there h
 
+  -- if the cube matches, each of its literals holds
   pub each_holds : matches ls s ≡ true → holds s (get_or ls i d) ≡ true
   each_holds all = true_from_ne_false (holds s (get_or ls i d)) (λ h. both_ways (matches ls s) (unmatched h) all)

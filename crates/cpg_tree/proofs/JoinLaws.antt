@@ -17,6 +17,7 @@ use Rattle.cpg_tree.proofs.Flats.{flat-same}
 
 -- ---- two lists behind another are split there
 
+-- if the lists of two trees are added one behind the other, their lengths say where the whole is split
 pub split_of : {T : Type 0} (start middle : ℕ) (old low high : List (TreeItem T)) (lo hi : TreeNode T) →
     low ≡ old ++ flat lo → high ≡ low ++ flat hi → start ≡ length old →
     middle ≡ length low →
@@ -27,13 +28,16 @@ split_of {T} start middle old low high lo hi one two first second = record {
   second = second ∙ ap length one ∙ length-append old (flat lo);
 }
 
+-- given: a fork, and the list of its items
 module _ {T : Type 0} (space : Space) (v cut : ℕ) (x y n : TreeNode T) (items : List (TreeItem T))
     (is : items ≡ flat (Fork v cut x y)) (are : items ≡ flat n) where
+  -- a tree with a fork's list is the fork
   pub fork_is : n ≡ Fork v cut x y
   fork_is = flat-same n (Fork v cut x y) (sym are ∙ is)
 
   -- ---- parts
 
+  -- if all scenarios of the space go one way, the part of that side is the part of the whole tree
   pub part_above : (part : List (TreeItem T)) → ((s : Scenario) → IsInSpace space s → cut < number_of s v) →
       IsPartList space y part →
       IsPartList space n part
@@ -46,6 +50,7 @@ module _ {T : Type 0} (space : Space) (v cut : ℕ) (x y n : TreeNode T) (items 
     },
   )
 
+  -- if all scenarios go below, the part of the side below is the part of the whole tree
   pub part_below : (part : List (TreeItem T)) → ((s : Scenario) → IsInSpace space s → number_of s v ≤ cut) →
       IsPartList space x part →
       IsPartList space n part
@@ -61,6 +66,7 @@ module _ {T : Type 0} (space : Space) (v cut : ℕ) (x y n : TreeNode T) (items 
   -- ---- a value and a tree
 
   module _ {A V : Type 0} (answers : A → T → V → Type 0) (a : A) (old new : List (TreeItem V)) where
+    -- if all scenarios of the space go one way, the answers added for that side are those of the whole tree
     pub fills_above : ((s : Scenario) → IsInSpace space s → cut < number_of s v) →
         AddsTree (IsFilled answers space a y) old new →
         AddsTree (IsFilled answers space a n) old new
@@ -74,6 +80,7 @@ module _ {T : Type 0} (space : Space) (v cut : ℕ) (x y n : TreeNode T) (items 
       },
     )
 
+    -- if all scenarios go below, the answers added for the side below are those of the whole tree
     pub fills_below : ((s : Scenario) → IsInSpace space s → number_of s v ≤ cut) →
         AddsTree (IsFilled answers space a x) old new →
         AddsTree (IsFilled answers space a n) old new
@@ -87,6 +94,8 @@ module _ {T : Type 0} (space : Space) (v cut : ℕ) (x y n : TreeNode T) (items 
       },
     )
 
+    -- given: a space open on both sides of the cut, that space closed above it and below it, and the lists after
+    -- either side
     module _ (shut upper : Space) (start middle : ℕ) (low high : List (TreeItem V))
         (under : is_open_below space v cut ≡ true) (over : is_open_above space v cut ≡ true)
         (shut_is : shut ≡ below_cut space v cut) (upper_is : upper ≡ above_cut space v cut)
@@ -94,6 +103,7 @@ module _ {T : Type 0} (space : Space) (v cut : ℕ) (x y n : TreeNode T) (items 
         (lies_upper : (s : Scenario) → IsInSpace space s → cut < number_of s v → IsInSpace upper s)
         (first : start ≡ length old) (second : middle ≡ length low)
         (forks : ForksEnd start middle v cut high new) where
+      -- the answers for both sides, joined by a fork, are those of the whole tree
       pub fills_fork : AddsTree (IsFilled answers shut a x) old low → AddsTree (IsFilled answers upper a y) low high →
           AddsTree (IsFilled answers space a n) old new
       fills_fork one two =
@@ -115,6 +125,7 @@ module _ {T : Type 0} (space : Space) (v cut : ℕ) (x y n : TreeNode T) (items 
   -- ---- two trees
 
   module _ {U V : Type 0} (answers : T → U → V → Type 0) (m : TreeNode U) (old new : List (TreeItem V)) where
+    -- if all scenarios of the space go one way, the answers added for that side are those of the whole tree
     pub joins_above : ((s : Scenario) → IsInSpace space s → cut < number_of s v) →
         AddsTree (IsJoined answers space y m) old new →
         AddsTree (IsJoined answers space n m) old new
@@ -129,6 +140,7 @@ module _ {T : Type 0} (space : Space) (v cut : ℕ) (x y n : TreeNode T) (items 
       },
     )
 
+    -- if all scenarios go below, the answers added for the side below are those of the whole tree
     pub joins_below : ((s : Scenario) → IsInSpace space s → number_of s v ≤ cut) →
         AddsTree (IsJoined answers space x m) old new →
         AddsTree (IsJoined answers space n m) old new
@@ -143,6 +155,8 @@ module _ {T : Type 0} (space : Space) (v cut : ℕ) (x y n : TreeNode T) (items 
       },
     )
 
+    -- given: a space open on both sides of the cut, that space closed above it and below it, and the lists after
+    -- either side
     module _ (shut upper : Space) (start middle : ℕ) (low high : List (TreeItem V))
         (under : is_open_below space v cut ≡ true) (over : is_open_above space v cut ≡ true)
         (shut_is : shut ≡ below_cut space v cut) (upper_is : upper ≡ above_cut space v cut)
@@ -150,6 +164,7 @@ module _ {T : Type 0} (space : Space) (v cut : ℕ) (x y n : TreeNode T) (items 
         (lies_upper : (s : Scenario) → IsInSpace space s → cut < number_of s v → IsInSpace upper s)
         (first : start ≡ length old) (second : middle ≡ length low)
         (forks : ForksEnd start middle v cut high new) where
+      -- the answers for both sides, joined by a fork, are those of the whole tree
       pub joins_fork : AddsTree (IsJoined answers shut x m) old low → AddsTree (IsJoined answers upper y m) low high →
           AddsTree (IsJoined answers space n m) old new
       joins_fork one two =
@@ -168,7 +183,7 @@ module _ {T : Type 0} (space : Space) (v cut : ℕ) (x y n : TreeNode T) (items 
             },
           )
 
--- a value's answer
+-- the answer to a value fills a leaf
 filled_leaf : {A T V : Type 0} (answers : A → T → V → Type 0) (space : Space) (a : A) (x : T) (z : V) → answers a x z →
     IsFilled answers space a (Leaf x) (Leaf z)
 filled_leaf answers space a x z is = record {
@@ -177,6 +192,7 @@ filled_leaf answers space a x z is = record {
   pass = λ test pass. pass;
 }
 
+-- if the tree is one value, the answer to it is added
 pub fills_leaf : {A T V : Type 0} (answers : A → T → V → Type 0) (space : Space) (a : A) (x : T) (z : V)
     (n : TreeNode T) (items : List (TreeItem T)) (old new : List
     (TreeItem V)) → answers a x z → items ≡ flat (Leaf x) → items ≡ flat n →
@@ -188,7 +204,7 @@ fills_leaf answers space a x z n items old new is leaf are added = (
       (filled_leaf answers space a x z is),
 )
 
--- a value joined with a tree
+-- if the first tree is one value, the answers to it and the other tree's values are those of the two trees
 pub joins_leaf : {T U V : Type 0} (answers : T → U → V → Type 0) (space : Space) (x : T) (n : TreeNode T)
     (m : TreeNode U) (items : List (TreeItem T)) (old new : List (TreeItem V)) → items ≡ flat
     (Leaf x) → items ≡ flat n →
@@ -204,7 +220,7 @@ joins_leaf answers space x n m items old new leaf are p = (
   },
 )
 
--- what is joined with a part is joined with the whole
+-- answers made with the part of a tree that a space comes to are made with the tree
 pub joins_whole : {T U V : Type 0} (answers : T → U → V → Type 0) (space : Space) (n : TreeNode T) (m part : TreeNode U)
     (old new : List (TreeItem V)) → IsPartInSpace space m part → AddsTree
     (IsJoined answers space n part) old new → AddsTree (IsJoined answers space n m) old new

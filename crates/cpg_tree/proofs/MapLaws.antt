@@ -22,6 +22,7 @@ module _ {T U : Type 0} (answers : T → U → Type 0) where
     pass = λ test pass. pass;
   }
 
+  -- a fork of the answers of both sides has the answers of the fork
   mapped_fork : (v cut : ℕ) (x y : TreeNode T) (lo hi r : TreeNode U) → IsMapped answers x lo → IsMapped answers y hi →
       IsForked v cut lo hi r →
       IsMapped answers (Fork v cut x y) r

@@ -27,6 +27,7 @@ module _ {A : Type 0} (old : List A) (from count : ℕ) where
         ∙ ap (λ n. get_or old n x) same_place
         ∙ sym (get_or-drop (from + count) old j x)
 
+    -- writing the next item one place further is pasting one item more
     turn : x ≡ slice_index_or (paste old from (drop (from + count) old) j) (from + j + count) x →
         slice_set (paste old from (drop (from + count) old) j) (from + j) x ≡ paste old from (drop
         (from + count) old) (j + 1)
@@ -45,7 +46,7 @@ module _ {A : Type 0} (old : List A) (from count : ℕ) where
       ∙ ap (λ n. slice_index_or (moved i) (n + count) x) (sym at))
       ∙ ap (λ n. paste old from (drop (from + count) old) n) more
 
-  -- and when all are, the rest is cut off
+  -- when all items are moved, the rest is cut off
   pub moved_all : (left : ℕ) → left + count ≡ length old → from ≤ left →
       take left (moved left) ≡ take from old ++ drop (from + count) old
   moved_all left all after =
@@ -57,6 +58,7 @@ module _ {A : Type 0} (old : List A) (from count : ℕ) where
       ∙ ap (λ n. take from old ++ take n s) (sym long)
       ∙ ap (λ (xs : List A). take from old ++ xs) (take_all (length s) s (omega arith))
 
+  -- before any item is moved, the list is the old one
   pub moved_none : old ≡ moved from
   moved_none =
       let none : 0 ≡ from - from = omega arith in

@@ -18,9 +18,11 @@ use Rattle.cpg_tree.proofs.PathLaws.{found}
 use Rattle.cpg_tree.proofs.Publics.{state}
 use Rattle.cpg_tree.proofs.Spaces.{number_le_top}
 
+-- a leaf has no forks on any variable
 pub leaf_only : {T : Type 0} (v : ℕ) (x : T) → ForksOnly v (Leaf x)
 leaf_only v x = record { low = λ s u n. omega arith; high = λ k s u n. omega arith }
 
+-- a fork on a variable has no forks on others if its sides have none
 fork_only : {T : Type 0} (v cut : ℕ) (below above r : TreeNode T) → ForksOnly v below → ForksOnly v above →
     IsForkOf v cut below above r → ForksOnly v r
 fork_only v cut below above r one two fork = record {
@@ -34,9 +36,11 @@ fork_only v cut below above r one two fork = record {
   ];
 }
 
+-- the last count of a process is a leaf
 pub last_count : (p k : ℕ) → AreCountsFrom p k k (Leaf k)
 last_count p k = record { value = λ s low high. omega (arith, low, high); only = leaf_only p k }
 
+-- a fork at a count, with the higher counts above it, has all counts from this one on
 pub more_counts : (p first k : ℕ) (above r : TreeNode ℕ) → AreCountsFrom p (first + 1) k above →
     IsForkOf p first (Leaf first) above r →
     AreCountsFrom p first k r
@@ -50,6 +54,7 @@ more_counts p first k above r rest fork = record {
 
 module _ (space : Space) (p first k : ℕ) (count : p < 128) (leaves : LeavesCounts space p first k)
     (less : first < k) where
+  -- the count is left on both sides of the cut, and only higher counts are left above it
   pub counts_open_below : is_open_below space p first ≡ true
   counts_open_below = le-leb (get_or space.low p 0) first (omega (arith, leaves.low))
 
@@ -58,6 +63,7 @@ module _ (space : Space) (p first k : ℕ) (count : p < 128) (leaves : LeavesCou
       (or_right (nat_le 128 p) _
       (lt-ltb first (get_or space.low p 0 + space.left) (omega (arith, leaves.low, leaves.left, less))))
 
+  -- closed below the first count, the space leaves the counts from the next one to k
   pub counts_above : LeavesCounts (above_cut space p first) p (first + 1) k
   counts_above = record {
     long = search rules;
@@ -72,6 +78,7 @@ module _ (space : Space) (p first k : ℕ) (count : p < 128) (leaves : LeavesCou
     );
   }
 
+-- in the space of all scenarios all counts of a process are left
 pub whole_counts : (k : ℕ) (space : Space) (p : ℕ) → p < 128 → IsWhole k space → LeavesCounts space p 0 k
 whole_counts k space p count whole = record {
   long = whole.long;
@@ -82,6 +89,7 @@ whole_counts k space p count whole = record {
 
 -- ---- values
 
+-- a fork of false and true is the value of a condition
 pub value_is : (v : ℕ) (r : TreeNode Bool) → IsForkOf v 0 (Leaf false) (Leaf true) r → IsValueNode v r
 value_is v r fork = record {
   value = λ s few. elim (cases_lt 0 (number_of s v)) [
@@ -91,7 +99,9 @@ value_is v r fork = record {
   only = fork_only v 0 (Leaf false) (Leaf true) r (leaf_only v false) (leaf_only v true) fork;
 }
 
+-- given: the variable of a condition's value, in the space of all scenarios
 module _ (k : ℕ) (space : Space) (whole : IsWhole k space) (v : ℕ) (value : 128 ≤ v) (there : v < 256) where
+  -- in the space of all scenarios a condition is both false and true
   pub value_open_below : is_open_below space v 0 ≡ true
   value_open_below = le-leb (get_or space.low v 0) 0 (omega (arith, whole.lows v there))
 
@@ -101,6 +111,7 @@ module _ (k : ℕ) (space : Space) (whole : IsWhole k space) (v : ℕ) (value : 
 
 -- ---- said of paths
 
+-- a good tree of the number of a variable is one in its paths too
 pub number_paths : {T : Type 0} (v k : ℕ) (number : T → ℕ) (node : TreeNode T) → IsGood k node →
     ((s : Scenario) → HasAtMostFaults k s → number (value_at node s) ≡ number_of s v) →
     ForksOnly v node →
@@ -114,6 +125,7 @@ number_paths v k number node good value only = record {
 
 -- ---- there is a space of all scenarios
 
+-- there is a space of all scenarios of at most k faults
 pub some_whole : (k : ℕ) → (space : Space) × IsWhole k space
 some_whole k = (
   record { low = replicate 256 0; high = map tops (numbers_below 256); left = k },
@@ -131,6 +143,7 @@ some_whole k = (
     tops v = cond (nat_lt v 128) k 1
 
 module _ (k : ℕ) (s : Scenario) (few : HasAtMostFaults k s) (v : ℕ) where
+  -- a scenario of at most k faults has counts of at most k, and values of at most 1
   pub count_at_most : v < 128 → number_of s v ≤ k
   count_at_most l = omega (arith, number_le_top k s few v, cond-true (nat_lt v 128) k 1 (lt-ltb v 128 l))
 

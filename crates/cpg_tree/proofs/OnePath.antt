@@ -14,6 +14,7 @@ use Rattle.cpg_tree.specs.Tree.{Path, TreeState, is_on, IsOnPath, IsAsWide, IsMa
 
 -- ---- a scenario of the graph has at most its faults
 
+-- the first n numbers of a list sum to no more than the whole list
 few_sum : (xs : List ℕ) (n : ℕ) → sum_by (λ p. get_or xs p 0) (numbers_below n) ≤ sum xs
 few_sum [] n = omega (arith, sum_by_zeros (λ p. get_or [] p 0) (numbers_below n) (λ p c. refl))
 few_sum (x ∷ xs) zero = omega arith
@@ -28,6 +29,7 @@ few_sum (x ∷ xs) (suc n) = omega (
     next : (i : ℕ) → get_or (x ∷ xs) (i + 1) 0 ≡ get_or xs i 0
     next i = grind (arith, common_steps)
 
+-- a scenario of a graph has at most the graph's number of faults
 pub scenario_few : (g : Graph) (s : Scenario) → IsScenario g s → HasAtMostFaults g.faults s
 scenario_few g s law = omega (arith, few_sum s.faults 128, law.budget)
 
@@ -37,6 +39,7 @@ first_of_one : {X : Type 0} (xs : List X) → length xs ≡ 1 → (x : X) × Con
 first_of_one [] e = absurd (omega (arith, e))
 first_of_one (x ∷ xs) e = (x, Contains-first x xs)
 
+-- each scenario of at most k faults is on a path
 pub the_path : {T : Type 0} (k : ℕ) (paths : List (Path T)) → HasOnePathEach k paths → (s : Scenario) →
     HasAtMostFaults k s →
     (x : Path T) × IsOnPath paths s x
@@ -56,6 +59,7 @@ same_of_one [] e x y a b = absurd (Contains-nil x a)
 same_of_one (z ∷ []) e x y a b = sym (the_only z x a) ∙ the_only z y b
 same_of_one (z ∷ w ∷ zs) e x y a b = absurd (omega (arith, e))
 
+-- two paths of one scenario are the same
 pub same_path : {T : Type 0} (k : ℕ) (paths : List (Path T)) → HasOnePathEach k paths → (s : Scenario) →
     HasAtMostFaults k s → (x y : Path T) → IsOnPath paths s x → IsOnPath paths s y → x ≡ y
 same_path k paths each s few x y on_x on_y =

@@ -36,8 +36,10 @@ more_asked : (new old low cut left k : ℕ) → new + low ≡ old + (cut + 1) �
     new + (left - (cut + 1 - low)) ≤ k
 more_asked new old low cut left k changed most below allows = omega arith
 
+-- given: an open space, and a cut with numbers on both sides
 module _ (k : ℕ) (space : Space) (is : IsOpenSpace k space) (v cut : ℕ) (there : v < 256)
     (below : is_open_below space v cut ≡ true) (upper : is_open_above space v cut ≡ true) where
+  -- the cut is at least the low of its variable, under the high, and under the whole range's top
   pub low_at_most : get_or space.low v 0 ≤ cut
   low_at_most = leb-true (get_or space.low v 0) cut below
 
@@ -57,6 +59,7 @@ module _ (k : ℕ) (space : Space) (is : IsOpenSpace k space) (v cut : ℕ) (the
   )
   set_high u (inr n) = inr (get_or-set_other space.high v u cut 0 n)
 
+  -- a low that is set stands at its variable, and the others stay
   set_low : (u : ℕ) → (u ≡ v) ⊎ (u ≢ v) →
       ((u ≡ v) × (get_or (slice_set space.low v (cut + 1)) u 0 ≡ cut + 1)) ⊎
       (get_or (slice_set space.low v (cut + 1)) u 0 ≡ get_or space.low u 0)
@@ -67,6 +70,7 @@ module _ (k : ℕ) (space : Space) (is : IsOpenSpace k space) (v cut : ℕ) (the
   )
   set_low u (inr n) = inr (get_or-set_other space.low v u (cut + 1) 0 n)
 
+  -- the space stays open on either side of the cut
   pub opens_below : IsOpenSpace k (below_cut space v cut)
   opens_below = record {
     lows = is.lows;
@@ -89,6 +93,7 @@ module _ (k : ℕ) (space : Space) (is : IsOpenSpace k space) (v cut : ℕ) (the
         | inr h ↦ ltb-true cut (get_or space.low v 0 + space.left) h
       ]
 
+  -- an open space stays open above the cut; by kind: a count spends the faults up to the cut, and a value none
   pub opens_above : IsOpenSpace k (above_cut space v cut)
   opens_above = record {
     lows = length-set space.low v (cut + 1) ∙ is.lows;
@@ -123,6 +128,7 @@ module _ (k : ℕ) (space : Space) (is : IsOpenSpace k space) (v cut : ℕ) (the
       as_before new old left k e h = omega arith
 
   module _ (cube : List Literal) (covers : CoversSpace k space cube) where
+    -- a cube that covers the space covers it on either side of the cut, once it is narrowed
     pub covers_below : CoversSpace k (below_cut space v cut) (narrowed_by (up_to v cut) cube)
     covers_below = record {
       rising = rising-narrowed (up_to v cut) cube covers.rising;
@@ -161,6 +167,7 @@ module _ (k : ℕ) (space : Space) (is : IsOpenSpace k space) (v cut : ℕ) (the
       ];
     }
 
+    -- a cube that covers the space covers its part above the cut, once it is narrowed
     pub covers_above : CoversSpace k (above_cut space v cut) (narrowed_by (above k v cut) cube)
     covers_above = record {
       rising = rising-narrowed (above k v cut) cube covers.rising;
@@ -200,6 +207,7 @@ module _ (k : ℕ) (space : Space) (is : IsOpenSpace k space) (v cut : ℕ) (the
 
 -- ---- the space of all scenarios
 
+-- the space of all scenarios is open
 pub whole_opens : (k : ℕ) (space : Space) → IsWhole k space → IsOpenSpace k space
 whole_opens k space whole = record {
   lows = whole.long;
@@ -217,6 +225,7 @@ whole_opens k space whole = record {
   );
 }
 
+-- the cube without literals covers the space of all scenarios
 pub whole_covers : (k : ℕ) (space : Space) → IsWhole k space → CoversSpace k space []
 whole_covers k space whole = record {
   rising = λ i j d l m. absurd (omega (arith, m));

@@ -1,7 +1,8 @@
--- What a test tells tells more.
+-- What follows from a test also has what follows from that.
 use Rattle.std.proofs.Common.{Bool, true, false}
 use Rattle.std.specs.Bool.{OnFalse, OnTrue}
 
+-- if a fact that a test shows implies another, the test shows that one too
 pub of_true : {P Q : Type 0} (b : Bool) → OnTrue b P → (P → Q) → OnTrue b Q
 of_true true h f = f h
 of_true false h f = cc

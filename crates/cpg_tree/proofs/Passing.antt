@@ -23,6 +23,7 @@ use Rattle.cpg_tree.specs.Variables.{is_variable}
 abbrev SpeaksOf : List Literal → ℕ → Type 0
 SpeaksOf cube v = (l : Literal) × Contains cube l × (l.variable ≡ v)
 
+-- a cube narrowed by a literal has a literal on the variable of that one
 speaks_of_new : (l : Literal) (cube : List Literal) → SpeaksOf (narrowed_by l cube) l.variable
 speaks_of_new l [] = (l, Contains-first l [], refl)
 speaks_of_new l (m ∷ ms) = elim (cases_order l.variable m.variable) [
@@ -43,6 +44,7 @@ speaks_of_new l (m ∷ ms) = elim (cases_order l.variable m.variable) [
       )
 ]
 
+-- a cube narrowed by a literal still has a literal on each variable that it had one on
 speaks_of_old : (l : Literal) (cube : List Literal) (x : Literal) → Contains cube x →
     SpeaksOf (narrowed_by l cube) x.variable
 speaks_of_old l [] x c = absurd (Contains-nil x c)
@@ -66,6 +68,7 @@ speaks_of_old l (m ∷ ms) x c = elim (cases_order l.variable m.variable) [
 abbrev IsSpoken : {T : Type 0} → List (Path T) → ℕ → Type 0
 IsSpoken {T} paths v = (p : Path T) × Contains paths p × SpeaksOf p.0 v
 
+-- if a cube has a literal on v, some path from this cube on has one: the path that always goes below
 some_path : {T : Type 0} (k : ℕ) (node : TreeNode T) (cube : List Literal) (v : ℕ) → SpeaksOf cube v →
     IsSpoken (paths_from k cube node) v
 some_path k (Leaf x) cube v speaks = ((cube, x), Contains-first (cube, x) [], speaks)
@@ -82,6 +85,7 @@ module _ (test : ℕ → Bool) where
   abbrev Passes : List Literal → Type 0
   Passes cube = (l : Literal) → Contains cube l → test l.variable ≡ true
 
+  -- if the variables of all paths pass a test, those of all forks do: each fork's variable is in the paths through it
   forks_from : {T : Type 0} (k : ℕ) (node : TreeNode T) (cube : List Literal) →
       ((p : Path T) → Contains (paths_from k cube node) p → Passes p.0) →
       DoForksPass test node
@@ -105,6 +109,7 @@ module _ (test : ℕ → Bool) where
     | inr r ↦ subst (λ (v : ℕ). test v ≡ true) r.2 (old r.0 r.1)
   ]
 
+  -- the variables of the paths on from a cube pass a test if those of the cube and of the forks do
   paths_pass : {T : Type 0} (k : ℕ) (node : TreeNode T) (cube : List Literal) → Passes cube → DoForksPass test node →
       (x : Path T) → Contains (paths_from k cube node) x → Passes x.0
   paths_pass {T} k (Leaf y) cube on pass x c = elim (Contains-cases (cube, y) [] x c) [
@@ -122,6 +127,7 @@ module _ (test : ℕ → Bool) where
 
   -- ---- of a whole tree
 
+  -- if the variables of all paths pass a test, so do those of all forks, and the other way round
   pub forks_of_paths : {T : Type 0} (k : ℕ) (node : TreeNode T) → DoPathsPass test (paths_of k node) →
       DoForksPass test node
   forks_of_paths {T} k node h = forks_from k node []
@@ -137,6 +143,7 @@ module _ (test : ℕ → Bool) where
 
 -- ---- the variables of a graph
 
+-- a number that is tested to be a variable of the graph is one
 pub variable_from : (g : Graph) (v : ℕ) → is_variable g v ≡ true → IsVariable g v
 variable_from g v h =
     elim (or_cases (nat_lt v (process_count g)) (nat_le 128 v && nat_lt v (value_variable (condition_count g))) h) [
@@ -155,6 +162,7 @@ pub known_from : {T : Type 0} (g : Graph) (paths : List (Path T)) → DoPathsPas
     All (λ (p : Path T). IsKnown g p.0) paths
 known_from g paths h i d l j e m = variable_from g _ (h i d l j e m)
 
+-- if the variables of a tree's paths are known, they are the graph's
 pub known_passes : {T : Type 0} (g : Graph) (paths : List (Path T)) → All (λ (p : Path T). IsKnown g p.0) paths →
     DoPathsPass (is_variable g) paths
 known_passes g paths h i d l j e m = variable_passes g _ (h i d l j e m)

@@ -49,6 +49,7 @@ reaches_below k space v cut less h u l = by_place (cases_eq u v)
     by_place (inl e) =
         subst (λ w. get_or (slice_set space.high v cut) w 0 ≤ top k w) (sym e) (at_cut (cases_lt v (length space.high)))
 
+-- if a tree fits a space, each of its cuts is below the greatest number of its variable
 fits_cuts : {T : Type 0} (k : ℕ) (node : TreeNode T) (space : Space) → Reaches k space → IsFit space node →
     HasCuts k node
 unfolding Reaches
@@ -72,6 +73,7 @@ whole_reaches k space whole v l = elim (cases_lt v 128) [
   | inr m ↦ omega (arith, whole.values v m l, cond-false (nat_lt v 128) k 1 (le-ltb v 128 m))
 ]
 
+-- in a good tree each cut leaves numbers above it
 pub good_cuts : {T : Type 0} (k : ℕ) (node : TreeNode T) → IsGood k node → HasCuts k node
 good_cuts k node good = fits_cuts k node good.0 (whole_reaches k good.0 good.1) good.2
 
@@ -82,6 +84,7 @@ pub record IsTidy (k : ℕ) (cube : List Literal) : Type 0 where
   pub rising : IsRising cube
   pub within : (v : ℕ) → high_in k cube v ≤ top k v
 
+-- given: a tidy cube, and a cut that leaves numbers above it
 module _ (k : ℕ) (cube : List Literal) (tidy : IsTidy k cube) (v cut : ℕ) (less : cut < top k v) where
   tidy_below : IsTidy k (narrowed_by (up_to v cut) cube)
   tidy_below = record {
@@ -93,6 +96,7 @@ module _ (k : ℕ) (cube : List Literal) (tidy : IsTidy k cube) (v cut : ℕ) (l
     ];
   }
 
+  -- a tidy cube narrowed to the numbers above a cut is tidy
   tidy_above : IsTidy k (narrowed_by (above k v cut) cube)
   tidy_above = record {
     rising = rising-narrowed (above k v cut) cube tidy.rising;
@@ -104,13 +108,14 @@ module _ (k : ℕ) (cube : List Literal) (tidy : IsTidy k cube) (v cut : ℕ) (l
   }
 
 module _ {T : Type 0} (k : ℕ) (s : Scenario) where
-  -- the path on from a cube tells what the scenario finds
+  -- a path on from a cube has the value and the ranges that the scenario finds
   pub record IsPathOf (cube : List Literal) (node : TreeNode T) (x : Path T) : Type 0 where
     pub came : matches cube s ≡ true
     pub value : x.1 ≡ value_at node s
     pub low : (v : ℕ) → low_in x.0 v ≡ max (low_in cube v) (low_at node s v)
     pub high : (v : ℕ) → high_in k x.0 v ≡ min (high_in k cube v) (high_at k node s v)
 
+  -- the path of the side below, on from the narrowed cube, is the path of the fork
   path_below : (cube : List Literal) → IsTidy k cube → (v cut : ℕ) (below : TreeNode T) (upper : TreeNode T) →
       cut < top k v → (x : Path T) →
       IsPathOf (narrowed_by (up_to v cut) cube) below x → IsPathOf cube (Fork v cut below upper) x
@@ -143,6 +148,7 @@ module _ {T : Type 0} (k : ℕ) (s : Scenario) where
         ];
       }
 
+  -- the path of the side above, on from the narrowed cube, is the path of the fork
   path_above : (cube : List Literal) → IsTidy k cube → (v cut : ℕ) (below : TreeNode T) (upper : TreeNode T) →
       cut < top k v → (x : Path T) →
       IsPathOf (narrowed_by (above k v cut) cube) upper x → IsPathOf cube (Fork v cut below upper) x
@@ -177,11 +183,13 @@ module _ {T : Type 0} (k : ℕ) (s : Scenario) where
         ];
       }
 
+  -- of the paths on from a cube, the one that matches the scenario has the value and the ranges it finds
   pub is_path : (node : TreeNode T) (cube : List Literal) → IsTidy k cube → HasCuts k node → (x : Path T) →
       Contains (paths_from k cube node) x → matches x.0 s ≡ true →
       IsPathOf cube node x
   is_path (Leaf y) cube tidy cuts x c m = only (Contains-cases (cube, y) [] x c)
     where
+      -- a leaf has one path: the cube that leads to the leaf, with its value
       only : ((cube, y) ≡ x) ⊎ Contains [] x → IsPathOf cube (Leaf y) x
       only (inl e) = subst (λ (z : Path T). IsPathOf cube (Leaf y) z) e (record {
         came = subst (λ (z : Path T). matches z.0 s ≡ true) (sym e) m;
@@ -206,7 +214,7 @@ module _ {T : Type 0} (k : ℕ) (s : Scenario) where
       (filter_none (is_on s) (paths_from k cube node) (λ x c. false_from_ne_true (matches x.0 s)
       (λ m. both_ways (matches cube s) off (is_path node cube tidy cuts x c m).came)))
 
-  -- one that it matches is on one
+  -- a scenario that the cube matches is on exactly one path
   pub one_from : HasAtMostFaults k s → (node : TreeNode T) (cube : List Literal) → IsTidy k cube → HasCuts k node →
       matches cube s ≡ true →
       length (filter (is_on s) (paths_from k cube node)) ≡ 1
@@ -240,6 +248,7 @@ no_literals : (k : ℕ) → IsTidy k []
 no_literals k = record { rising = λ i j d l m. absurd (omega (arith, m)); within = λ v. omega arith }
 
 module _ {T : Type 0} (k : ℕ) (node : TreeNode T) (good : IsGood k node) (s : Scenario) where
+  -- each scenario of at most k faults is on one path of a good tree
   pub one_path : HasAtMostFaults k s → length (filter (is_on s) (paths_of k node)) ≡ 1
   one_path few = one_from k s few node [] (no_literals k) (good_cuts k node good) refl
 
@@ -249,6 +258,7 @@ module _ {T : Type 0} (k : ℕ) (node : TreeNode T) (good : IsGood k node) (s : 
     pub low : (v : ℕ) → low_in x.0 v ≡ low_at node s v
     pub high : (v : ℕ) → high_in k x.0 v ≡ min (top k v) (high_at k node s v)
 
+  -- each path that a scenario is on has the value and the ranges it finds
   pub found : (x : Path T) → IsOnPath (paths_of k node) s x → Found x
   found x on = let t = is_path k s node [] (no_literals k) (good_cuts k node good) x on.stands on.matched in
       record { value = t.value; low = λ v. omega (arith, t.low v); high = λ v. t.high v }

@@ -18,6 +18,7 @@ module _ {T : Type 0} (space : Space) (on off : TreeNode T) (old new : List (Tre
     whole : n ≡ Fork v cut x y
     whole = fork_is space v cut x y n items is are
 
+    -- if all scenarios of the space go one way, what is picked by the chooser's side is picked by the chooser
     pub picks_above : ((s : Scenario) → IsInSpace space s → cut < number_of s v) →
         AddsTree (IsPicked space y on off) old new →
         AddsTree (IsPicked space n on off) old new
@@ -33,6 +34,7 @@ module _ {T : Type 0} (space : Space) (on off : TreeNode T) (old new : List (Tre
       },
     )
 
+    -- if all scenarios go below, what the chooser's side below picks is picked by the chooser
     pub picks_below : ((s : Scenario) → IsInSpace space s → number_of s v ≤ cut) →
         AddsTree (IsPicked space x on off) old new →
         AddsTree (IsPicked space n on off) old new
@@ -48,6 +50,8 @@ module _ {T : Type 0} (space : Space) (on off : TreeNode T) (old new : List (Tre
       },
     )
 
+    -- given: a space open on both sides of the cut, that space closed above it and below it, and the lists after
+    -- either side
     module _ (shut upper : Space) (start middle : ℕ) (low high : List (TreeItem T))
         (under : is_open_below space v cut ≡ true) (over : is_open_above space v cut ≡ true)
         (shut_is : shut ≡ below_cut space v cut) (upper_is : upper ≡ above_cut space v cut)
@@ -55,6 +59,7 @@ module _ {T : Type 0} (space : Space) (on off : TreeNode T) (old new : List (Tre
         (lies_upper : (s : Scenario) → IsInSpace space s → cut < number_of s v → IsInSpace upper s)
         (first : start ≡ length old) (second : middle ≡ length low)
         (forks : ForksEnd start middle v cut high new) where
+      -- what is picked on both sides, joined by a fork, is picked by the whole chooser
       pub picks_fork : AddsTree (IsPicked shut x on off) old low → AddsTree (IsPicked upper y on off) low high →
           AddsTree (IsPicked space n on off) old new
       picks_fork one two =
@@ -74,8 +79,9 @@ module _ {T : Type 0} (space : Space) (on off : TreeNode T) (old new : List (Tre
             },
           )
 
-  -- one value of a chooser
+  -- given: a chooser, and the list of its items
   module _ (n : TreeNode Bool) (items : List (TreeItem Bool)) (are : items ≡ flat n) where
+    -- a chooser that is one value picks the one tree in all scenarios
     pub picks_on : items ≡ flat (Leaf true) → AddsTree (IsRestricted space on) old new →
         AddsTree (IsPicked space n on off) old new
     picks_on leaf p = (
@@ -90,6 +96,7 @@ module _ {T : Type 0} (space : Space) (on off : TreeNode T) (old new : List (Tre
       },
     )
 
+    -- a chooser that is false picks the other tree in all scenarios
     pub picks_off : items ≡ flat (Leaf false) → AddsTree (IsRestricted space off) old new →
         AddsTree (IsPicked space n on off) old new
     picks_off leaf p = (

@@ -27,10 +27,12 @@ module _ {T : Type 0} (k : ℕ) (items shown : List (TreeItem T)) (same : shown 
       faults = k;
       paths = paths_in k items;
     } ≡ t) where
+  -- what is shown is the list of a tree
   pub flat_shown : IsFlat shown
   flat_shown = (good.0, same ∙ good.1)
 
   module _ (n : TreeNode T) (are : shown ≡ flat n) where
+    -- the tree is good, and its paths are those that callers see
     pub good_shown : IsGood t.faults n
     good_shown = subst (λ (u : TreeState T). IsGood u.faults n) seen
         (subst (IsGood k) (flat-same good.0 n (sym good.1 ∙ sym same ∙ are)) good.2)
@@ -43,7 +45,9 @@ module _ {T : Type 0} (k : ℕ) (items shown : List (TreeItem T)) (same : shown 
 pub state_seen : {T : Type 0} (t : TreeState T) (a : TreeNode T) → t.paths ≡ paths_of t.faults a → state t.faults a ≡ t
 state_seen {T} t a paths = ap (λ (ps : List (Path T)). record { faults = t.faults; paths = ps }) (sym paths)
 
+-- given: a space in which all scenarios of at most k faults lie
 module _ (k : ℕ) (space : Space) (all : (s : Scenario) → HasAtMostFaults k s → IsInSpace space s) where
+  -- a tree of answers to the values of two trees is one in its paths too
   pub join_paths : {T U V : Type 0} (answers : T → U → V → Type 0) (a : TreeNode T) (b : TreeNode U) (r : TreeNode V) →
       IsGood k a → IsGood k b → IsGood k r →
       IsJoinOf answers space a b r →
@@ -67,6 +71,7 @@ module _ (k : ℕ) (space : Space) (all : (s : Scenario) → HasAtMostFaults k s
         };
   }
 
+  -- a tree of the values that a chooser picks is one in its paths too
   pub pick_paths : {T : Type 0} (chooser : TreeNode Bool) (on off r : TreeNode T) → IsGood k chooser → IsGood k on →
       IsGood k off → IsGood k r →
       IsPickOf space chooser on off r →
@@ -119,10 +124,12 @@ module _ (k : ℕ) (space : Space) (all : (s : Scenario) → HasAtMostFaults k s
       picked_high true s x h v = (found k on good_on s x h).high v
       picked_high false s x h v = (found k off good_off s x h).high v
 
+-- the value that a scenario comes to is that of its path
 pub value_path : {T : Type 0} (k : ℕ) (node : TreeNode T) (good : IsGood k node) (s : Scenario) →
     IsValueAt (state k node) s (value_at node s)
 value_path k node good s = record { of_path = λ x on. sym (found k node good s x on).value }
 
+-- a tree of answers to the values of one tree is one in its paths too
 pub map_paths : {T U : Type 0} (k : ℕ) (answers : T → U → Type 0) (a : TreeNode T) (r : TreeNode U) → IsGood k a →
     IsGood k r → IsMapOf answers a r →
     IsMap answers (state k a) (state k r)
@@ -142,10 +149,11 @@ map_paths k answers a r good_a good_r made = record {
       };
 }
 
--- what is made of two trees, said of what callers see of them
+-- given: two trees, and what callers see of them
 module _ {T U V : Type 0} (k l : ℕ) (a : TreeNode T) (b : TreeNode U) (r : TreeNode V) (first : TreeState T)
     (second : TreeState U) (is_first : state k a ≡ first)
     (is_second : state l b ≡ second) where
+  -- the tree made of two has the answers to the values that callers see in those
   pub joined_seen : (answers : T → U → V → Type 0) → first.faults ≡ second.faults → IsGood k a → IsGood l b →
       (space : Space) → IsWhole k space
       → ((s : Scenario) → HasAtMostFaults k s → IsInSpace space s) →
@@ -160,6 +168,7 @@ module _ {T U V : Type 0} (k l : ℕ) (a : TreeNode T) (b : TreeNode U) (r : Tre
       (join_paths k space all answers a b r good_a (subst (λ (m : ℕ). IsGood m b) (sym equal) good_b)
       (space, whole, fit) made))
 
+  -- if the variables of both trees pass a test, so do those of the tree made of them
   pub joined_pass : (test : ℕ → Bool) → (DoForksPass test a → DoForksPass test b → DoForksPass test r) →
       DoPathsPass test first.paths → DoPathsPass test second.paths →
       DoPathsPass test (paths_of k r)
@@ -169,35 +178,41 @@ module _ {T U V : Type 0} (k l : ℕ) (a : TreeNode T) (b : TreeNode U) (r : Tre
 
 -- ---- what is made of trees that callers see
 
--- the list of a tree that is made fits the space of all scenarios
+-- a tree that fits the space of all scenarios has a good list
 pub good_made : {T : Type 0} (k : ℕ) (space : Space) (r : TreeNode T) (items : List (TreeItem T)) → IsWhole k space →
     IsFit space r → items ≡ flat r →
     IsGoodList k items
 good_made k space r items whole fit are = (r, are, (space, whole, fit))
 
+-- given: a good tree, and the tree of a function's answers to its values
 module _ {T U : Type 0} (answers : T → U → Type 0) (t : TreeState T) (n : TreeNode T) (good : IsGood t.faults n)
     (paths : t.paths ≡ paths_of t.faults n) (k : ℕ) (same : k ≡ t.faults) (r : TreeNode U)
     (mapped : IsMapped answers n r) where
+  -- the tree that is made is good
   pub good_mapped : IsGood k r
   good_mapped = subst (λ (m : ℕ). IsGood m r) (sym same) (good.0, good.1, mapped.fit good.0 good.2)
 
   module _ (made : TreeState U) (is : made ≡ state k r) where
+    -- callers see in it the answers to the values of the first
     pub map_shown : IsMap answers t made
     map_shown = subst (IsMap answers t) (ap (λ (m : ℕ). state m r) (sym same) ∙ sym is)
         (subst (λ (u : TreeState T). IsMap answers u (state t.faults r)) (state_seen t n paths)
         (map_paths t.faults answers n r good (good.0, good.1, mapped.fit good.0 good.2) mapped.made))
 
+    -- if the variables of the first pass a test, so do its own
     pub map_passes : (test : ℕ → Bool) → DoPathsPass test t.paths → DoPathsPass test made.paths
     map_passes test on = subst (λ (u : TreeState U). DoPathsPass test u.paths) (sym is)
         (paths_of_forks test k r (mapped.pass test
         (forks_of_paths test t.faults n (subst (λ (ps : List (Path T)). DoPathsPass test ps) paths on))))
 
--- of two trees
+-- given: two good trees, and the tree that is made of them
+-- `good_..`: the lists are good; `paths_..`: callers see their paths; `same`, `is`: the tree made is seen as r
 module _ {T U V : Type 0} (first : TreeState T) (second : TreeState U) (a : TreeNode T) (b : TreeNode U)
     (good_a : IsGood first.faults a) (good_b : IsGood second.faults b)
     (paths_a : first.paths ≡ paths_of first.faults a) (paths_b : second.paths ≡ paths_of second.faults b) (k : ℕ)
     (same : k ≡ first.faults) (r : TreeNode V) (made : TreeState V)
     (is : made ≡ state k r) where
+  -- callers see in the tree that is made the answers to the values of both
   pub join_shown : (answers : T → U → V → Type 0) → first.faults ≡ second.faults → (space : Space) → IsWhole k space →
       ((s : Scenario) → HasAtMostFaults k s → IsInSpace space s) →
       IsFit space r → IsJoinOf answers space a b r →
@@ -209,6 +224,7 @@ module _ {T U V : Type 0} (first : TreeState T) (second : TreeState U) (a : Tree
       (subst (λ (m : ℕ). IsWhole m space) same whole)
       (λ s few. all s (subst (λ (m : ℕ). HasAtMostFaults m s) (sym same) few)) fit joined)
 
+  -- if the variables of both pass a test, so do those of the tree that is made
   pub join_passes : (test : ℕ → Bool) → (DoForksPass test a → DoForksPass test b → DoForksPass test r) →
       DoPathsPass test first.paths → DoPathsPass test second.paths →
       DoPathsPass test made.paths
@@ -217,13 +233,15 @@ module _ {T U V : Type 0} (first : TreeState T) (second : TreeState U) (a : Tree
       (joined_pass first.faults second.faults a b r first second (state_seen first a paths_a)
       (state_seen second b paths_b) test pass on_first on_second)
 
--- of a chooser and two trees
+-- given: a good chooser, two good trees, and the tree that is made of them
+-- `good_..`: the lists are good; `paths_..`: callers see their paths; `same`, `is`: the tree made is seen as r
 module _ {T : Type 0} (chooser : TreeState Bool) (first second : TreeState T) (c : TreeNode Bool) (a b : TreeNode T)
     (good_c : IsGood chooser.faults c) (good_a : IsGood first.faults a)
     (good_b : IsGood second.faults b) (paths_c : chooser.paths ≡ paths_of chooser.faults c)
     (paths_a : first.paths ≡ paths_of first.faults a) (paths_b : second.paths ≡ paths_of second.faults b)
     (k : ℕ)
     (same : k ≡ chooser.faults) (r : TreeNode T) (made : TreeState T) (is : made ≡ state k r) where
+  -- callers see in the tree that is made the values that the chooser picks
   pub pick_shown : chooser.faults ≡ first.faults → chooser.faults ≡ second.faults → (space : Space) → IsWhole k space →
       ((s : Scenario) → HasAtMostFaults k s → IsInSpace space s) → IsFit space r →
       IsPickOf space c a b r →
@@ -241,6 +259,7 @@ module _ {T : Type 0} (chooser : TreeState Bool) (first second : TreeState T) (c
       (sym two) good_b)
       (space, subst (λ (l : ℕ). IsWhole l space) same whole, fit) picked))))
 
+  -- if the variables of all three pass a test, so do those of the tree that is made
   pub pick_passes : (test : ℕ → Bool) →
       (DoForksPass test c → DoForksPass test a → DoForksPass test b → DoForksPass test r) →
       DoPathsPass test chooser.paths →

@@ -28,6 +28,7 @@ either number true x y m n e f = e
 either number false x y m n e f = f
 
 module _ {T : Type 0} (number : T → ℕ) where
+  -- the value that a scenario finds is the number of the one in the tree that is read
   pub value_read : (a : TreeNode T) (s : Scenario) → value_at (read_by number a) s ≡ number (value_at a s)
   value_read (Leaf x) s = refl
   value_read (Fork v cut below above) s =
@@ -35,6 +36,7 @@ module _ {T : Type 0} (number : T → ℕ) where
       (value_at (read_by number below) s) (value_at (read_by number above) s) (value_read below s)
       (value_read above s)
 
+  -- a scenario finds the ranges of the tree that is read
   pub low_read : (a : TreeNode T) (s : Scenario) (u : ℕ) → low_at (read_by number a) s u ≡ low_at a s u
   low_read (Leaf x) s u = refl
   low_read (Fork v cut below above) s u =
@@ -47,6 +49,7 @@ module _ {T : Type 0} (number : T → ℕ) where
       ap₂ (λ x y. if nat_le (number_of s v) cut then (if v == u then min cut x else x) else y) (high_read k below s u)
       (high_read k above s u)
 
+  -- the forks pass the tests that they pass in the tree that is read
   pub pass_read : (test : ℕ → Bool) (a : TreeNode T) → DoForksPass test a → DoForksPass test (read_by number a)
   pass_read test (Leaf x) pass = tt
   pass_read test (Fork v cut below above) pass = (pass.0, pass_read test below pass.1, pass_read test above pass.2)
@@ -56,6 +59,7 @@ module _ {T : Type 0} (number : T → ℕ) where
   fit_read space (Fork v cut below above) fit =
       (fit.0, fit.1, fit.2, fit_read (below_cut space v cut) below fit.3, fit_read (above_cut space v cut) above fit.4)
 
+  -- a tree that is read from a good tree is good
   pub good_read : (k : ℕ) (a : TreeNode T) → IsGood k a → IsGood k (read_by number a)
   good_read k a good = (good.0, good.1, fit_read good.0 a good.2)
 
@@ -68,7 +72,7 @@ module _ {T : Type 0} (number : T → ℕ) where
       ∙ sym (map-append (λ (q : Path T). (q.0, number q.1)) (paths_from k (narrowed_by (up_to v cut) cube) lower)
       (paths_from k (narrowed_by (above k v cut) cube) upper))
 
-  -- the part of a tree that a space comes to, read
+  -- the part of a tree that a space comes to is, as it is read, such a part of the tree that is read
   pub within_read : (space : Space) (a part : TreeNode T) → IsTreeWithin space a part →
       IsTreeWithin space (read_by number a) (read_by number part)
   within_read space a part same = record {
@@ -77,7 +81,7 @@ module _ {T : Type 0} (number : T → ℕ) where
     highs = λ k s u d. omega (arith, high_read k part s u, high_read k a s u, same.highs k s u d);
   }
 
-  -- at least 0 is as it is read
+  -- a tree of the greater of 0 and each leaf's number is the tree as it is read
   pub filled_read : (space : Space) (a : TreeNode T) (r : TreeNode ℕ) →
       IsFillOf (λ (x : ℕ) (y : T) (z : ℕ). z ≡ max x (number y)) space 0 a r →
       IsTreeWithin space (read_by number a) r
@@ -87,12 +91,13 @@ module _ {T : Type 0} (number : T → ℕ) where
     highs = λ k s u d. omega (arith, high_read k a s u, made.highs k s u d);
   }
 
-  -- and so with the passing of tests
+  -- if the forks of the tree that is read pass a test, so do those of the tree
   passes_read : (test : ℕ → Bool) (a : TreeNode T) → DoForksPass test (read_by number a) → DoForksPass test a
   passes_read test (Leaf x) pass = tt
   passes_read test (Fork v cut below above) pass =
       (pass.0, passes_read test below pass.1, passes_read test above pass.2)
 
+  -- the part of a tree that a space comes to is a part as it is read, too
   pub part_read : (space : Space) (a part : TreeNode T) → IsPartInSpace space a part →
       IsPartInSpace space (read_by number a) (read_by number part)
   part_read space a part is = record {
@@ -100,6 +105,7 @@ module _ {T : Type 0} (number : T → ℕ) where
     pass = λ test on. pass_read test part (is.pass test (passes_read test a on));
   }
 
+  -- what is added as the greater of 0 and each leaf's number is the tree as it is read
   pub kept_read : (space : Space) (a : TreeNode T) (old new : List (TreeItem ℕ)) →
       AddsTree (IsFilled (λ (x : ℕ) (y : T) (z : ℕ). z ≡ max x (number y)) space 0 a) old new →
       AddsTree (IsRestricted space (read_by number a)) old new
@@ -113,11 +119,13 @@ module _ {T : Type 0} (number : T → ℕ) where
     },
   )
 
+-- the tree that is read as times a delay later shows callers the times a delay later
 pub state_read : (k delay : ℕ) (a : TreeNode (Option ℕ)) →
     state k (read_by (time_later delay) a) ≡ later_by delay (state k a)
 state_read k delay a =
     ap (λ (paths : List (Path ℕ)). record { faults = k; paths = paths }) (paths_read (time_later delay) k [] a)
 
+-- the paths of the later times are those of the tree that is read so
 pub later_paths : (delay : ℕ) (t : TreeState (Option ℕ)) (a : TreeNode (Option ℕ)) → t.paths ≡ paths_of t.faults a →
     (later_by delay t).paths ≡ paths_of t.faults (read_by (time_later delay) a)
 later_paths delay t a paths = ap (λ (ps : List (Path (Option ℕ))). map (later_path delay) ps) paths
@@ -126,17 +134,20 @@ later_paths delay t a paths = ap (λ (ps : List (Path (Option ℕ))). map (later
 -- ---- the tree of later times
 
 module _ (delay : ℕ) (t : TreeState (Option ℕ)) where
+  -- the later tree has the forks of the first, so its variables pass the same tests
   pub later_pass : (test : ℕ → Bool) → DoPathsPass test t.paths → DoPathsPass test (later_by delay t).paths
   later_pass test pass =
       All-map (λ (p : Path ℕ). All (λ (l : Literal). test l.variable ≡ true) p.0) (later_path delay) t.paths pass
 
   module _ (each : HasOnePathEach t.faults t.paths) where
+    -- each scenario is on one path of the later tree
     pub later_each : HasOnePathEach (later_by delay t).faults (later_by delay t).paths
     later_each s few =
         ap length (filter-map (is_on s) (later_path delay) t.paths)
         ∙ length-map (filter (λ (p : Path (Option ℕ)). is_on s p) t.paths) (later_path delay)
         ∙ each s few
 
+    -- the later tree is made of the first by moving each time
     pub later_map : IsMap (λ x z. z ≡ time_later delay x) t (later_by delay t)
     later_map = record {
       faults = refl;

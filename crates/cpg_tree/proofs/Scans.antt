@@ -1,4 +1,4 @@
--- What a look at the leaves of a tree's list tells.
+-- What a look at the leaves of a tree's list shows.
 use Rattle.std.proofs.Common.{ℕ, ◌≡◌, ◌∙◌, max, min, Bool, true, false, ◌&&◌, List, [], ◌∷◌, ◌++◌, length, arith, refl}
 use Rattle.std.proofs.Common.{sym, ap, append_assoc}
 use Rattle.std.specs.Prelude.{nat_le}
@@ -17,6 +17,7 @@ use Rattle.cpg_tree.proofs.Greatness.{least_under, most_over}
 most_of_sides : (a b m : ℕ) → max b (max a m) ≡ max (max a b) m
 most_of_sides a b m = omega arith
 
+-- a look at a tree's list takes its greatest leaf into the greatest number so far
 most-flat : {T : Type 0} (number : T → ℕ) (n : TreeNode T) (m : ℕ) (rest : List (TreeItem T)) →
     most_from number m (flat n ++ rest) ≡ most_from number (max (greatest_leaf number n) m) rest
 most-flat number (Leaf x) m rest = refl
@@ -27,6 +28,7 @@ most-flat {T} number (Fork v cut x y) m rest =
     ∙ most-flat number y (max (greatest_leaf number x) m) (last ++ rest)
     ∙ ap (λ (k : ℕ). most_from number k rest) (most_of_sides (greatest_leaf number x) (greatest_leaf number y) m)
 
+-- the greatest number that a look at a list finds is that of the tree's greatest leaf
 pub most_is : {T : Type 0} (number : T → ℕ) (items : List (TreeItem T)) (n : TreeNode T) → items ≡ flat n →
     most_from number 0 items ≡ greatest_leaf number n
 most_is number items n are =
@@ -41,6 +43,7 @@ most_is number items n are =
 from_sides : (l a b : ℕ) (r : Bool) → (nat_le l a && (nat_le l b && r)) ≡ (nat_le l (min a b) && r)
 from_sides l a b r = grind (arith, nat_tests)
 
+-- a look at a tree's list finds whether its least leaf is at least a number, and goes on with the rest
 from-flat : {T : Type 0} (number : T → ℕ) (least : ℕ) (n : TreeNode T) (rest : List (TreeItem T))
     → are_from number least (flat n ++ rest) ≡ (nat_le least (least_leaf number n) && are_from number least rest)
 from-flat number least (Leaf x) rest = refl
@@ -52,6 +55,7 @@ from-flat {T} number least (Fork v cut x y) rest =
     ∙ ap (λ (b : Bool). nat_le least (least_leaf number x) && b) (from-flat number least y (last ++ rest))
     ∙ from_sides least (least_leaf number x) (least_leaf number y) (are_from number least rest)
 
+-- a look at a list finds whether the tree's least leaf is at least a number
 pub from_is : {T : Type 0} (number : T → ℕ) (least : ℕ) (items : List (TreeItem T)) (n : TreeNode T) → items ≡ flat n →
     are_from number least items ≡ nat_le least (least_leaf number n)
 from_is number least items n are =
@@ -62,9 +66,11 @@ from_is number least items n are =
     and_true true = refl
     and_true false = refl
 
+-- given: the lists of two trees whose leaves are read as numbers
 module _ {T U : Type 0} (number : T → ℕ) (other_number : U → ℕ) (own : List (TreeItem T)) (other : List (TreeItem U))
     (n : TreeNode T) (m : TreeNode U) (are : own ≡ flat n) (others : other ≡ flat m)
   where
+    -- if each number of one list is at least the greatest of another, the first tree is at least the second
     pub at_least_is : are_from number (most_from other_number 0 other) own ≡ true → IsAtLeast number other_number n m
     at_least_is h =
         let most : ℕ = most_from other_number 0 other in

@@ -13,7 +13,7 @@ use Rattle.cpg_base.proofs.Sums.{le-sum_by, sum_changed, same_sum_by}
 use Rattle.cpg_base.specs.Variable.{top}
 use Rattle.cpg_tree.specs.Space.{Space, IsInSpace, HasAtMostFaults, beyond, is_open_below, below_cut, above_cut}
 
--- what is not less is at most
+-- a number that is not less than another is at least that one
 pub not_less : (a b : ℕ) → nat_lt a b ≡ false → b ≤ a
 not_less a b h = elim (cases_lt a b) [ inl l ↦ absurd (both_ways (nat_lt a b) h (lt-ltb a b l)) | inr l ↦ l ]
 
@@ -24,12 +24,14 @@ module _ (space : Space) (s : Scenario) (lies : IsInSpace space s) (v cut : ℕ)
       let one = le-sum_by (beyond space s) (numbers_below 128) v (Contains-numbers 128 v l) in
       omega (arith, one, lies.left, number_of-fault s v l)
 
+  -- if no number up to the cut is in range, the scenario's number is above the cut
   pub none_below : is_open_below space v cut ≡ false → cut < number_of s v
   none_below h = let l = lies.low v there in elim (cases_lt cut (get_or space.low v 0)) [
     | inl m ↦ omega (arith, l, m)
     | inr m ↦ absurd (both_ways (is_open_below space v cut) h (le-leb (get_or space.low v 0) cut m))
   ]
 
+  -- if no number above the cut is in range, or no faults are left for one, the scenario's number is at most the cut
   pub none_by_range : nat_lt cut (get_or space.high v 0) ≡ false → number_of s v ≤ cut
   none_by_range h = omega (arith, lies.high v there, not_less cut (get_or space.high v 0) h)
 
@@ -43,16 +45,18 @@ module _ (space : Space) (s : Scenario) (lies : IsInSpace space s) (v cut : ℕ)
 
 -- ---- a list with one number changed
 
--- with a higher low of one count there are as many fewer faults beyond the lows
+-- if the low of one count rises, the faults beyond the lows fall by as much
 fewer_left : (new old low cut faults left : ℕ) → new + (faults - low) ≡ old + (faults - (cut + 1)) → old ≤ left →
     low ≤ cut → cut < faults →
     new ≤ left - (cut + 1 - low)
 fewer_left new old low cut faults left changed most below above = omega arith
 
 module _ (xs : List ℕ) (v y u : ℕ) where
+  -- if one number of a list is set, the others stay as they are
   pub set_other : u ≢ v → get_or (slice_set xs v y) u 0 ≡ get_or xs u 0
   set_other n = get_or-set_other xs v u y 0 n
 
+  -- a number that is set in a list stands there
   pub set_same : v < length xs → u ≡ v → get_or (slice_set xs v y) u 0 ≡ y
   set_same l e = subst (λ w. get_or (slice_set xs v y) w 0 ≡ y) (sym e) (get_or-set_same xs v y 0 l)
 
@@ -60,6 +64,7 @@ none_less : (n left : ℕ) → n ≤ left → n ≤ left - 0
 none_less n left l = omega arith
 
 module _ (space : Space) (s : Scenario) (lies : IsInSpace space s) (v cut : ℕ) (there : v < 256) where
+  -- a scenario whose number is at most the cut lies in the space below it
   pub lies_below : length space.high ≡ 256 → number_of s v ≤ cut → IsInSpace (below_cut space v cut) s
   lies_below long h = record {
     low = lies.low;
@@ -70,6 +75,7 @@ module _ (space : Space) (s : Scenario) (lies : IsInSpace space s) (v cut : ℕ)
     left = lies.left;
   }
 
+  -- a scenario whose number is above the cut lies in the space above it
   pub lies_above : length space.low ≡ 256 → is_open_below space v cut ≡ true → cut < number_of s v →
       IsInSpace (above_cut space v cut) s
   lies_above long under h = record {
@@ -98,7 +104,7 @@ module _ (space : Space) (s : Scenario) (lies : IsInSpace space s) (v cut : ℕ)
     ];
   }
 
--- what is above a cut lies in a space that was closed above it, put back and closed below it
+-- a scenario above a cut lies in the space that was closed above a high, opened again, and closed below the cut
 pub lies_reopened : (space shut inner opened upper : Space) (v high cut : ℕ) → below_cut shut v high ≡ space →
     inner ≡ shut →
     opened ≡ below_cut inner v high →
@@ -107,7 +113,7 @@ pub lies_reopened : (space shut inner opened upper : Space) (v high cut : ℕ) �
 lies_reopened space shut inner opened upper v high cut back same put lies_upper s lies h =
     lies_upper s (subst (λ r. IsInSpace r s) (sym (put ∙ ap (λ r. below_cut r v high) same ∙ back)) lies) h
 
--- what is left above the cut then
+-- the space above the cut is then the same as that above the cut of the space given
 pub above_reopened : (space shut inner opened upper : Space) (v high cut : ℕ) → below_cut shut v high ≡ space →
     inner ≡ shut → opened ≡ below_cut inner v high →
     upper ≡ above_cut opened v cut →
@@ -133,6 +139,7 @@ module _ (k : ℕ) (s : Scenario) (few : HasAtMostFaults k s) where
     )
   ]
 
+  -- a scenario of at most k faults lies in a space with all ranges and k faults left
   pub lies_whole : (space : Space) → ((v : ℕ) → v < 256 → get_or space.low v 0 ≡ 0) →
       ((v : ℕ) → v < 128 → get_or space.high v 0 ≡ k) →
       ((v : ℕ) → 128 ≤ v → v < 256 → get_or space.high v 0 ≡ 1) →
@@ -157,7 +164,7 @@ module _ (k : ℕ) (s : Scenario) (few : HasAtMostFaults k s) where
     );
   }
 
--- what holds if a test fails
+-- what follows from a test that is false holds if it is false
 pub on_false : {P : Type 0} (b : Bool) → (b ≡ false → P) → OnFalse b P
 on_false true h = search rules
 on_false false h = h refl

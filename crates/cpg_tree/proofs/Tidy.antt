@@ -23,10 +23,11 @@ abbrev IsNarrowed : ℕ → List Literal → Type 0
 IsNarrowed k cube = (l : Literal) → Contains cube l →
     (l.variable < 256) × ((0 < low_in cube l.variable) ⊎ (high_in k cube l.variable < top k l.variable))
 
--- on a variable a cube says less than the whole range
+-- a cube's range of a variable is less than the whole one
 abbrev Says : ℕ → List Literal → ℕ → Type 0
 Says k cube v = (0 < low_in cube v) ⊎ (high_in k cube v < top k v)
 
+-- a cube of narrowed ranges stays one if it is narrowed by a literal that says something
 part_narrowed : (k : ℕ) (l : Literal) (cube : List Literal) → l.variable < 256 →
     Says k (narrowed_by l cube) l.variable → IsNarrowed k cube →
     IsNarrowed k (narrowed_by l cube)
@@ -46,7 +47,7 @@ part_narrowed k l cube there says part x c = elim (cases_eq l.variable x.variabl
     still v n (inl low) = inl (omega (arith, low-other k l cube v n, low))
     still v n (inr high) = inr (omega (arith, high-other k l cube v n, high))
 
--- what a path of a tree that fits is
+-- a cube that covers an open space and has no literal of a whole range
 pub record IsPathAround (k : ℕ) (cube : List Literal) : Type 0 where
   pub space : Space
   pub is : IsOpenSpace k space
@@ -54,6 +55,7 @@ pub record IsPathAround (k : ℕ) (cube : List Literal) : Type 0 where
   pub part : (l : Literal) → Contains cube l →
       (l.variable < 256) × ((0 < low_in cube l.variable) ⊎ (high_in k cube l.variable < top k l.variable))
 
+-- in a tree that fits an open space, the cube of each path covers an open space and has no literal of a whole range
 pub tidy_paths : {T : Type 0} (k : ℕ) (node : TreeNode T) (space : Space) (cube : List Literal) → IsOpenSpace k space →
     CoversSpace k space cube → IsNarrowed k cube → IsFit space node → (x : Path T) →
     Contains (paths_from k cube node) x → IsPathAround k x.0
@@ -82,6 +84,7 @@ tidy_paths k (Fork v cut below upper) space cube is covers part fit x c =
           (inl (omega (arith, low-same k (above k v cut) cube covers.rising))) part) fit.4 x i
     ]
 
+-- so it is with each path of a good tree
 pub tidy_of : {T : Type 0} (k : ℕ) (node : TreeNode T) → IsGood k node → (x : Path T) → Contains (paths_of k node) x →
     IsPathAround k x.0
 tidy_of k node good = tidy_paths k node good.0 [] (whole_opens k good.0 good.1) (whole_covers k good.0 good.1)
@@ -91,9 +94,11 @@ tidy_of k node good = tidy_paths k node good.0 [] (whole_opens k good.0 good.1) 
 
 module _ (k : ℕ) (cube : List Literal) (tidy : IsPathAround k cube) where
   module _ (l : Literal) (c : Contains cube l) where
+    -- a cube's range of a literal's variable is that of the literal
     pub range : (low_in cube l.variable ≡ l.low) × (high_in k cube l.variable ≡ l.high)
     range = range_of_literal k cube l tidy.covers.rising c
 
+    -- no literal of the cube has a whole range, and none goes past it
     pub not_whole : is_whole k l ≡ false
     not_whole = false_from_ne_true (is_whole k l) (λ w.
         let parts = and_parts (l.low == 0) (l.high == top k l.variable) w in

@@ -93,5 +93,6 @@ module _ {T : Type 0} (k : ℕ) (node : TreeNode T) (good : IsGood k node) where
         met = (lowest covers.space, lowest_few k covers.space covers.is, lowest_matches k x.0 covers);
       }
 
+  -- each path of a good tree is tidy
   pub tidy_all : All (IsTidyPath k) (paths_of k node)
   tidy_all i d h = tidy_path (get_or (paths_of k node) i d) (Contains-get_or (paths_of k node) i d h)

@@ -11,6 +11,7 @@ use Rattle.cpg_tree.proofs.JoinLaws.{split_of}
 use Rattle.cpg_tree.proofs.Numbers.{last_count, more_counts, counts_open_below, counts_open_above, counts_above}
 use Rattle.cpg_tree.proofs.Numbers.{value_is, value_open_below, value_open_above}
 
+-- the last count of a process is added as a leaf
 pub adds_last : (p first k : ℕ) (old new : List (TreeItem ℕ)) → first ≡ k → new ≡ old ++ (Value k ∷ []) →
     AddsTree (IsCounted p first k) old new
 adds_last p first k old new last added = (
@@ -21,6 +22,7 @@ adds_last p first k old new last added = (
 )
 
 module _ (start middle v : ℕ) where
+  -- a count is added as a fork whose side above has the higher counts
   pub adds_counts : (first k : ℕ) (old low high new : List (TreeItem ℕ)) → v < 128 → first < k →
       low ≡ old ++ (Value first ∷ []) →
       AddsTree (IsCounted v
@@ -40,6 +42,7 @@ module _ (start middle v : ℕ) where
         },
       )
 
+  -- a condition's value is added as a fork of false and true
   pub adds_value : (old low high new : List (TreeItem Bool)) → 128 ≤ v → v < 256 → low ≡ old ++ (Value false ∷ []) →
       high ≡ low ++ (Value true ∷ []) → start ≡ length old →
       middle ≡ length low →

@@ -16,6 +16,7 @@ use Rattle.cpg_tree.proofs.PathLaws.{found}
 use Rattle.cpg_tree.proofs.Passing.{forks_of_paths, paths_of_forks}
 use Rattle.cpg_tree.proofs.Publics.{state, state_seen}
 
+-- given: two trees, a function of their values, and the value elsewhere
 module _ {T U V : Type 0} (answers : T → U → V → Type 0) (none : V) (spaces : SpacePair) (a : TreeNode T)
     (b : TreeNode U) where
   abbrev fact : Scenario → Bool → V → Type 0
@@ -27,29 +28,34 @@ module _ {T U V : Type 0} (answers : T → U → V → Type 0) (none : V) (space
   abbrev high : ℕ → Scenario → Bool → ℕ → ℕ
   high k s x v = if x then min (high_at k a s v) (high_at k b s v) else top k v
 
+  -- if the chooser is true, the answers of the two trees are the result
   pub where_on : (n : TreeNode Bool) → n ≡ Leaf true → (r : TreeNode V) →
       IsJoinIn answers (IsInBothSpaces spaces) a b r →
       IsJoinWhereOf answers none (IsInBothSpaces spaces) n a b r
   where_on n is r made = two_leaf_of fact low high (IsInBothSpaces spaces) true n is r made
 
+  -- if it is false, the result is the one value
   pub where_off : (n : TreeNode Bool) → n ≡ Leaf false →
       IsJoinWhereOf answers none (IsInBothSpaces spaces) n a b (Leaf none)
   where_off n is = two_leaf_of fact low high (IsInBothSpaces spaces) false n is (Leaf none)
       (record { value = λ s d. refl; lows = λ s u d. omega arith; highs = λ k s u d. omega arith })
 
   module _ (v cut : ℕ) (below above n : TreeNode Bool) (is : n ≡ Fork v cut below above) (r : TreeNode V) where
+    -- if all scenarios go below, the result for the chooser's side below is that for the chooser
     pub where_below : IsJoinWhereOf answers none (IsInBothSpaces spaces) below a b r →
         ((s : Scenario) → IsInSpace spaces.asked s → number_of s v ≤ cut)
         → IsJoinWhereOf answers none (IsInBothSpaces spaces) n a b r
     where_below made only =
         two_below_of fact low high (IsInBothSpaces spaces) v cut below above n is r made (λ s d. only s d.0)
 
+    -- if all scenarios go above, the result for the chooser's side above is that for the chooser
     pub where_above : IsJoinWhereOf answers none (IsInBothSpaces spaces) above a b r →
         ((s : Scenario) → IsInSpace spaces.asked s → cut < number_of s v)
         → IsJoinWhereOf answers none (IsInBothSpaces spaces) n a b r
     where_above made only =
         two_above_of fact low high (IsInBothSpaces spaces) v cut below above n is r made (λ s d. only s d.0)
 
+    -- a fork of the results for both sides of the chooser is the result for the chooser
     pub where_fork : (shut upper : SpacePair) (lo hi : TreeNode V) →
         IsJoinWhereOf answers none (IsInBothSpaces shut) below a b lo →
         IsJoinWhereOf answers none (IsInBothSpaces upper) above a b hi →
@@ -61,11 +67,12 @@ module _ {T U V : Type 0} (answers : T → U → V → Type 0) (none : V) (space
         two_fork_of fact low high (IsInBothSpaces spaces) v cut below above n is r (IsInBothSpaces shut)
         (IsInBothSpaces upper) lo hi of_lo of_hi fork goes_shut goes_upper
 
--- the same, said of the paths
+-- given: a domain with all scenarios of at most k faults, a chooser, two trees and the result
 module _ {T U V : Type 0} (k : ℕ) (domain : Scenario → Type 0) (all : (s : Scenario) → HasAtMostFaults k s → domain s)
     (answers : T → U → V → Type 0) (none : V) (chooser : TreeNode Bool)
     (a : TreeNode T)
     (b : TreeNode U) (r : TreeNode V) where
+  -- the paths of the result have the answers where the chooser is true, and the one value elsewhere
   pub where_paths : IsGood k chooser → IsGood k a → IsGood k b → IsGood k r →
       IsJoinWhereOf answers none domain chooser a b r →
       IsJoinWhere answers none (state k chooser) (state k a) (state k b) (state k r)
@@ -139,11 +146,12 @@ module _ {T U V : Type 0} (k : ℕ) (domain : Scenario → Type 0) (all : (s : S
           (if value_at chooser s then min (high_at k a s v) (high_at k b s v) else top k v) ≡ top k v
       high_off s e v = cond-false (value_at chooser s) _ _ e
 
--- what is made where a chooser is true, said of what callers see of the trees
+-- given: a chooser and two trees, and what callers see of them
 module _ {T U V : Type 0} (chooser : TreeNode Bool) (a : TreeNode T) (b : TreeNode U) (r : TreeNode V)
     (first : TreeState Bool) (second : TreeState T) (third : TreeState U)
     (paths_c : first.paths ≡ paths_of first.faults chooser) (paths_a : second.paths ≡ paths_of second.faults a)
     (paths_b : third.paths ≡ paths_of third.faults b) (k : ℕ) where
+  -- callers see in the tree that is made the answers where the chooser is true, and the one value elsewhere
   pub where_seen : (answers : T → U → V → Type 0) (none : V) → k ≡ first.faults → first.faults ≡ second.faults →
       first.faults ≡ third.faults → IsGood first.faults chooser →
       IsGood second.faults a →
@@ -164,6 +172,7 @@ module _ {T U V : Type 0} (chooser : TreeNode Bool) (a : TreeNode T) (b : TreeNo
       (subst (λ (m : ℕ). IsGood m b) (sym (is ∙ same_b)) good_b)
       (space, whole, fit) made)))
 
+  -- if the variables of all three trees pass a test, so do those of the tree that is made
   pub where_pass : (test : ℕ → Bool) →
       (DoForksPass test chooser → DoForksPass test a → DoForksPass test b → DoForksPass test r) →
       DoPathsPass test first.paths →

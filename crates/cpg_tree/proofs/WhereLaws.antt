@@ -16,10 +16,11 @@ use Rattle.cpg_tree.proofs.Forks.{passes_parts}
 use Rattle.cpg_tree.proofs.JoinLaws.{split_of}
 use Rattle.cpg_tree.proofs.Where.{where_above, where_below, where_fork, where_off, where_on}
 
+-- given: the list of a chooser, and two trees
 module _ {T U V : Type 0} (answers : T → U → V → Type 0) (none : V) (spaces : SpacePair) (c : TreeNode Bool)
     (items : List (TreeItem Bool)) (are : items ≡ flat c) (n : TreeNode T) (m : TreeNode U)
     (old new : List (TreeItem V)) where
-  -- one value
+  -- if the chooser is true, what is added of the two trees is the result
   pub where_value_on : items ≡ flat (Leaf true) → AddsTree (IsJoinedIn answers spaces n m) old new →
       AddsTree (IsJoinedWhere answers none spaces c n m) old new
   where_value_on is p = (
@@ -32,6 +33,7 @@ module _ {T U V : Type 0} (answers : T → U → V → Type 0) (none : V) (space
     },
   )
 
+  -- if the chooser is false, the one value is added
   pub where_value_off : items ≡ flat (Leaf false) → new ≡ old ++ (Value none ∷ []) →
       AddsTree (IsJoinedWhere answers none spaces c n m) old new
   where_value_off is added = (
@@ -44,11 +46,12 @@ module _ {T U V : Type 0} (answers : T → U → V → Type 0) (none : V) (space
     },
   )
 
-  -- a fork
+  -- given: a chooser that is a fork
   module _ (v cut : ℕ) (x y : TreeNode Bool) (is : items ≡ flat (Fork v cut x y)) where
     fork_is : c ≡ Fork v cut x y
     fork_is = flat-same c (Fork v cut x y) (sym are ∙ is)
 
+    -- if all scenarios go one way, the answers added with the chooser's side there are those of the fork
     pub where_side_below : ((s : Scenario) → IsInSpace spaces.asked s → number_of s v ≤ cut) →
         AddsTree (IsJoinedWhere answers none spaces x n m) old new
         → AddsTree (IsJoinedWhere answers none spaces c n m) old new
@@ -62,6 +65,7 @@ module _ {T U V : Type 0} (answers : T → U → V → Type 0) (none : V) (space
       },
     )
 
+    -- if all scenarios go above, the answers added with the chooser's side above are those of the fork
     pub where_side_above : ((s : Scenario) → IsInSpace spaces.asked s → cut < number_of s v) →
         AddsTree (IsJoinedWhere answers none spaces y n m) old new
         → AddsTree (IsJoinedWhere answers none spaces c n m) old new
@@ -75,6 +79,8 @@ module _ {T U V : Type 0} (answers : T → U → V → Type 0) (none : V) (space
       },
     )
 
+    -- given: spaces open on both sides of the cut, the spaces closed above it and below it, and the lists after
+    -- either side
     module _ (shut upper : SpacePair) (under : is_open_below spaces.asked v cut ≡ true)
         (over : is_open_above spaces.asked v cut ≡ true) (shut_is : shut.asked ≡ below_cut spaces.asked v cut)
         (upper_is : upper.asked ≡ above_cut spaces.asked v cut)
@@ -82,6 +88,7 @@ module _ {T U V : Type 0} (answers : T → U → V → Type 0) (none : V) (space
         (lies_upper : (s : Scenario) → IsInBothSpaces spaces s → cut < number_of s v → IsInBothSpaces upper s)
         (start middle : ℕ) (lower higher : List (TreeItem V)) (first : start ≡ length old)
         (second : middle ≡ length lower) (forks : ForksEnd start middle v cut higher new) where
+      -- the answers with both sides of the chooser, joined by a fork, are those of the fork
       pub where_both_sides : AddsTree (IsJoinedWhere answers none shut x n m) old lower →
           AddsTree (IsJoinedWhere answers none upper y n m) lower higher
           → AddsTree (IsJoinedWhere answers none spaces c n m) old new

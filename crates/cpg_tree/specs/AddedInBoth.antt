@@ -19,13 +19,17 @@ IsBoundedPartList {T} space a bounds part spans = (r : TreeNode T) × (part ≡ 
 -- the answers of a function to the values of two trees
 pub record IsJoinedIn {T U V : Type 0} (answers : T → U → V → Type 0) (spaces : SpacePair) (a : TreeNode T)
     (b : TreeNode U) (r : TreeNode V) : Type 0 where
+  -- the answers are right in the scenarios that lie in both spaces
   pub made : IsJoinIn answers (IsInBothSpaces spaces) a b r
+  -- the tree fits the space that is asked for alone
   pub fit : IsFit spaces.asked r
+  -- its forks are on variables of forks of either tree
   pub pass : (test : ℕ → Bool) → DoForksPass test a → DoForksPass test b → DoForksPass test r
 
--- such answers where a chooser is true, and one value elsewhere
+-- such answers if a chooser is true, and otherwise one value
 pub record IsJoinedWhere {T U V : Type 0} (answers : T → U → V → Type 0) (none : V) (spaces : SpacePair)
     (chooser : TreeNode Bool) (a : TreeNode T) (b : TreeNode U) (r : TreeNode V) : Type 0 where
   pub made : IsJoinWhereOf answers none (IsInBothSpaces spaces) chooser a b r
   pub fit : IsFit spaces.asked r
+  -- its forks are on variables of forks of the three
   pub pass : (test : ℕ → Bool) → DoForksPass test chooser → DoForksPass test a → DoForksPass test b → DoForksPass test r

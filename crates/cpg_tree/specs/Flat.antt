@@ -6,6 +6,7 @@ use Rattle.cpg_tree.specs.declared.item.TreeItem.TheVariants.{Value, Cut}
 use Rattle.cpg_tree.specs.declared.top.Top.{Top}
 use Rattle.cpg_tree.specs.declared.top.Top.TheVariants.{Value as TopValue, Cut as TopCut}
 
+-- the list of a tree
 abbrev pub flat : {T : Type 0} → TreeNode T → List (TreeItem T)
 flat (Leaf x) = Value x ∷ []
 flat (Fork v cut below above) = flat below ++ flat above ++ (Cut v cut (length (flat below)) ∷ [])
@@ -20,12 +21,12 @@ ShowsTop items (TopValue x) = items ≡ flat (Leaf x)
 ShowsTop {T} items (TopCut v cut below above) =
     (x : TreeNode T) × (y : TreeNode T) × (below.now ≡ flat x) × (above.now ≡ flat y) × (items ≡ flat (Fork v cut x y))
 
--- the lists of the sides are shorter
+-- if the top is a fork, the lists of its sides are shorter than the whole
 abbrev pub IsLess : {T : Type 0} → List (TreeItem T) → Top T → Type 0
 IsLess items (TopValue x) = Unit {0}
 IsLess items (TopCut v cut below above) = (length below.now < length items) × (length above.now < length items)
 
--- its variable is one of 256
+-- if the top is a fork, its variable is one of 256
 abbrev pub HasVariable : {T : Type 0} → Top T → Type 0
 HasVariable (TopValue x) = Unit {0}
 HasVariable (TopCut v cut below above) = v < 256

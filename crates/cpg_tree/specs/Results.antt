@@ -8,11 +8,14 @@ use Rattle.cpg_tree.specs.Decision.{value_at, low_at, high_at}
 
 -- the values of one tree up to a cut and of another above it, by ranges that are as wide as those of a fork at least
 pub record IsForkOf {T : Type 0} (v cut : ℕ) (below above r : TreeNode T) : Type 0 where
+  -- a scenario up to the cut has the value of the first tree, and one above the cut that of the second
   pub value_below : (s : Scenario) → number_of s v ≤ cut → value_at r s ≡ value_at below s
   pub value_above : (s : Scenario) → cut < number_of s v → value_at r s ≡ value_at above s
+  -- the lows are not above those of the side; above the cut that of v is at most `cut + 1`, if the side's is less
   pub low_below : (s : Scenario) (u : ℕ) → number_of s v ≤ cut → low_at r s u ≤ low_at below s u
   pub low_above : (s : Scenario) (u : ℕ) → cut < number_of s v → u ≢ v → low_at r s u ≤ low_at above s u
   pub low_here : (s : Scenario) → cut < number_of s v → low_at r s v ≤ max (cut + 1) (low_at above s v)
+  -- the highs are not below those of the side; up to the cut that of v may be the cut, if the side's is greater
   pub high_below : (k : ℕ) (s : Scenario) (u : ℕ) → number_of s v ≤ cut → u ≢ v → high_at k below s u ≤ high_at k r s u
   pub high_here : (k : ℕ) (s : Scenario) → number_of s v ≤ cut → min cut (high_at k below s v) ≤ high_at k r s v
   pub high_above : (k : ℕ) (s : Scenario) (u : ℕ) → cut < number_of s v → high_at k above s u ≤ high_at k r s u
@@ -22,6 +25,7 @@ pub record IsResultTree {T : Type 0} (domain : Scenario → Type 0) (fact : Scen
     (low : Scenario → ℕ → ℕ)
     (high : ℕ → Scenario → ℕ → ℕ) (r : TreeNode T) : Type 0 where
   pub value : (s : Scenario) → domain s → fact s (value_at r s)
+  -- the tree's range may be wider than the given one, but not narrower
   pub lows : (s : Scenario) (v : ℕ) → domain s → low_at r s v ≤ low s v
   pub highs : (k : ℕ) (s : Scenario) (v : ℕ) → domain s → high k s v ≤ high_at k r s v
 
@@ -49,7 +53,7 @@ abbrev pub IsJoinIn : {T U V : Type 0} → (T → U → V → Type 0) → (Scena
 IsJoinIn answers domain a b r = IsResultTree domain (λ s z. answers (value_at a s) (value_at b s) z)
     (λ s v. max (low_at a s v) (low_at b s v)) (λ k s v. min (high_at k a s v) (high_at k b s v)) r
 
--- what is told of a value where a chooser is true: a fact, and else that it is another one
+-- the fact, if a chooser is true, and otherwise that the value is a given one
 abbrev pub HoldsIfChosen : {V : Type 0} → Bool → Type 0 → V → V → Type 0
 HoldsIfChosen true fact none z = fact
 HoldsIfChosen false fact none z = z ≡ none

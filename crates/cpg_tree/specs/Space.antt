@@ -16,6 +16,7 @@ beyond space s p = fault_of s p - get_or space.low p 0
 pub record IsInSpace (space : Space) (s : Scenario) : Type 0 where
   pub low : (v : ℕ) → v < 256 → get_or space.low v 0 ≤ number_of s v
   pub high : (v : ℕ) → v < 256 → number_of s v ≤ get_or space.high v 0
+  -- the counts are the variables below 128; each adds how far it is above its low
   pub left : sum_by (beyond space s) (numbers_below 128) ≤ space.left
 
 -- at most k faults
@@ -39,11 +40,11 @@ faults_of v count = if nat_lt v 128 then count else 0
 abbrev pub asked_beyond : Space → Literal → ℕ
 asked_beyond space l = faults_of l.variable (l.low - get_or space.low l.variable 0)
 
--- with the numbers up to a cut that has numbers on both sides
+-- the space with the numbers up to a cut that has numbers on both sides
 abbrev pub below_cut : Space → ℕ → ℕ → Space
 below_cut space v cut = record { low = space.low; high = slice_set space.high v cut; left = space.left }
 
--- with the numbers above it
+-- the space with the numbers above such a cut
 abbrev pub above_cut : Space → ℕ → ℕ → Space
 above_cut space v cut = record {
   low = slice_set space.low v (cut + 1);
@@ -51,7 +52,7 @@ above_cut space v cut = record {
   left = space.left - faults_of v (cut + 1 - get_or space.low v 0);
 }
 
--- with a low and the faults left as they were
+-- the space with a low and the faults left as they were
 abbrev pub reopened_below : Space → ℕ → Lifted → Space
 reopened_below space v was = record { low = slice_set space.low v was.low; high = space.high; left = was.left }
 
@@ -60,6 +61,7 @@ pub record IsWhole (k : ℕ) (space : Space) : Type 0 where
   pub long : length space.low ≡ 256
   pub longer : length space.high ≡ 256
   pub lows : (v : ℕ) → v < 256 → get_or space.low v 0 ≡ 0
+  -- a count is at most k, and a value, a variable from 128 on, at most 1
   pub counts : (v : ℕ) → v < 128 → get_or space.high v 0 ≡ k
   pub values : (v : ℕ) → 128 ≤ v → v < 256 → get_or space.high v 0 ≡ 1
   pub left : space.left ≡ k

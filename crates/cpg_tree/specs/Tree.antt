@@ -33,8 +33,10 @@ HasOnePathEach k paths = (s : Scenario) → HasAtMostFaults k s → length (filt
 -- and which some scenario of at most k faults is on
 pub record IsTidyPath {T : Type 0} (k : ℕ) (path : Path T) : Type 0 where
   pub rising : IsRising path.0
+  -- no literal has the whole range of its variable, and none ends above that range
   pub not_whole : All (λ (l : Literal). is_whole k l ≡ false) path.0
   pub within : All (λ (l : Literal). l.high ≤ top k l.variable) path.0
+  -- some scenario of at most k faults is on the path
   pub met : (s : Scenario) × HasAtMostFaults k s × IsTrue (is_on s path)
 
 -- each variable of a path passes a test
@@ -69,6 +71,7 @@ pub record IsMap {T U : Type 0} (answers : T → U → Type 0) (a : TreeState T)
   pub faults : r.faults ≡ a.faults
   pub value : (s : Scenario) (x : Path T) (z : Path U) → HasAtMostFaults a.faults s → IsOnPath a.paths s x →
       IsOnPath r.paths s z → answers x.1 z.1
+  -- the path of the answer is at least as wide as the one of the value
   pub ranges : (s : Scenario) (x : Path T) (z : Path U) → HasAtMostFaults a.faults s → IsOnPath a.paths s x →
       IsOnPath r.paths s z →
       IsAsWide a.faults z.0 x.0
@@ -81,6 +84,7 @@ pub record IsJoin {T U V : Type 0} (answers : T → U → V → Type 0) (a : Tre
       IsOnPath a.paths s x →
       IsOnPath b.paths s y →
       IsOnPath r.paths s z → answers x.1 y.1 z.1
+  -- the path of the answer has all numbers that lie on the paths of both values
   pub ranges : (s : Scenario) (x : Path T) (y : Path U) (z : Path V) → HasAtMostFaults a.faults s →
       IsOnPath a.paths s x →
       IsOnPath b.paths s y →
@@ -92,6 +96,7 @@ pub record IsPick {T : Type 0} (chooser : TreeState Bool) (on off r : TreeState 
   pub value : (s : Scenario) (c : Path Bool) (x z : Path T) → HasAtMostFaults chooser.faults s →
       IsOnPath chooser.paths s c →
       IsOnPath (if c.1 then on.paths else off.paths) s x → IsOnPath r.paths s z → z.1 ≡ x.1
+  -- the path has all numbers that lie on the path of the chooser and on that of the value
   pub ranges : (s : Scenario) (c : Path Bool) (x z : Path T) → HasAtMostFaults chooser.faults s →
       IsOnPath chooser.paths s c →
       IsOnPath (if c.1 then on.paths else off.paths) s x → IsOnPath r.paths s z →
@@ -101,12 +106,14 @@ pub record IsPick {T : Type 0} (chooser : TreeState Bool) (on off r : TreeState 
 pub record IsJoinWhere {T U V : Type 0} (answers : T → U → V → Type 0) (none : V) (chooser : TreeState Bool)
     (a : TreeState T) (b : TreeState U) (r : TreeState V) : Type 0 where
   pub faults : r.faults ≡ chooser.faults
+  -- the chooser is true: the answer to both values, on a path as wide as the three allow
   pub on : (s : Scenario) (c : Path Bool) (x : Path T) (y : Path U) (z : Path V) → HasAtMostFaults chooser.faults s →
       IsOnPath chooser.paths s c → c.1 ≡ true →
       IsOnPath a.paths s x → IsOnPath b.paths s y → IsOnPath r.paths s z → answers x.1 y.1 z.1
   pub on_ranges : (s : Scenario) (c : Path Bool) (x : Path T) (y : Path U) (z : Path V) →
       HasAtMostFaults chooser.faults s → IsOnPath chooser.paths s c → c.1 ≡ true →
       IsOnPath a.paths s x → IsOnPath b.paths s y → IsOnPath r.paths s z → IsAsWideAsAll chooser.faults z.0 c.0 x.0 y.0
+  -- the chooser is false: the one value, on a path as wide as that of the chooser
   pub off : (s : Scenario) (c : Path Bool) (z : Path V) → HasAtMostFaults chooser.faults s →
       IsOnPath chooser.paths s c → c.1 ≡ false → IsOnPath r.paths s z → z.1 ≡ none
   pub off_ranges : (s : Scenario) (c : Path Bool) (z : Path V) → HasAtMostFaults chooser.faults s →
@@ -117,6 +124,7 @@ pub record IsJoinWhere {T U V : Type 0} (answers : T → U → V → Type 0) (no
 pub record IsNumber {T : Type 0} (v k : ℕ) (number : T → ℕ) (t : TreeState T) : Type 0 where
   pub faults : t.faults ≡ k
   pub value : (s : Scenario) (x : Path T) → HasAtMostFaults k s → IsOnPath t.paths s x → number x.1 ≡ number_of s v
+  -- every other variable has its whole range on the path
   pub low : (s : Scenario) (x : Path T) (u : ℕ) → HasAtMostFaults k s → IsOnPath t.paths s x → u ≢ v → low_in x.0 u ≡ 0
   pub high : (s : Scenario) (x : Path T) (u : ℕ) → HasAtMostFaults k s → IsOnPath t.paths s x → u ≢ v →
       high_in k x.0 u ≡ top k u

@@ -20,6 +20,7 @@ pub record AreCountsFrom (p first k : ℕ) (node : TreeNode ℕ) : Type 0 where
 -- all these counts, and no lower one, are left in a space
 pub record LeavesCounts (space : Space) (p first k : ℕ) : Type 0 where
   pub long : length space.low ≡ 256
+  -- the range of p is from `first` to k, and the faults left reach exactly k
   pub low : get_or space.low p 0 ≡ first
   pub high : get_or space.high p 0 ≡ k
   pub left : first + space.left ≡ k
@@ -27,7 +28,9 @@ pub record LeavesCounts (space : Space) (p first k : ℕ) : Type 0 where
 -- a tree of these counts
 pub record IsCounted (p first k : ℕ) (r : TreeNode ℕ) : Type 0 where
   pub counts : AreCountsFrom p first k r
+  -- the tree fits each space that leaves these counts
   pub fit : (space : Space) → LeavesCounts space p first k → IsFit space r
+  -- all forks are on p
   pub pass : (test : ℕ → Bool) → test p ≡ true → DoForksPass test r
 
 -- the value of a condition
@@ -39,6 +42,7 @@ pub record IsValueNode (v : ℕ) (node : TreeNode Bool) : Type 0 where
 pub record IsValued (v : ℕ) (r : TreeNode Bool) : Type 0 where
   pub value : IsValueNode v r
   pub fit : (k : ℕ) (space : Space) → IsWhole k space → IsFit space r
+  -- all forks are on v
   pub pass : (test : ℕ → Bool) → test v ≡ true → DoForksPass test r
 
 -- whether a number is a variable of the graph

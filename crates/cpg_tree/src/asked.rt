@@ -16,14 +16,18 @@ pub(crate) struct SpacePair {
 /// The greatest numbers of a variable in both spaces.
 #[derive(Clone, Copy)]
 pub(crate) struct Highs {
+    /// The high in the space asked for.
     asked: u8,
+    /// The high in the space walked.
     walked: u8,
 }
 
 /// The lows of a variable in both spaces, with the faults that were left.
 #[derive(Clone, Copy)]
 pub(crate) struct Lows {
+    /// The low in the space asked for.
     asked: Lifted,
+    /// The low in the space walked.
     walked: Lifted,
 }
 
@@ -34,12 +38,12 @@ pub(crate) enum Way {
     Below(Highs),
     /// All above it.
     Above(Lows),
-    /// Both ways, as far as the spaces tell.
+    /// Both ways, as far as the spaces show.
     Both,
 }
 
 impl SpacePair {
-    /// Leaves the scenarios up to a cut; the highs that it had.
+    /// Leaves the scenarios up to a cut, and returns the highs that it had.
     pub(crate) fn close_above(&mut self, variable: u8, cut: u8) -> Highs
         ensures asked { self.new.asked ≡ below_cut self.old.asked variable cut }
         ensures back { lowered self.new variable result ≡ self.old }
@@ -59,7 +63,7 @@ impl SpacePair {
         self.walked.reopen_above(variable, highs.walked);
     }
 
-    /// Leaves the scenarios above a cut; the lows that it had.
+    /// Leaves the scenarios above a cut, and returns the lows that it had.
     pub(crate) fn close_below(&mut self, variable: u8, cut: u8) -> Lows
         requires below { is_open_below self.old.asked variable cut ≡ true }
         requires above { is_open_above self.old.asked variable cut ≡ true }
@@ -83,7 +87,7 @@ impl SpacePair {
         self.walked.reopen_below(variable, lows.walked);
     }
 
-    /// Asks for the scenarios up to a cut alone; the highs that it had.
+    /// Asks only for the scenarios up to a cut, and returns the highs that it had.
     pub(crate) fn ask_below(&mut self, variable: u8, cut: u8) -> Highs
         ensures asked { self.new.asked ≡ below_cut self.old.asked variable cut }
         ensures back { lowered self.new variable result ≡ self.old }
@@ -95,7 +99,7 @@ impl SpacePair {
         }
     }
 
-    /// Asks for the scenarios above a cut alone; the lows that it had.
+    /// Asks only for the scenarios above a cut, and returns the lows that it had.
     pub(crate) fn ask_above(&mut self, variable: u8, cut: u8) -> Lows
         requires below { is_open_below self.old.asked variable cut ≡ true }
         requires above { is_open_above self.old.asked variable cut ≡ true }
@@ -109,7 +113,7 @@ impl SpacePair {
         }
     }
 
-    /// Walks the scenarios up to a cut alone; the highs that it had.
+    /// Walks only the scenarios up to a cut, and returns the highs that it had.
     fn walk_below(&mut self, variable: u8, cut: u8) -> Highs
         ensures asked { self.new.asked ≡ self.old.asked }
         ensures back { lowered self.new variable result ≡ self.old }
@@ -121,7 +125,7 @@ impl SpacePair {
         }
     }
 
-    /// Walks the scenarios above a cut alone; the lows that it had.
+    /// Walks only the scenarios above a cut, and returns the lows that it had.
     fn walk_above(&mut self, variable: u8, cut: u8) -> Lows
         requires below { is_open_below self.old.walked variable cut ≡ true }
         requires above { is_open_above self.old.walked variable cut ≡ true }
@@ -139,21 +143,25 @@ impl SpacePair {
     pub(crate) fn way(&mut self, variable: u8, cut: u8) -> Way
         ensures { IsWay self.old self.new variable cut result }
     {
+        // the forks on the way leave only numbers above the cut, so both spaces stay as they are
         if !self.walked.is_open_below(variable, cut) {
             return Way::Above(Lows {
                 asked: self.asked.lowest(variable),
                 walked: self.walked.lowest(variable),
             });
         }
+        // they leave only numbers up to the cut
         if !self.walked.is_open_above(variable, cut) {
             return Way::Below(Highs {
                 asked: self.asked.highest(variable),
                 walked: self.walked.highest(variable),
             });
         }
+        // all scenarios asked for go above, so only those above are walked
         if !self.asked.is_open_below(variable, cut) {
             return Way::Above(self.walk_above(variable, cut));
         }
+        // all scenarios asked for go below
         if !self.asked.is_open_above(variable, cut) {
             return Way::Below(self.walk_below(variable, cut));
         }

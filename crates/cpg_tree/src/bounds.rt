@@ -54,10 +54,11 @@ pub(crate) struct BoundedTree<'a, T> {
     pub(crate) bounds: &'a [Span],
 }
 
-/// The spans of the forks of both sides of a fork, of which the side below has so many.
+/// The spans of the forks on both sides of a fork: the first `forks` of them are those of the side below.
 fn bounds_of_sides(bounds: &[Span], forks: usize) -> (&[Span], &[Span])
     ensures { AreSpansOfSides bounds.now forks result.0.now result.1.now }
 {
+    // the last span is that of the fork itself
     let Some((_, sides)) = bounds.split_last() else {
         return (bounds, bounds);
     };
@@ -75,6 +76,7 @@ pub(crate) fn sides<'a, T: Copy>(
     ensures bounds { (number : T → ℕ) (v cut : ℕ) (x y : TreeNode T) → below.now ≡ flat x → bounds.now ≡ bounds_in number (Fork v cut x y) →
         (result.0.bounds.now ≡ bounds_in number x) × (result.1.bounds.now ≡ bounds_in number y) }
 {
+    // a tree has one leaf more than forks, so half of its items are forks, rounded down
     let (low, high) = bounds_of_sides(bounds, below.len() / 2);
     (
         BoundedTree {
@@ -88,7 +90,7 @@ pub(crate) fn sides<'a, T: Copy>(
     )
 }
 
-/// Adds the span of each fork behind those of its sides; the span of the tree.
+/// Adds the span of each fork behind those of its sides, and returns the span of the tree.
 #[cycle(bounds)]
 #[inline(always)]
 pub(crate) fn push_bounds<T: Copy, R: Reading<T>>(
@@ -106,7 +108,7 @@ pub(crate) fn push_bounds<T: Copy, R: Reading<T>>(
     }
 }
 
-/// As `push_bounds`, which is written out where it is called, so that values take no call.
+/// Does what `push_bounds` does. That function is inlined where it is called, so that values take no call.
 #[cycle(bounds)]
 fn push_fork_bounds<T: Copy, R: Reading<T>>(
     items: &[TreeItem<T>],
@@ -134,6 +136,7 @@ pub(crate) fn span_of<T: Copy, R: Reading<T>>(tree: BoundedTree<'_, T>, read: &R
     requires { IsBounded (R.number read.now) tree.items.now tree.bounds.now }
     ensures { (n : TreeNode T) → tree.entry.items.now ≡ flat n → result ≡ span_in (R.number read.now) n }
 {
+    // the last span is that of the topmost fork; a tree without spans is one value
     match tree.bounds.split_last() {
         Some((span, _)) => *span,
         None => match top_of(tree.items) {

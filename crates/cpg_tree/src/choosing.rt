@@ -25,9 +25,9 @@ struct TreePair<'a, T, U> {
     other: BoundedTree<'a, U>,
 }
 
-/// Adds what is made of the greater number of two trees where a chooser is true, and else one value, in the scenarios of two
-/// spaces. Only what is asked for is narrowed on the way, so that the answer has the forks of the two trees' answer in the
-/// whole space.
+/// Adds what is made of the greater number of two trees if a chooser is true, and otherwise one value, in the
+/// scenarios of two spaces. On the way only what is asked for is narrowed, so the answer has the forks that the two
+/// trees' answer has in the whole space.
 fn greater_where<T: Copy, U: Copy, V: Copy + Eq, R: Reading<T>, S: Reading<U>, F: Fn(u64) -> V>(
     chooser: &[TreeItem<bool>],
     pair: &TreePair<'_, T, U>,
@@ -81,8 +81,9 @@ fn greater_where<T: Copy, U: Copy, V: Copy + Eq, R: Reading<T>, S: Reading<U>, F
 }
 
 impl Tree<bool> {
-    /// What a function makes in each scenario of the greater number of two trees whose leaves are read as numbers where this
-    /// one is true, and one value elsewhere: nothing is made of what is left out. The one error is `OutOfMemory`.
+    /// In each scenario in which this tree is true, what a function makes of the greater number of two trees whose
+    /// leaves are read as numbers. In the others it is one value, and nothing is made of the two trees. The one error
+    /// is `OutOfMemory`.
     pub fn greater_where<
         T: Copy,
         U: Copy,

@@ -40,12 +40,15 @@ fn repeats_below<T: Copy + Eq>(
     else {
         return false;
     };
+    // the side above is a fork on another variable
     if next != variable {
         return false;
     }
+    // its cut isn't farther up
     if far <= cut {
         return false;
     }
+    // its side below isn't as long as the side to compare
     if count as usize != below.len() {
         return false;
     }
@@ -78,6 +81,7 @@ fn take_out<T: Copy>(out: &mut Vec<TreeItem<T>>, from: usize, count: usize)
     ensures { out.new.items ≡ take from out.old.items ++ drop (from + count) out.old.items }
 {
     let left = out.len() - count;
+    // the items behind those that are taken out move into their place
     for i in from..left {
         out[i] = out[i + count];
     }
@@ -94,6 +98,7 @@ fn push_cut<T: Copy>(
 ) -> Result<(), OutOfMemory>
     ensures { IfOk result (λ _. out.new.items ≡ out.old.items ++ (Cut variable cut count ∷ [])) }
 {
+    // a side of more items than a `u32` counts is taken as out of memory
     let Ok(below) = u32::try_from(count) else {
         return Err(OutOfMemory);
     };
@@ -122,10 +127,11 @@ pub fn fork_of<T: Copy>(
     push_cut(out, variable, cut, middle - start)
 }
 
-/// Whether a look at the last items of two lists shows that the first is equal neither to the second nor to what that has
-/// below a fork on a variable. No clause speaks of it: it only saves time.
+/// Whether the last items of two lists show that the first is equal neither to the second nor to the side below a
+/// fork on a variable in it. No clause speaks of this: it only saves time.
 fn are_apart<T: Copy + Eq>(below: TreeItem<T>, above: TreeItem<T>, variable: u8) -> bool {
     match above {
+        // a value is equal to a value alone
         TreeItem::Value(high) => match below {
             TreeItem::Value(low) => low != high,
             TreeItem::Cut { .. } => true,
@@ -170,13 +176,14 @@ pub(crate) fn fork<T: Copy + Eq>(
     ensures long { IfOk result (λ _. start ≤ length out.new.items) }
     ensures made { IfOk result (λ _. ForksEnd start middle variable cut out.old.items out.new.items) }
 {
+    // the last items show that nothing can be left out
     if sides_are_apart(out.as_slice(), middle, variable) {
         return fork_of(out, start, middle, variable, cut);
     }
     fork_by_sides(out, start, middle, variable, cut)
 }
 
-/// As `fork`, by a look at the whole of both lists.
+/// Does what `fork` does, by comparing the whole of both lists.
 #[inline(never)]
 fn fork_by_sides<T: Copy + Eq>(
     out: &mut Vec<TreeItem<T>>,
@@ -191,10 +198,12 @@ fn fork_by_sides<T: Copy + Eq>(
     ensures long { IfOk result (λ _. start ≤ length out.new.items) }
     ensures made { IfOk result (λ _. ForksEnd start middle variable cut out.old.items out.new.items) }
 {
+    // both sides are equal, so one of them stays, without a fork
     if sides_are_same(out.as_slice(), start, middle) {
         out.truncate(middle);
         return Ok(());
     }
+    // the fork above has the side below too, so that fork alone stays
     if above_repeats_below(out.as_slice(), start, middle, variable, cut) {
         take_out(out, start, middle - start);
         return Ok(());

@@ -24,8 +24,11 @@ use cpg_base::OutOfMemory;
 /// How the leaves of two trees are read as numbers, and what is made of the greater one.
 #[derive(Clone, Copy)]
 pub(crate) struct Greater<'a, R, S, F> {
+    /// How the leaves of the first tree are read.
     pub(crate) read: &'a R,
+    /// How those of the other tree are read.
     pub(crate) other_reading: &'a S,
+    /// What is made of the greater number.
     pub(crate) made: &'a F,
 }
 
@@ -43,9 +46,11 @@ fn bounded_part<'a, T: Copy>(tree: BoundedTree<'a, T>, space: &Space) -> Bounded
             below,
             above,
         } => {
+            // all scenarios of the space go above the cut
             if !space.is_open_below(variable, cut) {
                 return bounded_part(sides(tree.bounds, below, above).1, space);
             }
+            // all scenarios of the space go below the cut
             if !space.is_open_above(variable, cut) {
                 return bounded_part(sides(tree.bounds, below, above).0, space);
             }
@@ -80,9 +85,9 @@ pub(crate) fn at_least<T: Copy, V: Copy + Eq, R: Reading<T>, F: Fn(u64) -> V>(
     )
 }
 
-/// Adds what is made of the greater number of two trees in the scenarios of two spaces. If one is at least the other everywhere,
-/// nothing of the other is tested. What is asked for is the first space alone: the second is what the forks on the way have
-/// left, so that the answer has the forks that it has in the whole space.
+/// Adds what is made of the greater number of two trees in the scenarios of two spaces. If one is at least the other
+/// everywhere, nothing of the other is tested. Only the first space is asked for. The second is what the forks on the
+/// way have left, so the answer has the forks that it has in the whole space.
 pub(crate) fn greater_by<
     T: Copy,
     U: Copy,
@@ -110,9 +115,11 @@ pub(crate) fn greater_by<
     let other = bounded_part(other, &spaces.walked);
     let own_span = span_of(own, how.read);
     let other_span = span_of(other, how.other_reading);
+    // no number of the other tree is above one of the first tree
     if own_span.is_at_least(other_span) {
         return at_least(own.items, &mut spaces.asked, 0, how.read, how.made, out);
     }
+    // no number of the first tree is above one of the other
     if other_span.is_at_least(own_span) {
         return at_least(
             other.items,
@@ -153,6 +160,7 @@ pub(crate) fn greater_by<
                     spaces.reopen_above(variable, highs);
                     Ok(())
                 }
+                // the answers of both sides are added, and then a fork of the two
                 Way::Both => {
                     let start = out.len();
                     let highs = spaces.close_above(variable, cut);
@@ -215,7 +223,7 @@ fn greater_items<T: Copy, U: Copy, V: Copy + Eq, R: Reading<T>, S: Reading<U>, F
         let number = how.other_reading.number(value);
         return at_least_everywhere(own, number, how.read, how.made, out);
     }
-    // a look at the leaves alone, before anything is kept of each fork
+    // this looks at the leaves only, before any span of a fork is kept
     if is_at_least(own, how.read, other, how.other_reading) {
         return at_least_everywhere(own, 0, how.read, how.made, out);
     }
@@ -225,7 +233,7 @@ fn greater_items<T: Copy, U: Copy, V: Copy + Eq, R: Reading<T>, S: Reading<U>, F
     greater_by_bounds(own, other, space, how, out)
 }
 
-/// As `greater_items`, by the spans of the forks of both trees.
+/// Does what `greater_items` does, by the spans of the forks of both trees.
 fn greater_by_bounds<T: Copy, U: Copy, V: Copy + Eq, R: Reading<T>, S: Reading<U>, F: Fn(u64) -> V>(
     own: &[TreeItem<T>],
     other: &[TreeItem<U>],
@@ -265,9 +273,9 @@ fn greater_by_bounds<T: Copy, U: Copy, V: Copy + Eq, R: Reading<T>, S: Reading<U
 }
 
 impl<T: Copy> Tree<T> {
-    /// What a function makes in each scenario of the greater number of two trees whose leaves are read as numbers. If one
-    /// tree's numbers are at least the other's everywhere, nothing of the other is tested, which no clause asks for. The one
-    /// error is `OutOfMemory`.
+    /// What a function makes in each scenario of the greater number of two trees whose leaves are read as numbers. If
+    /// one tree's numbers are at least the other's everywhere, nothing of the other is tested; no clause asks for
+    /// this. The one error is `OutOfMemory`.
     pub fn greater<U: Copy, V: Copy + Eq, R: Reading<T>, S: Reading<U>, F: Fn(u64) -> V>(
         &self,
         read: &R,

@@ -34,7 +34,7 @@ pub(crate) fn fill_items<T: Copy, U: Copy, V: Copy + Eq, F: Fn(T, U) -> V>(
     }
 }
 
-/// As `fill_items`, which is written out where it is called, so that values take no call.
+/// Does what `fill_items` does. That function is inlined where it is called, so that values take no call.
 #[cycle(fill)]
 fn fill_fork<T: Copy, U: Copy, V: Copy + Eq, F: Fn(T, U) -> V>(
     items: &[TreeItem<U>],
@@ -58,12 +58,15 @@ fn fill_fork<T: Copy, U: Copy, V: Copy + Eq, F: Fn(T, U) -> V>(
             below,
             above,
         } => {
+            // all scenarios of the space go above the cut
             if !space.is_open_below(variable, cut) {
                 return fill_fork(above, space, value, f, out);
             }
+            // all scenarios of the space go below the cut
             if !space.is_open_above(variable, cut) {
                 return fill_fork(below, space, value, f, out);
             }
+            // the answers of both sides are added, each for its part of the space, and then a fork of the two
             let start = out.len();
             let most = space.close_above(variable, cut);
             fill_items(below, space, value, f, out)?;
@@ -95,7 +98,7 @@ pub(crate) fn join_items<T: Copy, U: Copy, V: Copy + Eq, F: Fn(T, U) -> V>(
     ensures made { IfOk result (λ _. (n : TreeNode T) (m : TreeNode U) → items.now ≡ flat n → other.now ≡ flat m →
         AddsTree (IsJoined (F.post f.now) space.old n m) out.old.items out.new.items) }
 {
-    // so that no leaf goes through the other tree from its top
+    // this way no leaf walks through the other tree from its top
     let other = part_in(other, space);
     match top_of(items) {
         Top::Value(value) => fill_items(other, space, value, f, out),
@@ -105,12 +108,15 @@ pub(crate) fn join_items<T: Copy, U: Copy, V: Copy + Eq, F: Fn(T, U) -> V>(
             below,
             above,
         } => {
+            // all scenarios of the space go above the cut
             if !space.is_open_below(variable, cut) {
                 return join_items(above, other, space, f, out);
             }
+            // all scenarios of the space go below the cut
             if !space.is_open_above(variable, cut) {
                 return join_items(below, other, space, f, out);
             }
+            // the answers of both sides are added, each for its part of the space, and then a fork of the two
             let start = out.len();
             let most = space.close_above(variable, cut);
             join_side(below, other, space, f, out)?;
@@ -124,7 +130,7 @@ pub(crate) fn join_items<T: Copy, U: Copy, V: Copy + Eq, F: Fn(T, U) -> V>(
     }
 }
 
-/// As `join_items`, written out where it is called, so that values take no call.
+/// Does what `join_items` does, inlined where it is called, so that values take no call.
 #[cycle(join)]
 #[inline(always)]
 fn join_side<T: Copy, U: Copy, V: Copy + Eq, F: Fn(T, U) -> V>(

@@ -29,7 +29,7 @@ pub(crate) fn map_items<T: Copy, U: Copy + Eq, F: Fn(T) -> U>(
     }
 }
 
-/// As `map_items`, which is written out where it is called, so that values take no call.
+/// Does what `map_items` does. That function is inlined where it is called, so that values take no call.
 #[cycle(map)]
 fn map_fork<T: Copy, U: Copy + Eq, F: Fn(T) -> U>(
     items: &[TreeItem<T>],

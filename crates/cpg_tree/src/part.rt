@@ -8,7 +8,7 @@ use crate::item::TreeItem;
 use crate::space::Space;
 use crate::top::{Top, top_of};
 
-/// As `part_in`, which is written out where it is called.
+/// Does what `part_in` does. That function is inlined where it is called.
 #[cycle(part)]
 fn part_of<'a, T: Copy>(items: &'a [TreeItem<T>], space: &Space) -> &'a [TreeItem<T>]
     requires { IsFlat items.now }
@@ -18,7 +18,7 @@ fn part_of<'a, T: Copy>(items: &'a [TreeItem<T>], space: &Space) -> &'a [TreeIte
     part_in(items, space)
 }
 
-/// The part of a tree that a space comes to: without the forks at the top of which it closes a side.
+/// The part of a tree that a space comes to: forks at the top are left out if the space closes one of their sides.
 #[cycle(part)]
 #[inline(always)]
 pub fn part_in<'a, T: Copy>(items: &'a [TreeItem<T>], space: &Space) -> &'a [TreeItem<T>]

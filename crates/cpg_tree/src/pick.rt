@@ -46,7 +46,7 @@ fn pick_items<T: Copy + Eq>(
     ensures made { IfOk result (λ _. (n : TreeNode Bool) (a b : TreeNode T) → items.now ≡ flat n → on.now ≡ flat a → off.now ≡ flat b →
         AddsTree (IsPicked space.old n a b) out.old.items out.new.items) }
 {
-    // so that no leaf goes through them from their tops
+    // this way no leaf walks through them from their tops
     let on = part_in(on, space);
     let off = part_in(off, space);
     match top_of(items) {

@@ -17,7 +17,8 @@ use crate::space::Space;
 use crate::top::{Top, top_of};
 use cpg_base::OutOfMemory;
 
-/// Adds the numbers of one of two trees in the scenarios of a space: those of the first, as it is read, where a chooser is true.
+/// Adds the numbers of one of two trees in the scenarios of a space: those of the first, as it is read, if a chooser
+/// is true.
 fn pick_read<T: Copy, R: Reading<T>>(
     items: &[TreeItem<bool>],
     space: &mut Space,
@@ -34,7 +35,7 @@ fn pick_read<T: Copy, R: Reading<T>>(
     ensures made { IfOk result (λ _. (c : TreeNode Bool) (n : TreeNode T) (m : TreeNode ℕ) → items.now ≡ flat c → on.now ≡ flat n → off.now ≡ flat m →
         AddsTree (IsPicked space.old c (read_by (R.number read.now) n) m) out.old.items out.new.items) }
 {
-    // so that no leaf goes through them from their tops
+    // this way no leaf walks through them from their tops
     let on = part_in(on, space);
     let off = part_in(off, space);
     match top_of(items) {
@@ -71,8 +72,8 @@ fn pick_read<T: Copy, R: Reading<T>>(
 }
 
 impl Tree<bool> {
-    /// In each scenario the number of one of two trees: where this one is true the time of the first, 0 if that has none,
-    /// later by a delay.
+    /// In each scenario the number of one of two trees. If this tree is true there, it is the time of the first, 0 if
+    /// that has none, later by a delay.
     pub fn pick_later(
         &self,
         times: &Tree<Option<u64>>,

@@ -22,6 +22,7 @@ pub struct Space {
     pub low: [u8; VARIABLES],
     /// The greatest, but for the faults that are left.
     pub high: [u8; VARIABLES],
+    /// How many faults there may be beyond the lows.
     left: u8,
 }
 
@@ -61,6 +62,7 @@ impl Space {
     fn allows_above(&self, variable: u8, cut: u8) -> bool
         ensures { result ≡ (nat_le 128 variable || nat_lt cut (get_or self.now.low variable 0 + self.now.left)) }
     {
+        // a value takes no faults
         if variable >= FIRST_VALUE {
             return true;
         }
@@ -81,12 +83,14 @@ impl Space {
     {
         let high = self.high[variable as usize];
         let low = self.low[variable as usize];
+        // a value takes no faults, so its high is reached
         if variable >= FIRST_VALUE {
             return high;
         }
         if high <= low {
             return high;
         }
+        // the faults left reach the high
         if high - low <= self.left {
             return high;
         }
@@ -117,7 +121,7 @@ impl Space {
         }
     }
 
-    /// Leaves the numbers up to the cut, if there are others; the high of before, for `reopen_above`.
+    /// Leaves the numbers up to the cut, if there are others, and returns the high from before, for `reopen_above`.
     pub fn close_above(&mut self, variable: u8, cut: u8) -> u8
         ensures is { self.new ≡ below_cut self.old variable cut }
         ensures back { below_cut self.new variable result ≡ self.old }
@@ -135,7 +139,7 @@ impl Space {
         self.high[variable as usize] = high;
     }
 
-    /// Leaves the numbers above the cut, if there are others; what was before, for `reopen_below`.
+    /// Leaves the numbers above the cut, if there are others, and returns what was before, for `reopen_below`.
     pub fn close_below(&mut self, variable: u8, cut: u8) -> Lifted
         requires below { is_open_below self.old variable cut ≡ true }
         requires above { is_open_above self.old variable cut ≡ true }
@@ -161,13 +165,16 @@ impl Space {
         ensures lies { OnTrue result ((s : Scenario) → IsInSpace self.old s → low ≤ number_of s variable → IsInSpace self.new s) }
         ensures none { OnFalse result ((s : Scenario) → IsInSpace self.old s → number_of s variable < low) }
     {
+        // each number is at least 0
         if low == 0 {
             return true;
         }
         let cut = low - 1;
+        // no number from `low` on is left
         if !self.is_open_above(variable, cut) {
             return false;
         }
+        // all numbers left are from `low` on
         if !self.is_open_below(variable, cut) {
             return true;
         }
@@ -180,9 +187,11 @@ impl Space {
         ensures lies { OnTrue result ((s : Scenario) → IsInSpace self.old s → number_of s variable ≤ high → IsInSpace self.new s) }
         ensures none { OnFalse result ((s : Scenario) → IsInSpace self.old s → high < number_of s variable) }
     {
+        // no number up to `high` is left
         if !self.is_open_below(variable, high) {
             return false;
         }
+        // all numbers left are up to `high`
         if self.high[variable as usize] <= high {
             return true;
         }
@@ -208,7 +217,7 @@ impl Space {
         ensures is { self.new ≡ above_cut self.old variable cut }
         ensures lies { (s : Scenario) → IsInSpace self.old s → cut < number_of s variable → IsInSpace self.new s }
     {
-        // as the high fits its type, `cut + 1` does
+        // `cut + 1` fits its type, as the high does
         let _high = self.high[variable as usize];
         let low = cut + 1;
         self.left -= faults_of(variable, low - self.low[variable as usize]);
@@ -219,9 +228,11 @@ impl Space {
     pub fn implies(&self, literal: &Literal) -> bool
         ensures { OnTrue result ((s : Scenario) → IsInSpace self.now s → holds s literal.now ≡ true) }
     {
+        // the low itself isn't in the literal's range
         if self.low[literal.variable as usize] < literal.low {
             return false;
         }
+        // the whole range lies in that of the literal
         if self.high[literal.variable as usize] <= literal.high {
             return true;
         }
@@ -234,6 +245,7 @@ impl Space {
         ensures { OnFalse result ((s : Scenario) → IsInSpace self.now s → matches literals.now s ≡ false) }
     {
         let mut left = self.left;
+        // each literal takes the faults between the low of its variable and its own low
         for at in from..literals.len() {
             let literal = literals[at];
             let low = self.low[literal.variable as usize];
@@ -246,7 +258,8 @@ impl Space {
         true
     }
 
-    /// Leaves the scenarios that literals match; false only if there are none, and then it is any space.
+    /// Leaves the scenarios that literals match. It returns false only if there are none, and then the space can be
+    /// any.
     pub fn narrow_to(&mut self, literals: &[Literal]) -> bool
         ensures lies { OnTrue result ((s : Scenario) → IsInSpace self.old s → matches literals.now s ≡ true → IsInSpace self.new s) }
         ensures none { OnFalse result ((s : Scenario) → IsInSpace self.old s → matches literals.now s ≡ false) }

@@ -8,7 +8,7 @@ use std::alloc::Global;
 const NUMBERS: usize = 16;
 /// How many counts a table has: one for each number of each variable.
 const COUNTS: usize = 4096;
-/// Of at most this many columns only the variables of the first are looked at.
+/// If there are at most this many columns, only the variables of the first are looked at.
 const FEW: u32 = 24;
 
 /// A fork by whether a variable is at most a number, and how well it parts columns.
@@ -37,8 +37,9 @@ fn rated(variable: u8, most: u8, count: u32, below: u32, above: u32) -> Parting 
 }
 
 impl Parting {
-    /// Whether a fork is better than another: one that no column stands on both sides of, and of such the one that parts
-    /// more evenly. If columns stand as the leaves of some tree, so do those on each side of such a fork.
+    /// Whether a fork is better than another. A fork that no column stands on both sides of is better, and among such
+    /// forks the one that parts more evenly. If columns stand as the leaves of some tree, so do those on each side of
+    /// such a fork.
     fn is_better(&self, other: &Parting) -> bool {
         if self.is_shared != other.is_shared {
             return other.is_shared;
@@ -91,7 +92,9 @@ fn count_index(variable: u8, number: u8) -> usize {
 /// For each variable and number how many literals begin and end there.
 #[derive(Drop)]
 pub struct Tally {
+    /// How many literals begin at each number of each variable.
     lows: Vec<u32>,
+    /// How many literals end there.
     highs: Vec<u32>,
 }
 
@@ -102,7 +105,7 @@ fn table(alloc: Global) -> Result<Vec<u32>, OutOfMemory> {
 }
 
 impl Tally {
-    /// A tally of no columns, and without tables: it finds no fork.
+    /// A tally of no columns, without tables. It finds no fork.
     pub fn new(alloc: Global) -> Tally {
         Tally {
             lows: Vec::new(alloc),
@@ -124,7 +127,7 @@ impl Tally {
         Ok(())
     }
 
-    /// One more column, by its literals.
+    /// Counts one more column, by its literals.
     pub fn add(&mut self, literals: &[Literal]) {
         for literal in literals {
             raise(&mut self.lows, count_index(literal.variable, literal.low));
@@ -132,7 +135,7 @@ impl Tally {
         }
     }
 
-    /// Takes all counts away that a column's literals have raised.
+    /// Takes away all counts that a column's literals have raised.
     pub fn clear(&mut self, literals: &[Literal]) {
         for literal in literals {
             empty(&mut self.lows, count_index(literal.variable, literal.low));
@@ -152,7 +155,7 @@ impl Tally {
         count
     }
 
-    /// The better of a fork and those on a variable, of so many columns.
+    /// The better of a fork and those on a variable, for `count` columns.
     fn best_on(&self, variable: u8, count: u32, found: Option<Parting>) -> Option<Parting> {
         let mut best = found;
         let mut below: u32 = 0;
@@ -168,7 +171,7 @@ impl Tally {
         best
     }
 
-    /// The best fork of so many columns on the variables of some literals, if one parts them.
+    /// The best fork of `count` columns on the variables of some literals, if one parts them.
     fn best_among(&self, literals: &[Literal], count: u32) -> Option<Parting> {
         let mut best: Option<Parting> = None;
         for literal in literals {
@@ -177,7 +180,7 @@ impl Tally {
         best
     }
 
-    /// The best fork of so many columns, if one parts them.
+    /// The best fork of `count` columns, if one parts them.
     pub fn best(&self, count: u32) -> Option<Parting> {
         let mut best: Option<Parting> = None;
         for variable in 0..VARIABLES {
@@ -186,8 +189,8 @@ impl Tally {
         best
     }
 
-    /// As `best`, by the literals of one of the columns: a fork that no column stands on both sides of is on one of
-    /// their variables.
+    /// Does what `best` does, by the literals of one of the columns: a fork that no column stands on both sides of is
+    /// on one of their variables.
     pub fn best_by(&self, literals: &[Literal], count: u32) -> Option<Parting> {
         let best = self.best_among(literals, count);
         if count <= FEW {

@@ -20,12 +20,16 @@ use cpg_base::{OutOfMemory, Scenario};
 use std::alloc::Global;
 use std::marker::Model;
 
-/// A value for each scenario of at most `k` faults: seen as its paths, each a cube and the value in the scenarios that
-/// the cube matches. It is one list: the items of each fork's side below, those of its side above, and then the fork.
+/// A value for each scenario of at most `k` faults. It is seen as its paths: each is a cube and the value in the
+/// scenarios that the cube matches. It is stored as one list: the items of each fork's side below, those of its side
+/// above, and then the fork.
 #[derive(Drop)]
 pub struct Tree<T> {
+    /// The allocator of its items.
     alloc: Global,
+    /// The most faults of a scenario that it has a value for.
     faults: u8,
+    /// The items of each fork's sides, and then the fork.
     items: Vec<TreeItem<T>>,
 }
 
@@ -154,7 +158,7 @@ impl<T: Copy> Tree<T> {
 }
 
 impl Tree<bool> {
-    /// Whether the tree is true in every scenario, as far as a look at the first fork tells.
+    /// Whether the tree is true in every scenario, as far as its first fork shows.
     pub fn is_true(&self) -> bool
         ensures { OnTrue result (IsConstant true self.now.faults self.now) }
     {

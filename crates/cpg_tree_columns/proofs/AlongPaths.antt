@@ -36,6 +36,7 @@ only {T} cube y x c = elim (Contains-cases (cube, y) [] x c) [
 
 -- ---- ranges only shrink on the way down
 
+-- on the way down the lows of a rising cube only rise
 rises : {T : Type 0} (k : ℕ) (node : TreeNode T) (cube : List Literal) → IsRising cube → (x : Path T) →
     Contains (paths_from k cube node) x → (u : ℕ) →
     low_in cube u ≤ low_in x.0 u
@@ -61,6 +62,7 @@ rises k (Fork v cut below upper) cube rising x c u =
       | inr n ↦ omega (arith, low-other k l cube u n)
     ]
 
+-- on the way down the highs of a rising cube only fall
 falls : {T : Type 0} (k : ℕ) (node : TreeNode T) (cube : List Literal) → IsRising cube → HasCuts k node → (x : Path T) →
     Contains (paths_from k cube node) x → (u : ℕ) →
     high_in k x.0 u ≤ high_in k cube u
@@ -90,6 +92,7 @@ falls k (Fork v cut below upper) cube rising cuts x c u =
 -- ---- the lows of variables that stand before all forks stay
 
 module _ (places : List ℕ) where
+  -- the low of a variable that stands before all forks stays on the way down
   stays : {T : Type 0} (k left : ℕ) (node : TreeNode T) (cube : List Literal) → AreForksAlong places left node →
       (x : Path T) → Contains (paths_from k cube node) x → (u : ℕ)
       → left < get_or places u 0 →
@@ -106,7 +109,7 @@ module _ (places : List ℕ) where
             (omega (arith, along.0, l)) ∙ low-other k (above k v cut) cube u other
       ]
 
--- ---- so the first fork that parts two paths tells which stands first
+-- ---- so the first fork that parts two paths decides which stands first
 
 module _ (g : Graph) (order places : List ℕ) (are : ArePlaces (variables_along g order) places) (k : ℕ) where
   abbrev Stands : List Literal → List Literal → Type 0
@@ -116,6 +119,7 @@ module _ (g : Graph) (order places : List ℕ) (are : ArePlaces (variables_along
   abbrev HasNumbers : {T : Type 0} → List (Path T) → Type 0
   HasNumbers {T} paths = (x : Path T) → Contains paths x → (u : ℕ) → u < 256 → low_in x.0 u ≤ high_in k x.0 u
 
+  -- if the forks of a tree stand along an order, so do its paths
   sorted_paths : {T : Type 0} (left : ℕ) (node : TreeNode T) (cube : List Literal) → IsRising cube → HasCuts k node →
       AreForksAlong places left node →
       HasNumbers (paths_from k cube node) →
@@ -150,7 +154,7 @@ module _ (g : Graph) (order places : List ℕ) (are : ArePlaces (variables_along
         low-same k (above k v cut) cube rising,
       )))
 
-  -- the columns of paths that stand so
+  -- the columns of paths that stand in order stand by their least scenarios
   columns_stand : (paths : List (Path (Option ℕ))) → AllPairs (λ (x y : Path (Option ℕ)). Stands x.0 y.0) paths →
       AreByLows (λ (c : Column). c.cube) g order (columns_of_paths paths)
   columns_stand paths stand = AllPairs-flat_map_in (λ (x y : Path (Option ℕ)). Stands x.0 y.0)
@@ -167,6 +171,7 @@ module _ (g : Graph) (order places : List ℕ) (are : ArePlaces (variables_along
           (record { time = t; cube = cube }) [] (λ z c. absurd (Contains-nil z c))
           (AllPairs-nil (λ (c d : Column). Stands c.cube d.cube))
 
+  -- if the forks of a good tree stand along an order, the columns of its paths stand by their least scenarios
   pub sorted_columns : (node : TreeNode (Option ℕ)) → IsGood k node → AreForksAlong places 256 node →
       AreByLows (λ (c : Column). c.cube) g order (columns_of_paths (paths_of k node))
   sorted_columns node good along = columns_stand (paths_of k node)

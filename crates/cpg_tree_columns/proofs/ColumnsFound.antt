@@ -39,6 +39,7 @@ range_low l (m ∷ ms) = elim (cases_eq l.variable m.variable) [
       (sym (cond-false (m.variable == l.variable) m.low (low_in ms l.variable) (ne_eqb _ _ (λ e. n (sym e)))))
 ]
 
+-- the high of the range left to a literal is the lesser of its own high and that of the cube
 range_high : (k : ℕ) (l : Literal) (cube : List Literal) → l.high ≤ top k l.variable →
     (range_left l cube).high ≡ min l.high (high_in k cube l.variable)
 range_high k l [] h = omega (arith, h)
@@ -54,9 +55,11 @@ range_high k l (m ∷ ms) h = elim (cases_eq l.variable m.variable) [
 
 -- ---- neither side's range is empty
 
+-- given: a cube that covers an open space, and a cut with numbers of the space on both sides
 module _ (k : ℕ) (space : Space) (is : IsOpenSpace k space) (v cut : ℕ) (there : v < 256)
     (below : is_open_below space v cut ≡ true) (upper : is_open_above space v cut ≡ true) (cube : List Literal)
     (covers : CoversSpace k space cube) where
+  -- the cube narrowed to the numbers up to the cut, or to those above it, has no empty range
   pub some_below : with_literal (up_to v cut) cube ≡ Some (narrowed_by (up_to v cut) cube)
   some_below = cond-true _ _ _ (le-leb (range_left (up_to v cut) cube).low (range_left (up_to v cut) cube).high
       (omega (
@@ -69,6 +72,7 @@ module _ (k : ℕ) (space : Space) (is : IsOpenSpace k space) (v cut : ℕ) (the
         is.opens v there,
       )))
 
+  -- the cube narrowed to the numbers above the cut has no empty range
   pub some_above : with_literal (above k v cut) cube ≡ Some (narrowed_by (above k v cut) cube)
   some_above = cond-true _ _ _ (le-leb (range_left (above k v cut) cube).low (range_left (above k v cut) cube).high
       (omega (
@@ -88,6 +92,7 @@ module _ (k : ℕ) (space : Space) (is : IsOpenSpace k space) (v cut : ℕ) (the
 flat_both : (xs ys : List (Path (Option ℕ))) → columns_of_paths (xs ++ ys) ≡ columns_of_paths xs ++ columns_of_paths ys
 flat_both xs ys = flat_map-append (λ (p : Path (Option ℕ)). column_of p.0 p.1) xs ys
 
+-- the columns on from a cube that covers the space are those of the paths on from it
 pub columns_are : (k : ℕ) (node : TreeNode (Option ℕ)) (space : Space) (cube : List Literal) → IsOpenSpace k space →
     CoversSpace k space cube →
     IsFit space node →
@@ -108,6 +113,7 @@ columns_are k (Fork v cut below upper) space cube is covers fit =
     ∙ sym (flat_both (paths_from k (narrowed_by (up_to v cut) cube) below)
     (paths_from k (narrowed_by (above k v cut) cube) upper))
 
+-- the columns of a good tree are those of its paths
 pub all_columns : (k : ℕ) (node : TreeNode (Option ℕ)) → IsGood k node →
     columns_from k [] node ≡ columns_of_paths (paths_from k [] node)
 all_columns k node good =
@@ -124,18 +130,19 @@ columns_seen k node good paths seen faults same whole none =
 
 -- ---- on the way down a list
 
--- a side of a fork whose cuts leave numbers above them
+-- a list of a side has cuts that leave numbers above them, if the side has
 pub side_cuts : (k : ℕ) (items : List (TreeItem (Option ℕ))) (x n : TreeNode (Option ℕ)) → items ≡ flat x →
     HasCuts k x → items ≡ flat n → HasCuts k n
 side_cuts k items x n is cuts are = subst (HasCuts k) (flat-same x n (sym is ∙ are)) cuts
 
+-- a cut of a variable leaves room for the number above it, if there are fewer than 256 faults
 pub cut_fits : (k v cut : ℕ) → k < 256 → cut < top k v → cut + 1 < 256
 cut_fits k v cut small less = elim (cases_lt v 128) [
   | inl count ↦ omega (arith, less, small, cond-true (nat_lt v 128) k 1 (lt-ltb v 128 count))
   | inr value ↦ omega (arith, less, cond-false (nat_lt v 128) k 1 (le-ltb v 128 value))
 ]
 
--- the column of a leaf
+-- if a leaf's column is added, the columns on from the cube are added
 pub leaf_columns : (k : ℕ) (cube : List Literal) (items : List (TreeItem (Option ℕ))) (n : TreeNode (Option ℕ))
     (x : Option ℕ) (old new : List Column) → items ≡ flat (Leaf x) →
     items ≡ flat n →
@@ -143,9 +150,10 @@ pub leaf_columns : (k : ℕ) (cube : List Literal) (items : List (TreeItem (Opti
 leaf_columns k cube items n x old new is are added =
     added ∙ ap (λ (m : TreeNode (Option ℕ)). old ++ columns_from k cube m) (flat-same (Leaf x) n (sym is ∙ are))
 
+-- given: a fork, the list of its items, and the cube that the way to it has left
 module _ (k : ℕ) (cube : List Literal) (v cut : ℕ) (x y n : TreeNode (Option ℕ)) (items : List (TreeItem (Option ℕ)))
     (is : items ≡ flat (Fork v cut x y)) (are : items ≡ flat n) where
-  -- those of the side below, and then those of the side above
+  -- if the columns of the side below and then those of the side above are added, those of the fork are
   pub fork_columns : (low high : Option (List Literal)) → with_literal (up_to v cut) cube ≡ low →
       with_literal (above k v cut) cube ≡ high →
       (old mid new : List Column) →
@@ -159,7 +167,7 @@ module _ (k : ℕ) (cube : List Literal) (v cut : ℕ) (x y n : TreeNode (Option
       ++ option_map_or (λ c. columns_from k c y) b [])) (sym below_is) (sym above_is)
       ∙ ap (λ (m : TreeNode (Option ℕ)). old ++ columns_from k cube m) (flat-same (Fork v cut x y) n (sym is ∙ are))
 
--- a cube narrowed above a cut
+-- a cube that is narrowed to the numbers above a cut, by any name of these
 pub above_of : (k v cut most : ℕ) (cube old : List Literal) (high : Option (List Literal)) → most ≡ top k v →
     old ≡ cube →
     with_literal (record { variable = v; low = cut + 1; high = most }) old ≡ high →
@@ -168,7 +176,7 @@ above_of k v cut most cube old high whole same narrowed =
     ap₂ (λ (h : ℕ) (ls : List Literal). let l : Literal = record { variable = v; low = cut + 1; high = h } in
     with_literal l ls) (sym whole) (sym same) ∙ narrowed
 
--- as it stood before it was narrowed up to the cut
+-- the same for a cube that is restored first, after it was narrowed up to the cut
 pub above_again : (k v cut most : ℕ) (n : Narrowing) (cube low after : List Literal) (high : Option (List Literal)) →
     most ≡ top k v → IsUndo n low cube → after ≡ low →
     with_literal (record { variable = v; low = cut + 1; high = most }) (restored n after) ≡ high →

@@ -36,11 +36,12 @@ use Rattle.cpg_tree_columns.specs.Greatest.{HasValueAt, IsLeastWhereSorted, if_w
 use Rattle.cpg_tree_columns.proofs.Leasts.{column_there, path_there}
 use Rattle.cpg_tree_columns.proofs.TidyColumns.{tidy_columns}
 
--- as a call answers it
+-- what follows from a test that is true holds if the test is true
 pub on_true : {P : Type 0} (b : Bool) → (b ≡ true → P) → OnTrue b P
 on_true true h = h refl
 on_true false h = tt
 
+-- what follows from a test that is false holds if the test is false
 pub on_false : {P : Type 0} (b : Bool) → (b ≡ false → P) → OnFalse b P
 on_false true h = tt
 on_false false h = h refl
@@ -57,6 +58,7 @@ module _ (wanted : ℕ) where
 
   -- ---- of two lists, one after the other
 
+  -- if the first list has a column with the number, that is the first of both lists
   pub first_left : (xs ys : List Column) (cube : List Literal) → first_with wanted xs ≡ Some cube →
       first_with wanted (xs ++ ys) ≡ Some cube
   first_left [] ys cube e = absurd (none-some cube e)
@@ -65,6 +67,7 @@ module _ (wanted : ℕ) where
     | inr differs ↦ past_first x (xs ++ ys) differs ∙ first_left xs ys cube (sym (past_first x xs differs) ∙ e)
   ]
 
+  -- if it has none, the first of both is that of the second list
   pub first_right : (xs ys : List Column) → first_with wanted xs ≡ None →
       first_with wanted (xs ++ ys) ≡ first_with wanted ys
   first_right [] ys e = refl
@@ -81,7 +84,7 @@ module _ (wanted : ℕ) where
         option_map_or (λ c. columns_from k c below) (with_literal (up_to v cut) cube) [] ≡ columns_from k low below
     of_below low e = ap (λ (o : Option (List Literal)). option_map_or (λ c. columns_from k c below) o []) e
 
-    -- the first is below the cut
+    -- if the side below has a column with the number, its first one is that of the fork
     pub fork_below : (low found : List Literal) → with_literal (up_to v cut) cube ≡ Some low →
         first_with wanted (columns_from k low below) ≡ Some found →
         first_with wanted (columns_from k cube node) ≡ Some found
@@ -108,7 +111,7 @@ module _ (wanted : ℕ) where
         ∙ ap (λ (o : Option (List Literal)). first_with wanted (option_map_or (λ c. columns_from k c upper) o [])) i
         ∙ first
 
-    -- nor does the cube leave numbers below the cut
+    -- if the cube has no numbers below the cut, the first column of the fork is that of the side above
     pub fork_only_above : (high found : Option (List Literal)) → with_literal (up_to v cut) cube ≡ None →
         with_literal (above k v cut) cube ≡ high →
         first_with wanted (option_map_or (λ c. columns_from k c upper) high []) ≡ found →
@@ -124,6 +127,7 @@ module _ (wanted : ℕ) where
     leaf_is : first_with wanted (columns_from k cube node) ≡ first_with wanted (column_of cube x)
     leaf_is = ap (λ (n : TreeNode (Option ℕ)). first_with wanted (columns_from k cube n)) is
 
+    -- a leaf with the number has its cube as the first
     pub leaf_first : is_some (if_wanted wanted x) ≡ true → first_with wanted (columns_from k cube node) ≡ Some cube
     leaf_first on = leaf_is ∙ by_value x on
       where
@@ -136,6 +140,7 @@ module _ (wanted : ℕ) where
               (ap is_some (cond-false (time == wanted) (Some time) None (ne_eqb _ _ differs))) h)
         ]
 
+    -- a leaf without the number has none
     pub leaf_none : is_some (if_wanted wanted x) ≡ false → first_with wanted (columns_from k cube node) ≡ None
     leaf_none off = leaf_is ∙ by_value x off
       where
@@ -158,6 +163,7 @@ module _ (wanted : ℕ) where
     | inr differs ↦ Contains-rest x xs (With cube) (is_there xs cube (sym (past_first x xs differs) ∙ e))
   ]
 
+  -- if no column with the wanted time is found, no column has that time
   nowhere : (xs : List Column) → first_with wanted xs ≡ None → (d : Column) → Contains xs d → d.time ≢ wanted
   nowhere [] e d c t = absurd (Contains-nil d c)
   nowhere (x ∷ xs) e d c t = elim (cases_eq x.time wanted) [
@@ -172,7 +178,7 @@ module _ (wanted : ℕ) where
     abbrev Stands : Column → Column → Type 0
     Stands c d = is_below (lows_along g order (low_in d.cube)) (lows_along g order (low_in c.cube)) ≡ false
 
-    -- no other with the time stands before the first
+    -- no other column with the time stands before the first one
     none_before : (xs : List Column) → AreByLows (λ (c : Column). c.cube) g order xs → (cube : List Literal) →
         first_with wanted xs ≡ Some cube → (d : Column) → Contains xs d →
         d.time ≡ wanted →
@@ -211,6 +217,7 @@ module _ (g : Graph) (paths : List (Path (Option ℕ))) (wanted : ℕ) where
       by_value None k None e = λ i d l. no_path k (get_or paths i d) (Contains-get_or paths i d l)
       by_value (Some cube) k None e = absurd (none-some (lows g cube) e)
 
+  -- if the columns stand along an order, the first with the number has the least scenario of the number
   pub some_sorted : (order : List ℕ) → IsPermutation (numbers_below (process_count g)) order →
       AreByLows (λ (c : Column). c.cube) g order (columns_of_paths paths) →
       (o : Option Scenario) → IfSome o (IsLeastWhereSorted g paths wanted) →
@@ -218,6 +225,7 @@ module _ (g : Graph) (paths : List (Path (Option ℕ))) (wanted : ℕ) where
   some_sorted order all stand None h = tt
   some_sorted order all stand (Some s) h = h order all stand
 
+-- given: a good tree whose variables are a graph's, and the cube of the first column with a number
 module _ (g : Graph) (few : process_count g ≤ 128) (k : ℕ) (node : TreeNode (Option ℕ)) (good : IsGood k node)
     (paths : List (Path (Option ℕ))) (seen : paths ≡ paths_of k node) (same : k ≡ g.faults)
     (known : All (λ (p : Path (Option ℕ)). IsKnown g p.0) paths)
@@ -236,10 +244,11 @@ module _ (g : Graph) (few : process_count g ≤ 128) (k : ℕ) (node : TreeNode 
   here : Contains (columns_of_paths paths) (record { time = wanted; cube = cube })
   here = is_there wanted (columns_of_paths paths) cube first
 
-  -- some scenario of the graph meets the first column
+  -- the first column's cube is on variables of the graph
   pub first_known : IsKnown g cube
   first_known = (tidy_at (record { time = wanted; cube = cube }) here).cube.known
 
+  -- some scenario of the graph matches the cube
   pub first_met : is_met g.faults cube ≡ true
   first_met = (tidy_at (record { time = wanted; cube = cube }) here).met
 

@@ -21,6 +21,7 @@ use Rattle.cpg_tree_columns.specs.Columns.{column_of, columns_of_paths, IsTidyCo
 use Rattle.cpg_tree.specs.Tree.{Path}
 use Rattle.cpg_tree_columns.specs.Greatest.{HasNumberAt}
 
+-- the lows of a tidy column are the least scenario that it matches
 least_of_column : (g : Graph) → process_count g ≤ 128 → (c : Column) → IsTidyColumn g c → (order : List ℕ) →
     IsLeast g order (λ s. matches c.cube s ≡ true) (lows g c.cube)
 least_of_column g few c tidy order = lows-least g few c.cube tidy.cube tidy.met order
@@ -30,6 +31,7 @@ least_of_column g few c tidy order = lows-least g few c.cube tidy.cube tidy.met 
 of_time : (cube : List Literal) (time : ℕ) → Contains (column_of cube (Some time)) (record { time = time; cube = cube })
 of_time cube time = Contains-first (record { time = time; cube = cube }) []
 
+-- the column of a path has the path's time and cube; a path without a time has no column
 from_time : (cube : List Literal) (x : Option ℕ) (c : Column) → Contains (column_of cube x) c →
     (x ≡ Some c.time) × (cube ≡ c.cube)
 from_time cube None c j = absurd (Contains-nil c j)
@@ -38,14 +40,17 @@ from_time cube (Some t) c j = elim (Contains-cases (record { time = t; cube = cu
   | inr n ↦ absurd (Contains-nil c n)
 ]
 
+-- given: the columns of paths, in any order
 module _ (paths : List (Path (Option ℕ))) (columns : List Column)
     (p : IsPermutation (columns_of_paths paths) columns) where
+  -- a path with a time is among the columns
   pub column_there : (x : Path (Option ℕ)) (time : ℕ) → Contains paths x → x.1 ≡ Some time →
       Contains columns (record { time = time; cube = x.0 })
   column_there x time j e = Contains-permutation (columns_of_paths paths) columns (record { time = time; cube = x.0 }) p
       (Contains-flat_map (λ (p : Path (Option ℕ)). column_of p.0 p.1) paths x (record { time = time; cube = x.0 }) j
       (subst (λ o. Contains (column_of x.0 o) (record { time = time; cube = x.0 })) (sym e) (of_time x.0 time)))
 
+  -- each column is that of a path
   pub path_there : (c : Column) → Contains columns c →
       (x : Path (Option ℕ)) × Contains paths x × (x.1 ≡ Some c.time) × (x.0 ≡ c.cube)
   path_there c j =
@@ -55,6 +60,7 @@ module _ (paths : List (Path (Option ℕ))) (columns : List Column)
       let is = from_time f.0.0 f.0.1 c f.2 in
       (f.0, f.1, is.0, is.1)
 
+  -- if there is no column, no path has a number
   pub no_numbers : columns ≡ [] → (x : Path (Option ℕ)) → Contains paths x → x.1 ≡ None
   no_numbers none x j = by_value x.1 refl
     where
@@ -63,6 +69,7 @@ module _ (paths : List (Path (Option ℕ))) (columns : List Column)
       by_value (Some t) e = absurd (Contains-nil (record { time = t; cube = x.0 })
           (subst (λ (cs : List Column). Contains cs (record { time = t; cube = x.0 })) none (column_there x t j e)))
 
+  -- given: tidy columns, and the first of them by its lows
   module _ (g : Graph) (few : process_count g ≤ 128) (order : List ℕ)
       (all : IsPermutation (numbers_below (process_count g)) order) (tidy : All (IsTidyColumn g) columns)
       (at : ℕ) (first : IsFirstByLows (λ (c : Column). c.cube) g order columns at) (c : Column)
@@ -73,6 +80,7 @@ module _ (paths : List (Path (Option ℕ))) (columns : List Column)
     tidy_at : (d : Column) → Contains columns d → IsTidyColumn g d
     tidy_at d j = All-contains (IsTidyColumn g) columns d tidy j
 
+    -- some scenario matches the first column
     pub column_met : is_met g.faults c.cube ≡ true
     column_met = (tidy_at c here).met
 
@@ -92,6 +100,7 @@ module _ (paths : List (Path (Option ℕ))) (columns : List Column)
         not_before_transitive g order (lows g c.cube) (lows g d.cube) u order_of
         ((least_of_column g few d (tidy_at d k) order).least u law m)
 
+    -- the lows of the first column are the least scenario that has a number
     pub least_of_columns : IsLeast g order (HasNumberAt paths) (lows g c.cube)
     least_of_columns = record {
       lawful = (least_of_column g few c (tidy_at c here) order).lawful;

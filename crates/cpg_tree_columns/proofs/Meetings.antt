@@ -43,6 +43,7 @@ use Rattle.cpg_tree_columns.proofs.TidyColumns.{sum_by_fewer}
 as_open : (g : Graph) (space : Space) → IsOpenSpaceOf g space → IsOpenSpace g.faults space
 as_open g space is = record { lows = is.lows; highs = is.highs; opens = is.opens; tops = is.tops; budget = is.budget }
 
+-- given: an open space of a graph
 module _ (g : Graph) (few : process_count g ≤ 128) (space : Space) (is : IsOpenSpaceOf g space) where
   abbrev low : ℕ → ℕ
   low v = get_or space.low v 0
@@ -81,6 +82,7 @@ module _ (g : Graph) (few : process_count g ≤ 128) (space : Space) (is : IsOpe
   nothing_beyond : (f low number : ℕ) → number ≡ f → number ≡ low → f - low ≡ 0
   nothing_beyond f low number a b = omega (arith, a, b)
 
+  -- the scenario of the lows lies in the space, as it has no fault beyond the lows
   lies_lowest : IsInSpace space lowest
   lies_lowest = record {
     low = λ v l. omega (arith, number_is v l);
@@ -100,13 +102,14 @@ module _ (g : Graph) (few : process_count g ≤ 128) (space : Space) (is : IsOpe
 
 -- ---- the parts of a space
 
--- with a lower low there are as many faults more beyond it
+-- if the low of one count falls, the faults beyond the lows rise by as much
 more_left : (new old low cut faults left : ℕ) → new + (faults - (cut + 1)) ≡ old + (faults - low) →
     old ≤ left - (cut + 1 - low) → low ≤ cut → cut < faults → cut + 1 - low ≤ left → new ≤ left
 more_left new old low cut faults left changed most below above allows = omega arith
 
 module _ (space : Space) (lows : length space.low ≡ 256) (highs : length space.high ≡ 256) (v cut : ℕ)
     (there : v < 256) where
+  -- a scenario of the space below a cut lies in the space, and its number is at most the cut
   pub lies_in_below : cut ≤ get_or space.high v 0 → (s : Scenario) → IsInSpace (below_cut space v cut) s →
       IsInSpace space s × (number_of s v ≤ cut)
   lies_in_below under s lies = (
@@ -124,6 +127,7 @@ module _ (space : Space) (lows : length space.low ≡ 256) (highs : length space
       at : number_of s v ≤ cut
       at = omega (arith, lies.high v there, set_same space.high v cut v (omega (arith, highs, there)) refl)
 
+  -- a scenario of the space above a cut lies in the space, and its number is above the cut
   pub lies_in_above : get_or space.low v 0 ≤ cut → (v < 128 → cut + 1 - get_or space.low v 0 ≤ space.left) →
       (s : Scenario) →
       IsInSpace (above_cut space v cut) s
@@ -169,6 +173,7 @@ module _ (space : Space) (lows : length space.low ≡ 256) (highs : length space
 
 -- ---- the sides of a fork
 
+-- given: an open space of a graph, with numbers on both sides of a cut
 module _ (g : Graph) (space : Space) (v cut : ℕ) (there : v < 256) (known : IsVariable g v) (is : IsOpenSpaceOf g space)
     (under : is_open_below space v cut ≡ true)
     (over : is_open_above space v cut ≡ true) where
@@ -187,6 +192,7 @@ module _ (g : Graph) (space : Space) (v cut : ℕ) (there : v < 256) (known : Is
       let r = opens_below g.faults space (as_open g space is) v cut there under over in
       record { lows = r.lows; highs = r.highs; opens = r.opens; tops = r.tops; budget = r.budget; known = is.known }
 
+  -- the part of the graph's space above the cut is open too, and v is a variable of the graph
   open_of_above : IsOpenSpaceOf g (above_cut space v cut)
   open_of_above =
       let r = opens_above g.faults space (as_open g space is) v cut there under over in
@@ -207,11 +213,12 @@ module _ (g : Graph) (space : Space) (v cut : ℕ) (there : v < 256) (known : Is
   in_above : (s : Scenario) → IsInSpace (above_cut space v cut) s → IsInSpace space s × (cut < number_of s v)
   in_above = lies_in_above space is.lows is.highs v cut there at_low allowed
 
--- a scenario of a side is one of the whole
+-- given: two trees, and parts of them that are met on the same variables
 module _ {T U V W : Type 0} (node : TreeNode T) (other : TreeNode U) (part : TreeNode V) (rest : TreeNode W)
     (space : Space) (v cut : ℕ) (there : v < 256)
     (parts : (g : Graph) → AreForksOf g node other → IsVariable g v × AreForksOf g part rest)
     (fact inner : Scenario → Type 0) where
+  -- a scenario that the parts come to below the cut is one that the whole comes to
   met_below : is_open_below space v cut ≡ true → is_open_above space v cut ≡ true →
       ((s : Scenario) → number_of s v ≤ cut → inner s → fact s) →
       IsMetIn (below_cut space v cut) part rest inner →
@@ -222,6 +229,7 @@ module _ {T U V W : Type 0} (node : TreeNode T) (other : TreeNode U) (part : Tre
       let l = in_below g space v cut there p.0 is under over r.0 r.2 in
       (r.0, r.1, l.0, follows r.0 l.1 r.3)
 
+  -- a scenario that the parts come to above the cut is one that the whole comes to
   met_above : is_open_below space v cut ≡ true → is_open_above space v cut ≡ true →
       ((s : Scenario) → cut < number_of s v → inner s → fact s) →
       IsMetIn (above_cut space v cut) part rest inner →
@@ -232,7 +240,7 @@ module _ {T U V W : Type 0} (node : TreeNode T) (other : TreeNode U) (part : Tre
       let l = in_above g space v cut there p.0 is under over r.0 r.2 in
       (r.0, r.1, l.0, follows r.0 l.1 r.3)
 
-  -- if the other side is closed
+  -- a scenario that the parts come to in the same space is one that the whole comes to
   met_same : ((s : Scenario) → IsInSpace space s → inner s → fact s) → IsMetIn space part rest inner →
       IsMetIn space node other fact
   met_same follows met g forks is =
@@ -247,24 +255,28 @@ IsTrueIn space node = IsMetIn space node node (λ s. value_at node s ≡ true)
 abbrev pub IsNeverIn : Space → TreeNode Bool → Type 0
 IsNeverIn space node = (s : Scenario) → IsInSpace space s → value_at node s ≡ false
 
+-- a leaf that is true is true in some scenario of the space
 pub true_leaf : (space : Space) (node : TreeNode Bool) (b : Bool) → node ≡ Leaf b → b ≡ true → IsTrueIn space node
 true_leaf space node b is on g forks of_g =
     let r = some_scenario g forks.few space of_g in
     (r.0, r.1, r.2, ap (λ (n : TreeNode Bool). value_at n r.0) is ∙ on)
 
--- as a call answers it
+-- given: a space
 module _ (space : Space) where
+  -- a leaf that is true is true in some scenario
   pub leaf_met : (b : Bool) (items : List (TreeItem Bool)) → items ≡ flat (Leaf b) →
       OnTrue b ((n : TreeNode Bool) → items ≡ flat n → IsTrueIn space n)
   leaf_met true items is = λ n are. true_leaf space n true (flat-same n (Leaf true) (sym are ∙ is)) refl
   leaf_met false items is = tt
 
+  -- a leaf that is false is true in none
   pub leaf_never : (b : Bool) (items : List (TreeItem Bool)) → items ≡ flat (Leaf b) →
       OnFalse b ((n : TreeNode Bool) → items ≡ flat n → IsNeverIn space n)
   leaf_never true items is = tt
   leaf_never false items is =
       λ n are s lies. ap (λ (m : TreeNode Bool). value_at m s) (flat-same n (Leaf false) (sym are ∙ is))
 
+-- given: a fork of a tree of truth values
 module _ (v cut : ℕ) (there : v < 256) (low high node : TreeNode Bool) (is : node ≡ Fork v cut low high)
     (space : Space) where
   low_is : (s : Scenario) → number_of s v ≤ cut → value_at node s ≡ value_at low s
@@ -283,15 +295,17 @@ module _ (v cut : ℕ) (there : v < 256) (low high node : TreeNode Bool) (is : n
       let r = passes_parts (is_variable g) v cut low high node is forks.first in
       (variable_from g v r.0, record { few = forks.few; first = r.2; second = r.2 })
 
-  -- one side is closed
+  -- if all scenarios go below and the side there is true in some scenario, so is the fork
   pub true_low : ((s : Scenario) → IsInSpace space s → number_of s v ≤ cut) → IsTrueIn space low → IsTrueIn space node
   true_low only = met_same node node low low space v cut there low_parts (λ s. value_at node s ≡ true)
       (λ s. value_at low s ≡ true) (λ s lies e. low_is s (only s lies) ∙ e)
 
+  -- if all scenarios go above and the side there is true in some scenario, so is the fork
   pub true_high : ((s : Scenario) → IsInSpace space s → cut < number_of s v) → IsTrueIn space high → IsTrueIn space node
   true_high only = met_same node node high high space v cut there high_parts (λ s. value_at node s ≡ true)
       (λ s. value_at high s ≡ true) (λ s lies e. high_is s (only s lies) ∙ e)
 
+  -- if all scenarios go one way and the side there is true in none, so is the fork
   pub never_low : ((s : Scenario) → IsInSpace space s → number_of s v ≤ cut) → IsNeverIn space low →
       IsNeverIn space node
   never_low only none s lies = low_is s (only s lies) ∙ none s lies
@@ -300,8 +314,9 @@ module _ (v cut : ℕ) (there : v < 256) (low high node : TreeNode Bool) (is : n
       IsNeverIn space node
   never_high only none s lies = high_is s (only s lies) ∙ none s lies
 
-  -- both sides are open
+  -- given: a cut with numbers of the space on both sides
   module _ (under : is_open_below space v cut ≡ true) (over : is_open_above space v cut ≡ true) where
+    -- if both sides are open, a scenario of one side in which that is true is one of the fork
     pub true_below : IsTrueIn (below_cut space v cut) low → IsTrueIn space node
     true_below = met_below node node low low space v cut there low_parts (λ s. value_at node s ≡ true)
         (λ s. value_at low s ≡ true) under over (λ s h e. low_is s h ∙ e)
@@ -310,6 +325,7 @@ module _ (v cut : ℕ) (there : v < 256) (low high node : TreeNode Bool) (is : n
     true_above = met_above node node high high space v cut there high_parts (λ s. value_at node s ≡ true)
         (λ s. value_at high s ≡ true) under over (λ s h e. high_is s h ∙ e)
 
+  -- if neither side is true in any scenario, the fork is not either
   pub never_both : ((s : Scenario) → IsInSpace space s → number_of s v ≤ cut → value_at low s ≡ false) →
       ((s : Scenario) → IsInSpace space s → cut < number_of s v → value_at high s ≡ false)
       → IsNeverIn space node
@@ -323,6 +339,7 @@ module _ (v cut : ℕ) (there : v < 256) (low high node : TreeNode Bool) (is : n
 not_both : true ≡ false → ⊥
 not_both e = cc
 
+-- if the other tree is true in no scenario, the greatest number stays the best so far
 pub most_never : (space : Space) (node : TreeNode (Option ℕ)) (wanted : TreeNode Bool) (best : Option ℕ) →
     IsNeverIn space wanted →
     IsMostInSpace space node wanted best best
@@ -332,7 +349,7 @@ most_never space node wanted best none = record {
   found = inl refl;
 }
 
--- a leaf whose number is no greater than the best
+-- a leaf whose number is no greater than the best leaves the best as it is
 pub most_least : (space : Space) (node : TreeNode (Option ℕ)) (wanted : TreeNode Bool) (x best : Option ℕ) →
     node ≡ Leaf x →
     ((n : ℕ) → x ≡ Some n → IsUpTo best n)
@@ -343,7 +360,7 @@ most_least space node wanted x best is none = record {
   found = inl refl;
 }
 
--- a leaf whose number is greater than the best
+-- a leaf whose number is at least the best is the greatest, if the other tree is true in some scenario
 pub most_leaf : (space : Space) (node : TreeNode (Option ℕ)) (wanted : TreeNode Bool) (x best : Option ℕ) →
     node ≡ Leaf x → ((n : ℕ) → IsUpTo best n → IsUpTo x n) →
     IsTrueIn space wanted →
@@ -365,6 +382,7 @@ most_leaf space node wanted (Some number) best is some met = record {
     same_up : (m n : ℕ) → Some m ≡ Some n → n ≤ m
     same_up m n e = omega (arith, ap (λ o. unwrap_or o 0) e)
 
+-- given: a fork, and another tree
 module _ (v cut : ℕ) (there : v < 256) (low high node : TreeNode (Option ℕ)) (is : node ≡ Fork v cut low high)
     (wanted : TreeNode Bool) (space : Space) where
   low_value : (s : Scenario) → number_of s v ≤ cut → value_at node s ≡ value_at low s
@@ -383,7 +401,7 @@ module _ (v cut : ℕ) (there : v < 256) (low high node : TreeNode (Option ℕ))
       let r = passes_parts (is_variable g) v cut low high node is forks.first in
       (variable_from g v r.0, record { few = forks.few; first = r.2; second = forks.second })
 
-  -- if one side is closed
+  -- if all scenarios go below, the greatest number of the side there is that of the fork
   pub most_low : (best most : Option ℕ) → ((s : Scenario) → IsInSpace space s → number_of s v ≤ cut) →
       IsMostInSpace space low wanted best most →
       IsMostInSpace space node wanted best most
@@ -398,6 +416,7 @@ module _ (v cut : ℕ) (there : v < 256) (low high node : TreeNode (Option ℕ))
       go (Some n) f = met_same node wanted low wanted space v cut there low_forks (ComesTo node wanted n)
           (ComesTo low wanted n) (λ s lies c. (low_value s (only s lies) ∙ c.0, c.1)) f
 
+  -- if all scenarios go above, the greatest number of the side there is that of the fork
   pub most_high : (best most : Option ℕ) → ((s : Scenario) → IsInSpace space s → cut < number_of s v) →
       IsMostInSpace space high wanted best most →
       IsMostInSpace space node wanted best most
@@ -412,7 +431,7 @@ module _ (v cut : ℕ) (there : v < 256) (low high node : TreeNode (Option ℕ))
       go (Some n) f = met_same node wanted high wanted space v cut there high_forks (ComesTo node wanted n)
           (ComesTo high wanted n) (λ s lies c. (high_value s (only s lies) ∙ c.0, c.1)) f
 
-  -- one side after the other
+  -- if both sides are open, the greatest of both, one after the other, is that of the fork
   pub most_both : (best mid most : Option ℕ) → is_open_below space v cut ≡ true → is_open_above space v cut ≡ true →
       ((s : Scenario) → IsInSpace space s → number_of s v ≤ cut → IsInSpace (below_cut space v cut) s)
       → ((s : Scenario) → IsInSpace space s → cut < number_of s v → IsInSpace (above_cut space v cut) s) →
@@ -462,6 +481,8 @@ whole_of g space whole =
     low_zero v (inl l) = whole.lows v l
     low_zero v (inr l) = get_or_past space.low v 0 (omega (arith, l, whole.long))
 
+-- given: two good trees, and the greatest number of the one where the other is true, found in the space of all
+-- scenarios
 module _ (k : ℕ) (node : TreeNode (Option ℕ)) (wanted : TreeNode Bool) (good : IsGood k node)
     (good_too : IsGood k wanted) (space : Space) (whole : IsWhole k space)
     (all : (s : Scenario) → HasAtMostFaults k s → IsInSpace space s) (o : Option ℕ)
@@ -487,9 +508,11 @@ module _ (k : ℕ) (node : TreeNode (Option ℕ)) (wanted : TreeNode Bool) (good
         there = (y.0, y.1, sym ((value_path k wanted good_too s).of_path y.0 y.1) ∙ c.1);
       }
 
+  -- if none is found, no scenario has a number there
   pub no_number : o ≡ None → IsNowhere tree chooser
   no_number e s n few w = subst (λ x. IsUpTo x n) e (most.above s n (all s few) (comes s n w))
 
+  -- a number that is found is the greatest that a scenario has there
   pub a_number : (number : ℕ) → o ≡ Some number → IsMostWhere tree chooser number
   a_number number e = record {
     above = λ s n few w. subst (λ x. IsUpTo x n) e (most.above s n (all s few) (comes s n w));
@@ -499,6 +522,7 @@ module _ (k : ℕ) (node : TreeNode (Option ℕ)) (wanted : TreeNode Bool) (good
     ];
   }
     where
+      -- the number that is found is that of a scenario of the graph, one in which the chooser is true
       reach : (g : Graph) → AreOf g tree chooser → IsFoundIn space node wanted (Some number) →
           IsReachedWhere g tree chooser number
       reach g of f =
@@ -511,7 +535,9 @@ module _ (k : ℕ) (node : TreeNode (Option ℕ)) (wanted : TreeNode Bool) (good
             has = seen r.0 number (subst (λ n. HasAtMostFaults n r.0) (sym of.faults) (scenario_few g r.0 r.1)) r.3;
           }
 
--- the greatest number of what the caller sees of the trees
+-- given: two trees, what callers see of them, and the greatest number that is found in them
+-- `good`, `paths`, `good_too`, `paths_too`: each tree and its paths; `whole`, `all`: the space has all scenarios
+-- of at most that many faults; `most`: o is the greatest number found there
 module _ (first : TreeState (Option ℕ)) (second : TreeState Bool) (node : TreeNode (Option ℕ)) (wanted : TreeNode Bool)
     (good : IsGood first.faults node)
     (paths : first.paths ≡ paths_of first.faults node)
@@ -529,6 +555,7 @@ module _ (first : TreeState (Option ℕ)) (second : TreeState Bool) (node : Tree
     is_there : state first.faults wanted ≡ second
     is_there = ap (λ m. state m wanted) same ∙ state_seen second wanted paths_too
 
+    -- callers see in the trees that no scenario has a number there, if none is found
     pub none_where : IfNone o (IsNowhere first second)
     none_where = by o refl
       where
@@ -538,6 +565,7 @@ module _ (first : TreeState (Option ℕ)) (second : TreeState Bool) (node : Tree
             (no_number first.faults node wanted good good_there space whole all o most e))
         by (Some n) e = tt
 
+    -- callers see in the trees the greatest number there, if one is found
     pub some_where : IfSome o (IsMostWhere first second)
     some_where = by o refl
       where

@@ -55,6 +55,7 @@ greater_cases (Some x) (Some y) m e =
 
 -- ---- the numbers of paths
 
+-- no number of a path is greater than the greatest of the tree
 under_most : (k : ℕ) (node : TreeNode (Option ℕ)) (cube : List Literal) (p : Path (Option ℕ)) (n : ℕ) →
     Contains (paths_from k cube node) p → p.1 ≡ Some n →
     IsUnder (most_of node) n
@@ -71,7 +72,7 @@ under_most k (Fork v cut below upper) cube p n c e =
           under_right (most_of below) (most_of upper) n (under_most k upper (narrowed_by (above k v cut) cube) p n i e)
     ]
 
--- some path has the greatest
+-- some path has the tree's greatest number
 most_there : (k : ℕ) (node : TreeNode (Option ℕ)) (cube : List Literal) (m : ℕ) → most_of node ≡ Some m →
     (p : Path (Option ℕ)) × Contains (paths_from k cube node) p × (p.1 ≡ Some m)
 most_there k (Leaf x) cube m e = ((cube, x), Contains-first (cube, x) [], e)
@@ -85,6 +86,7 @@ most_there k (Fork v cut below upper) cube m e =
           (r.0, Contains-append_right lower higher r.0 r.1, r.2)
     ]
 
+-- if a tree has no greatest number, no path has a number
 pub no_most : (k : ℕ) (node : TreeNode (Option ℕ)) → most_of node ≡ None → (p : Path (Option ℕ)) →
     Contains (paths_from k [] node) p → p.1 ≡ None
 no_most k node none p c = by_value p.1 refl
@@ -114,7 +116,7 @@ path_reached g node good m processes known p there is =
       has = (p, record { stands = there; matched = least.holds }, is);
     }
 
--- some scenario has the greatest
+-- some scenario has the tree's greatest number
 most_reached : (g : Graph) (node : TreeNode (Option ℕ)) → IsGood g.faults node → (m : ℕ) → most_of node ≡ Some m →
     process_count g ≤ 128 →
     All (λ p. IsKnown g p.0) (paths_of g.faults node) →
@@ -123,6 +125,7 @@ most_reached g node good m most processes known =
     let x = most_there g.faults node [] m most in
     path_reached g node good m processes known x.0 x.1 x.2
 
+-- the most of a good tree is its greatest number: no path has more, a path has it, and a scenario reaches it
 most_is : (k : ℕ) (node : TreeNode (Option ℕ)) → IsGood k node → (m : ℕ) → most_of node ≡ Some m →
     IsGreatestNumber (record { faults = k; paths = paths_of k node }) m
 most_is k node good m most = record {
@@ -136,12 +139,14 @@ most_is k node good m most = record {
 
 -- ---- as what a call answers
 
+-- if no greatest number is answered, no path has a number
 pub most_none : (k : ℕ) (node : TreeNode (Option ℕ)) (o : Option ℕ) → o ≡ most_of node →
     IfNone o (All (λ (p : Path (Option ℕ)). p.1 ≡ None) (paths_of k node))
 most_none k node None e =
     λ i d l. no_most k node (sym e) (get_or (paths_of k node) i d) (Contains-get_or (paths_of k node) i d l)
 most_none k node (Some m) e = tt
 
+-- the number that is answered is the greatest of the tree
 pub most_some : (k : ℕ) (node : TreeNode (Option ℕ)) → IsGood k node → (o : Option ℕ) → o ≡ most_of node →
     IfSome o (IsGreatestNumber (record { faults = k; paths = paths_of k node }))
 most_some k node good None e = tt
@@ -149,13 +154,14 @@ most_some k node good (Some m) e = most_is k node good m (sym e)
 
 -- ---- the greatest with its least scenario
 
--- some path has it
+-- if a tree has a greatest number, some path has it
 pub not_without : (k : ℕ) (node : TreeNode (Option ℕ)) (m : ℕ) → most_of node ≡ Some m →
     All (λ (p : Path (Option ℕ)). p.1 ≢ Some m) (paths_of k node) → ⊥
 not_without k node m most none =
     let x = most_there k node [] m most in
     All-contains (λ (p : Path (Option ℕ)). p.1 ≢ Some m) (paths_of k node) x.0 none x.1 x.2
 
+-- the least scenario of the greatest number makes it the greatest with its first scenario
 pub greatest_of : (g : Graph) (order : List ℕ) (k : ℕ) (node : TreeNode (Option ℕ)) (m : ℕ) → most_of node ≡ Some m →
     (s : Scenario) →
     IsLeast g order (HasValueAt (paths_of k node) (Some m)) s →
@@ -168,6 +174,7 @@ greatest_of g order k node m most s least =
 if_wanted_same : (m : ℕ) → if_wanted m (Some m) ≡ Some m
 if_wanted_same m = cond-true (m == m) (Some m) None (eq-eqb m m refl)
 
+-- if a leaf keeps a number when only m is wanted, the leaf has m, and that number is m
 if_wanted_is : (m : ℕ) (o : Option ℕ) (n : ℕ) → if_wanted m o ≡ Some n → (o ≡ Some m) × (n ≡ m)
 if_wanted_is m None n e = absurd (none-some n e)
 if_wanted_is m (Some x) n e = elim (cases_eq x m) [
@@ -177,6 +184,8 @@ if_wanted_is m (Some x) n e = elim (cases_eq x m) [
   | inr differs ↦ absurd (none-some n (sym (cond-false (x == m) (Some x) None (ne_eqb x m differs)) ∙ e))
 ]
 
+-- given: a good tree, and the tree that has this number alone
+-- `is`: the first tree has the paths of the node; `each`, `map`: the second keeps m in each scenario that has m
 module _ (g : Graph) (node : TreeNode (Option ℕ)) (good : IsGood g.faults node) (m : ℕ)
     (all only : TreeState (Option ℕ)) (is : record {
       faults = g.faults;
@@ -191,13 +200,13 @@ module _ (g : Graph) (node : TreeNode (Option ℕ)) (good : IsGood g.faults node
       the_path g.faults all.paths (λ u f. subst (λ (t : TreeState (Option ℕ)). length (filter (is_on u) t.paths) ≡ 1) is
       (one_path g.faults node good u f)) s (scenario_few g s law)
 
-  -- if the tree has the number, so has the other
+  -- a scenario that has the number in the tree has it in the tree of that number alone
   alone : (s : Scenario) → IsScenario g s → HasValueAt all.paths (Some m) s → HasValueAt only.paths (Some m) s
   alone s law has =
       let z = the_path g.faults only.paths each s (scenario_few g s law) in
       (z.0, z.1, map.value s has.0 z.0 (few s law) has.1 z.1 ∙ ap (if_wanted m) has.2 ∙ if_wanted_same m)
 
-  -- the least scenario of the one is that of the other
+  -- the least scenario of the number in the tree of it alone is the least that has it in the tree
   least_alone : (order : List ℕ) (s : Scenario) → IsLeast g order (HasNumberAt only.paths) s →
       IsLeast g order (HasValueAt all.paths (Some m)) s
   least_alone order s h =
@@ -210,7 +219,7 @@ module _ (g : Graph) (node : TreeNode (Option ℕ)) (good : IsGood g.faults node
         least = λ u law has. h.least u law (record { number = m; has = alone u law has });
       }
 
-  -- if the other has no number, no path has it
+  -- if the tree of the number alone has no number, no path of the tree has that number
   none_alone : process_count g ≤ 128 → All (λ p. IsKnown g p.0) (paths_of g.faults node) →
       All (λ (p : Path (Option ℕ)). p.1 ≡ None) only.paths →
       All (λ (p : Path (Option ℕ)). p.1 ≢ Some m) all.paths
@@ -224,12 +233,14 @@ module _ (g : Graph) (node : TreeNode (Option ℕ)) (good : IsGood g.faults node
 
   -- ---- as what a call answers
 
+  -- if the tree of the number alone has none, no path has the number
   pub listed_none : process_count g ≤ 128 → All (λ p. IsKnown g p.0) (paths_of g.faults node) → (o : Option Scenario) →
       IfNone o (All (λ (p : Path (Option ℕ)). p.1 ≡ None) only.paths) →
       IfNone o (All (λ (p : Path (Option ℕ)). p.1 ≢ Some m) all.paths)
   listed_none processes known None h = none_alone processes known h
   listed_none processes known (Some s) h = tt
 
+  -- the least scenario of a number in the tree of it alone is the least that has it
   pub listed_some : (order : List ℕ) (o : Option Scenario) → IfSome o (IsLeast g order (HasNumberAt only.paths)) →
       IfSome o (IsLeast g order (HasValueAt all.paths (Some m)))
   listed_some order None h = tt

@@ -31,6 +31,7 @@ sum_by_fewer f (suc n) (suc m) l =
 
 -- ---- some scenario meets the cube of a path
 
+-- a literal of the cube of a tidy path is open: its range isn't empty, and starts within what its variable can have
 is_open_literal : (k : ℕ) (cube : List Literal) (tidy : IsPathAround k cube) (l : Literal) → Contains cube l →
     is_open k l ≡ true
 is_open_literal k cube tidy l c =
@@ -47,11 +48,14 @@ is_open_literal k cube tidy l c =
     and_from (nat_le l.low l.high) _ (le-leb l.low l.high less)
     (le-leb l.low (top k l.variable) (omega (arith, less, within k cube tidy l c)))
 
+-- given: a cube of a path whose literals are on variables of the graph
 module _ (g : Graph) (few : process_count g ≤ 128) (cube : List Literal) (tidy : IsPathAround g.faults cube)
     (known : All (λ l. IsVariable g l.variable) cube) where
+  -- the cube is one of the graph
   pub path_cube : IsCube g cube
   path_cube = record { rising = tidy.covers.rising; known = known }
 
+  -- some scenario matches it
   pub path_met : is_met g.faults cube ≡ true
   path_met = and_from _ _ (all_from (is_open g.faults) cube (is_open_literal g.faults cube tidy))
       (le-leb (asked_faults cube) g.faults (omega (
@@ -68,6 +72,7 @@ module _ (g : Graph) (few : process_count g ≤ 128) (cube : List Literal) (tidy
 
 -- ---- columns
 
+-- the cube of a path's column is that of the path
 pub of_column : (cube : List Literal) (x : Option ℕ) (c : Column) → Contains (column_of cube x) c → cube ≡ c.cube
 of_column cube None c j = absurd (Contains-nil c j)
 of_column cube (Some t) c j = elim (Contains-cases (record { time = t; cube = cube }) [] c j) [
@@ -75,8 +80,10 @@ of_column cube (Some t) c j = elim (Contains-cases (record { time = t; cube = cu
   | inr n ↦ absurd (Contains-nil c n)
 ]
 
+-- given: a good tree whose variables are the graph's
 module _ (g : Graph) (few : process_count g ≤ 128) (node : TreeNode (Option ℕ)) (good : IsGood g.faults node)
     (known : All (λ (p : Path (Option ℕ)). IsKnown g p.0) (paths_of g.faults node)) where
+  -- a column with the cube of one of the tree's paths is tidy, as the path is
   of_path : (p : Path (Option ℕ)) → Contains (paths_of g.faults node) p →
       IsTidyColumn g (record { time = 0; cube = p.0 })
   of_path p j =
@@ -89,6 +96,7 @@ module _ (g : Graph) (few : process_count g ≤ 128) (node : TreeNode (Option �
         within = λ i d h. within g.faults p.0 tidy (get_or p.0 i d) (Contains-get_or p.0 i d h);
       }
 
+  -- each column of the tree's paths is tidy, as the column of one path is
   tidy_column : (c : Column) → Contains (columns_of_paths (paths_of g.faults node)) c → IsTidyColumn g c
   tidy_column c j =
       let f = Contains-flat_map_parts (λ (p : Path (Option ℕ)). column_of p.0 p.1) (paths_of g.faults node) c j in
@@ -103,6 +111,7 @@ module _ (g : Graph) (few : process_count g ≤ 128) (node : TreeNode (Option �
             subst (λ (ls : List Literal). All (λ (l : Literal). l.high ≤ top g.faults l.variable) ls) same is.within;
       }
 
+  -- the columns of its paths are tidy, in whatever order they stand
   pub tidy_columns : (columns : List Column) → IsPermutation (columns_of_paths (paths_of g.faults node)) columns →
       All (IsTidyColumn g) columns
   tidy_columns columns p = All-permutation (IsTidyColumn g) (columns_of_paths (paths_of g.faults node)) columns p

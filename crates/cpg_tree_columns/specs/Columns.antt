@@ -35,7 +35,7 @@ abbrev pub first_with : ℕ → List Column → Option (List Literal)
 first_with wanted [] = None
 first_with wanted (c ∷ cs) = if c.time == wanted then Some c.cube else first_with wanted cs
 
--- a column of the graph that some scenario matches, with no literal of a whole range or past one
+-- a column of the graph that some scenario matches; no literal has the whole range or goes past it
 pub record IsTidyColumn (g : Graph) (c : Column) : Type 0 where
   pub cube : IsCube g c.cube
   pub met : is_met g.faults c.cube ≡ true

@@ -38,7 +38,7 @@ pub record IsNumberReached (g : Graph) (paths : List (Path (Option ℕ))) (numbe
   pub lawful : IsScenario g scenario
   pub has : HasValueAt paths (Some number) scenario
 
--- the greatest number of a path, which some scenario of a graph has whose variables the paths ask for
+-- the greatest number of a path; if the paths are on variables of a graph, some scenario of that graph has it
 pub record IsGreatestNumber (t : TreeState (Option ℕ)) (most : ℕ) : Type 0 where
   pub above : (p : Path (Option ℕ)) (other : ℕ) → Contains t.paths p → p.1 ≡ Some other → other ≤ most
   pub there : (p : Path (Option ℕ)) × Contains t.paths p × (p.1 ≡ Some most)

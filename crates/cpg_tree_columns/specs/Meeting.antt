@@ -1,4 +1,4 @@
--- The greatest number of a tree where another one is true.
+-- The greatest number of a tree where another tree is true.
 use Rattle.std.specs.Prelude.{ℕ, ◌≡◌, ◌≤◌, ◌<◌, ◌+◌, ◌⊎◌, Bool, true, Option, Some, None, get_or, length, sum_by}
 use Rattle.cpg_base.specs.Graph.{Graph, process_count, IsVariable}
 use Rattle.cpg_base.specs.Numbers.{numbers_below}
@@ -43,7 +43,7 @@ IsNowhere t wanted = (s : Scenario) (number : ℕ) → HasAtMostFaults t.faults 
 
 -- ---- of nodes
 
--- a scenario comes to the number in the one and to true in the other
+-- a scenario comes to the number in the one tree and to true in the other
 abbrev pub ComesTo : TreeNode (Option ℕ) → TreeNode Bool → ℕ → Scenario → Type 0
 ComesTo node wanted number s = (value_at node s ≡ Some number) × (value_at wanted s ≡ true)
 
@@ -68,12 +68,12 @@ pub record AreForksOf {T U : Type 0} (g : Graph) (a : TreeNode T) (b : TreeNode 
   pub first : DoForksPass (is_variable g) a
   pub second : DoForksPass (is_variable g) b
 
--- if the variables of a tree and of another one are a graph's, a scenario of it in a space has a fact
+-- if the variables of two trees are a graph's, some scenario of the graph that lies in the space has a fact
 abbrev pub IsMetIn : {T U : Type 0} → Space → TreeNode T → TreeNode U → (Scenario → Type 0) → Type 0
 IsMetIn space a b fact = (g : Graph) → AreForksOf g a b → IsOpenSpaceOf g space →
     (s : Scenario) × IsScenario g s × IsInSpace space s × fact s
 
--- a number of the tree that a scenario of the space comes to where the other one is true
+-- a number of the tree that some scenario of the space comes to where the other tree is true
 abbrev pub IsFoundIn : Space → TreeNode (Option ℕ) → TreeNode Bool → Option ℕ → Type 0
 IsFoundIn space node wanted None = ⊥
 IsFoundIn space node wanted (Some number) = IsMetIn space node wanted (ComesTo node wanted number)

@@ -16,8 +16,9 @@ use cpg_tree::{Top, Tree, TreeItem, top_of};
 /// How many places are left at the first variable along an order.
 const FIRST: u16 = 256;
 
-/// How many leaves a tree has, if the variables of the forks on each way down it stand along an order, by how many places are
-/// left at each: none at more than `left`, and none at 0. Both in one walk, since a large tree isn't near when it is looked at.
+/// How many leaves a tree has, if the variables of the forks on each way down it stand along an order, by how many
+/// places are left at each: none at more than `left`, and none at 0. One walk does both, since a large tree is not in
+/// the cache when it is read.
 fn leaves_along<T: Copy>(
     items: &[TreeItem<T>],
     places: &[u16; VARIABLES],
@@ -48,8 +49,8 @@ fn leaves_along<T: Copy>(
     }
 }
 
-/// How many paths there are, if those with a number are known to stand by the least scenario along the order that they match.
-/// No clause speaks of the number, which is for room alone. The one error is `OutOfMemory`.
+/// How many paths there are, if the paths with a number are known to stand by the least scenario along the order that
+/// they match. No clause speaks of the number, which only serves to reserve room. The one error is `OutOfMemory`.
 pub(crate) fn count_along(
     tree: &Tree<Option<u64>>,
     problem: &Problem,

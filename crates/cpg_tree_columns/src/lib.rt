@@ -1,4 +1,5 @@
-//! What is read off the paths of a tree of times: their columns, its greatest number, and that where another tree is true.
+//! What is read off the paths of a tree of times: their columns, the greatest number of the tree, and its greatest
+//! number where another tree is true.
 #![tactic(auto)]
 
 mod along;

@@ -54,9 +54,10 @@ fn push_columns(
                 high: cut,
             })?;
             match low {
+                // the cube has numbers up to the cut
                 Some(low) => {
                     push_columns(below, k, cube, columns)?;
-                    // in place, which is less work than the way back and down again
+                    // it is narrowed in place, which is less work than going back and down again
                     if cube.exchange(low, upper) {
                         push_columns(above, k, cube, columns)?;
                         cube.restore(low);
@@ -75,12 +76,13 @@ fn push_columns(
     }
 }
 
-/// For how many columns of a tree there has to be room: there are no more than leaves.
+/// How many columns to reserve room for: a tree has no more columns than leaves.
 pub(crate) fn room_for(tree: &Tree<Option<u64>>) -> usize {
     tree.leaves() as usize
 }
 
-/// The paths with a number, each with its own cube, from the left to the right. Room is taken for `room` of them at once.
+/// The paths with a number, each with its own cube, from the left to the right. Room for `room` of them is reserved
+/// at once.
 pub(crate) fn listed(
     tree: &Tree<Option<u64>>,
     problem: &Problem,

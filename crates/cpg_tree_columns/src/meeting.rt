@@ -25,15 +25,18 @@ fn holds_in(items: &[TreeItem<bool>], space: &mut Space) -> bool
             below,
             above,
         } => {
+            // all scenarios of the space go above the cut
             if !space.is_open_below(variable, cut) {
                 return holds_in(above, space);
             }
+            // all scenarios of the space go below the cut
             if !space.is_open_above(variable, cut) {
                 return holds_in(below, space);
             }
             let most = space.close_above(variable, cut);
             let low = holds_in(below, space);
             space.reopen_above(variable, most);
+            // the side below is enough
             if low {
                 return true;
             }
@@ -59,7 +62,7 @@ fn is_greater(number: Option<u64>, best: Option<u64>) -> bool
     }
 }
 
-/// The greatest of a number and of those in a space where another tree is true.
+/// The greatest of a number and of a tree's numbers in a space where another tree is true.
 fn most_in_space(
     items: &[TreeItem<Option<u64>>],
     space: &mut Space,
@@ -73,6 +76,7 @@ fn most_in_space(
 {
     match top_of(items) {
         Top::Value(number) => {
+            // the number would change nothing, so the other tree isn't asked
             if !is_greater(number, best) {
                 return best;
             }
@@ -88,9 +92,11 @@ fn most_in_space(
             below,
             above,
         } => {
+            // all scenarios of the space go above the cut
             if !space.is_open_below(variable, cut) {
                 return most_in_space(above, space, wanted, best);
             }
+            // all scenarios of the space go below the cut
             if !space.is_open_above(variable, cut) {
                 return most_in_space(below, space, wanted, best);
             }

@@ -100,15 +100,15 @@ fn least_listed(
 {
     // called for its contract: the graph is within its limits
     let _processes = problem.processes();
-    // and this one's that the tree fits, so that each scenario has its path
+    // called for its contract too: the tree fits, so that each scenario has its path
     let _items = tree.items();
     // a tree of this number alone has few columns
     let alone = only_wanted(tree, wanted)?;
     first_with_number(&alone, problem, order)
 }
 
-/// Narrows a cube by the way to the first leaf from the left with a number. False exactly if no leaf has it: then the cube is
-/// what it was.
+/// Narrows a cube by the way to the first leaf from the left with a number. Returns false exactly if no leaf has it,
+/// and then the cube is what it was.
 fn narrow_to_first(
     items: &[TreeItem<Option<u64>>],
     k: u8,
@@ -140,11 +140,12 @@ fn narrow_to_first(
                 high: cut,
             })?;
             match low {
+                // the cube has numbers up to the cut
                 Some(low) => {
                     if narrow_to_first(below, k, cube, wanted)? {
                         return Ok(true);
                     }
-                    // in place, which is less work than the way back and down again
+                    // it is narrowed in place, which is less work than going back and down again
                     if cube.exchange(low, upper) {
                         if narrow_to_first(above, k, cube, wanted)? {
                             return Ok(true);
@@ -152,6 +153,7 @@ fn narrow_to_first(
                         cube.restore(low);
                     }
                 }
+                // the cube has only numbers above the cut
                 None => {
                     let high = cube.narrow(upper)?;
                     if let Some(high) = high {
@@ -201,7 +203,8 @@ fn least_with(
     ensures none { IfOk result (λ r. IfNone r (All (λ p. p.1 ≢ Some wanted) tree.now.paths)) }
     ensures some { IfOk result (λ r. IfSome r (IsLeast problem.now order.now (HasValueAt tree.now.paths (Some wanted)))) }
 {
-    // then the first from the left has the least scenario, and neither a tree of this number alone nor a list is needed
+    // in this case the first path from the left has the least scenario, and neither a tree of this number alone nor a
+    // list is needed
     if stand_along(tree, problem, order)? {
         return least_found(tree, problem, wanted);
     }

@@ -14,12 +14,14 @@ use Rattle.cpg_tune.specs.Asked.{row_graph}
 use Rattle.cpg_tune.specs.Retuned.{in_parts_each, retuned, ArePartsOf}
 use Rattle.cpg_tune.proofs.Fewest.{best_is_best}
 
+-- there are as many retuned processes as processes
 pub each_long : (ps : List Process) (parts : List ℕ) → length parts ≡ length ps →
     length (in_parts_each ps parts) ≡ length ps
 each_long [] parts e = refl
 each_long (p ∷ ps) [] e = absurd (omega (arith, e))
 each_long (p ∷ ps) (n ∷ parts) e = ap suc (each_long ps parts (omega (arith, e)))
 
+-- the retuned process at a place has the number of parts at this place
 pub each_at : (ps : List Process) (parts : List ℕ) (i : ℕ) (d : Process) → length parts ≡ length ps → i < length ps →
     get_or (in_parts_each ps parts) i d ≡ in_parts (get_or ps i d) (get_or parts i 0)
 each_at [] parts i d e l = absurd (omega (arith, l))
@@ -27,28 +29,32 @@ each_at (p ∷ ps) [] i d e l = absurd (omega (arith, e))
 each_at (p ∷ ps) (n ∷ parts) zero d e l = refl
 each_at (p ∷ ps) (n ∷ parts) (suc i) d e l = each_at ps parts i d (omega (arith, e)) (omega (arith, l))
 
--- where one of the lists is used up
+-- when the processes or the parts are used up, no retuned process is left
 pub each_done : (ps : List Process) (parts : List ℕ) → (ps ≡ []) ⊎ (parts ≡ []) → in_parts_each ps parts ≡ []
 each_done [] parts e = refl
 each_done (p ∷ ps) [] e = refl
 each_done (p ∷ ps) (n ∷ parts) (inl e) = absurd (let l = ap length e in omega (arith, l))
 each_done (p ∷ ps) (n ∷ parts) (inr e) = absurd (let l = ap length e in omega (arith, l))
 
+-- when the processes or the parts are used up, all copies are made
 pub each_whole : (ps : List Process) (parts : List ℕ) (whole copies : List Process) →
     whole ≡ copies ++ in_parts_each ps parts → (ps ≡ []) ⊎ (parts ≡ []) → copies ≡ whole
 each_whole ps parts whole copies h e = sym (h ∙ ap (λ zs. copies ++ zs) (each_done ps parts e) ∙ append-nil copies)
 
 module _ (g : Graph) (parts : List ℕ) (faults : ℕ) (one_each : length parts ≡ process_count g) where
+  -- a retuned graph has as many processes
   pub count_same : process_count (retuned g parts faults) ≡ process_count g
   count_same = each_long g.processes parts one_each
 
+  -- the same processes of a retuned graph have conditions
   pub disjunctions_same : disjunctions (retuned g parts faults) ≡ disjunctions g
   disjunctions_same = ap (λ n. filter (is_disjunction g) (numbers_below n)) count_same
 
+  -- a retuned graph has as many conditions
   pub conditions_same : condition_count (retuned g parts faults) ≡ condition_count g
   conditions_same = ap length disjunctions_same
 
--- the graph stays within the limits
+-- a retuned graph stays within the limits
 pub retuned_within : (g : Graph) (parts : List ℕ) (faults : ℕ) → IsWithinLimits g → ArePartsOf g parts →
     faults ≤ MOST_FAULTS →
     IsWithinLimits (retuned g parts faults)
@@ -75,6 +81,7 @@ retuned_within g parts faults w a few = record {
   order = subst (λ n. IfSome g.order (IsOrderWithin n)) (sym (count_same g parts faults a.one_each)) w.order;
 }
   where
+    -- a process in its new parts is within the limits: the parts are few and long enough, and all else is as before
     process_within : (i : ℕ) (d : Process) → i < length g.processes →
         IsProcessWithin (length g.nodes) (in_parts (get_or g.processes i d) (get_or parts i 0))
     process_within i d l = let h = w.processes i d l in
@@ -91,6 +98,7 @@ retuned_within g parts faults w a few = record {
           deadline = h.deadline;
         }
 
+    -- a retuned process has the same name
     name_at : (i : ℕ) (d : Process) → i < length g.processes →
         (get_or (in_parts_each g.processes parts) i d).name ≡ (get_or g.processes i d).name
     name_at i d l = ap (λ (p : Process). p.name) (each_at g.processes parts i d a.one_each l)
@@ -130,7 +138,7 @@ best_at g p d l =
     let f : Process → ℕ = λ q. best_of q g.faults in
     get_or-map f g.processes p (process_at g p) d l ∙ ap f (get_or_default g.processes p _ _ l)
 
--- one more of the best parts
+-- the best parts of the first processes, with those of one more
 pub best_parts_push : (g : Graph) (p best : ℕ) (parts : List ℕ) → p < process_count g → parts ≡ take p (best_parts g) →
     best ≡ best_of (process_at g p) g.faults →
     parts ++ best ∷ [] ≡ take (p + 1) (best_parts g)
@@ -144,6 +152,7 @@ duration_at : (g : Graph) (parts : List ℕ) → ArePartsOf g parts → (faults 
     duration (retuned g parts faults) p f ≡ duration_in (process_at g p) f (get_or parts p 0)
 duration_at g parts a faults p f l = ap (λ (q : Process). duration_of q f) (each_at g.processes parts p _ a.one_each l)
 
+-- with the best parts no execution with all the faults lasts longer than with any other parts
 pub tuned_least : (g : Graph) (parts : List ℕ) → ArePartsOf g parts → (p : ℕ) → p < process_count g →
     duration (row_graph g g.faults) p g.faults ≤ duration (retuned g parts g.faults) p g.faults
 tuned_least g parts a p l =

@@ -27,6 +27,7 @@ record IsFirstLeast (d : ℕ → ℕ) (n best : ℕ) : Type 0 where
   least : (m : ℕ) → 1 ≤ m → m ≤ n → d best ≤ d m
   first : (m : ℕ) → 1 ≤ m → m < best → d best < d m
 
+-- the first least number is compared with one more
 first_next : (d : ℕ → ℕ) (n best : ℕ) → IsFirstLeast d n best →
     IsFirstLeast d (n + 1) (cond (nat_lt (d (n + 1)) (d best)) (n + 1) best)
 first_next d n best h = go (nat_lt (d (n + 1)) (d best)) refl
@@ -34,6 +35,7 @@ first_next d n best h = go (nat_lt (d (n + 1)) (d best)) refl
     or_last : (m : ℕ) → m ≤ n + 1 → (m ≤ n) ⊎ (m ≡ n + 1)
     or_last m l = elim (cases_lt n m) [ inl a ↦ inr (omega (arith, a, l)) | inr b ↦ inl b ]
 
+    -- the first least up to n + 1 is n + 1 if its duration is less than the least so far, else the one so far
     go : (b : Bool) → nat_lt (d (n + 1)) (d best) ≡ b → IsFirstLeast d (n + 1) (cond b (n + 1) best)
     go true t =
         let less = ltb-true (d (n + 1)) (d best) t in
@@ -70,7 +72,7 @@ one_first d = record {
   first = λ m some l. absurd (omega (arith, some, l));
 }
 
--- a part of so few units of work is one unit
+-- with at least as many parts as units of work each part is one unit
 one_unit : (work parts : ℕ) → 1 ≤ work → work ≤ parts → div_ceil work parts ≡ 1
 one_unit work parts some many =
     let whole = div_ceil_times work parts (omega (arith, some, many)) in
@@ -95,6 +97,7 @@ module _ (p : Process) (faults : ℕ) where
       ap fewest e ∙ (ap (λ xs. fold (shorter p faults) 1 xs) (range_push 1 n m (omega (arith, e)))
       ∙ fold_push (shorter p faults) 1 (range_with_len 1 n) m)
 
+  -- the fold over the numbers up to m gives the first least of them; by induction
   fewest_first : (n m : ℕ) → m ≡ n + 1 → IsFirstLeast (duration_in p faults) m (fewest m)
   fewest_first zero m e =
       subst (λ k. IsFirstLeast (duration_in p faults) k (fewest k)) (sym e)
@@ -106,6 +109,7 @@ module _ (p : Process) (faults : ℕ) where
       (subst (λ b. IsFirstLeast (duration_in p faults) (suc n + 1) b) (sym (fewest_next (suc n) (suc n + 1) refl))
       (first_next (duration_in p faults) (suc n) (fewest (suc n)) (fewest_first n (suc n) (omega arith))))
 
+  -- the first number of parts that lasts least is the best one
   pub best_is_best : IsBest p faults (best_of p faults)
   unfolding best_of
   best_is_best = let h = fewest_first 254 255 refl in
@@ -119,7 +123,7 @@ module _ (p : Process) (faults : ℕ) where
       (one_unit p.wcet n some many ∙ sym (one_unit p.wcet (n + 1) some (omega (arith, many)))) in
       omega (arith, more, same)
 
-  -- so the first that lasts least stays the same
+  -- beyond as many parts as units of work the first that lasts least stays the same
   fewest_stays : (n : ℕ) → 1 ≤ p.wcet → p.wcet ≤ n → (k : ℕ) → fewest (n + k) ≡ fewest n
   fewest_stays n some many zero = ap fewest (let e : n + zero ≡ n = omega arith in e)
   fewest_stays n some many (suc k) =
@@ -132,6 +136,7 @@ module _ (p : Process) (faults : ℕ) where
       (duration_in p faults (fewest (n + k))) (omega (arith, least, later)))
       ∙ fewest_stays n some many k
 
+  -- the best number of parts is found among those up to the units of work
   pub best_is_fewest : (n : ℕ) → 1 ≤ p.wcet → n ≡ min p.wcet MOST_PARTS → fewest n ≡ best_of p faults
   unfolding best_of
   best_is_fewest n some e = elim (cases_lt p.wcet MOST_PARTS) [
@@ -148,11 +153,13 @@ module _ (p : Process) (faults : ℕ) where
     again : fewest parts ≡ fewest (parts + 1 - 1)
     again = let e : parts ≡ parts + 1 - 1 = omega arith in ap fewest e
 
+    -- a number of parts that lasts less is the best so far
     pub takes_next : duration_in p faults parts < duration_in p faults best → parts ≡ fewest (parts + 1 - 1)
     takes_next less =
         sym (next_is ∙ ap (λ b. cond b parts best)
         (lt-ltb (duration_in p faults parts) (duration_in p faults best) less)) ∙ again
 
+    -- a number of parts that doesn't last less leaves the best as it was
     pub keeps_best : duration_in p faults best ≤ duration_in p faults parts → best ≡ fewest (parts + 1 - 1)
     keeps_best no_less =
         sym (next_is ∙ ap (λ b. cond b parts best)

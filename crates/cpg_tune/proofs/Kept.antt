@@ -42,6 +42,7 @@ record IsAlike (p q : Process) : Type 0 where
   pub node : p.node ≡ q.node
   pub join : p.join ≡ q.join
 
+-- a retuned process keeps its node and whether it is a join
 alike : (ps : List Process) (parts : List ℕ) (i : ℕ) (d : Process) → length parts ≡ length ps →
     IsAlike (get_or (in_parts_each ps parts) i d) (get_or ps i d)
 alike [] parts i d e = record { node = refl; join = refl }
@@ -74,6 +75,7 @@ module _ (g : Graph) (parts : List ℕ) (faults : ℕ) (one_each : length parts 
   value_same values p = ap (λ ps. get_or values (unwrap_or (position (λ q. q == p) ps) 0) false)
       (disjunctions_same g parts faults one_each)
 
+  -- a retuned graph has the same activations
   within_same : (depth : ℕ) (values : List Bool) (p : ℕ) →
       activation_within depth h values p ≡ activation_within depth g values p
   within_same zero values p = refl
@@ -137,6 +139,7 @@ module _ (g : Graph) (parts : List ℕ) (faults : ℕ) (one_each : length parts 
   home_same x =
       node_same (producer h x) ∙ ap (node_of g) (ap (producer_of_item h) (item_same x) ∙ producer_same (item_at g x))
 
+  -- a retuned graph has as many items
   pub items_same : item_count h ≡ item_count g
   items_same = ap₂ (λ n c. n + edge_count g + c) processes_same conditions_same
 
@@ -151,12 +154,12 @@ module _ (g : Graph) (parts : List ℕ) (faults : ℕ) (one_each : length parts 
       ap₂ (λ m node. m && nat_lt (slot_bytes g node) (edge_at g e).size) (message_same e) (node_same (source g e))
       ∙ fit e l
 
-  -- cycles are of edges alone
+  -- a cycle of the retuned graph is one of the graph
   cycle_same : HasCycle h → HasCycle g
   cycle_same (walk, c) =
       (walk, record { some = c.some; apart = c.apart; least = c.least; next = c.next; back = c.back })
 
-  -- a topological order of the graph is one of the other
+  -- a topological order of the graph is one of the retuned graph
   topological_same : (order : List ℕ) → IsTopological g order → IsTopological h order
   topological_same order top = record {
     all = subst (λ n. IsPermutation (numbers_below n) order) (sym processes_same) top.all;
@@ -170,6 +173,7 @@ module _ (g : Graph) (parts : List ℕ) (faults : ℕ) (one_each : length parts 
       go None none = none
       go (Some order) top = topological_same order top
 
+  -- a retuned graph keeps the rules that the graph keeps
   pub keeps_rules : KeepsRules g h
   keeps_rules = record {
     cycle = cycle_same;
@@ -180,10 +184,11 @@ module _ (g : Graph) (parts : List ℕ) (faults : ℕ) (one_each : length parts 
     given = given_same;
   }
 
--- two live inputs are more than one
+-- at most one live input is not two
 two_live : (n : ℕ) → n ≤ 1 → nat_lt 1 n ≡ true → ⊥
 two_live n l t = let above = ltb-true 1 n t in omega arith
 
+-- a graph that keeps the rules of an admitted one shows no fault but that memory runs out
 pub no_fault : (g h : Graph) (order : List ℕ) (guards : Guards) → IsAdmitted g order guards → KeepsRules g h →
     ShowsNoFault h
 no_fault g h order guards is keeps (Cycle walk) shows =

@@ -11,6 +11,7 @@ IsLastFrom from found rows last =
     ⊎ ((k : ℕ) × (k < length rows) × (last ≡ Some (from + k)) × (is_accepted (row_at rows k) ≡ true) ×
     ((m : ℕ) → k < m → m < length rows → is_accepted (row_at rows m) ≡ false))
 
+-- counting the rows finds the last one that is accepted
 last_from : (from : ℕ) (found : Option ℕ) (rows : List Judged) →
     IsLastFrom from found rows (tolerated_from from found rows)
 last_from from found [] = inl (refl, λ k l. absurd (omega (arith, l)))
@@ -35,6 +36,7 @@ last_from from found (row ∷ rows) =
     none_here e h zero b = e
     none_here e h (suc m) b = h m (omega (arith, b))
 
+    -- the last accepted row is one of the rest or, if there is none, this row if it is accepted
     go : (b : Bool) → is_accepted row ≡ b →
         IsLastFrom (from + 1) (cond b (Some from) found) rows
         (tolerated_from (from + 1) (cond b (Some from) found) rows)
@@ -46,6 +48,7 @@ last_from from found (row ∷ rows) =
     go false e (inr (k, within, is, accepted, none)) =
         inr (suc k, omega (arith, within), is ∙ ap Some (omega arith), accepted, none_after k none)
 
+-- the faults that are tolerated are the greatest number whose row is accepted
 pub tolerated_greatest : (rows : List Judged) → IsGreatestAccepted rows (tolerated rows)
 tolerated_greatest rows = go (tolerated rows) (last_from 0 None rows)
   where

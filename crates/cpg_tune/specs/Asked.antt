@@ -1,4 +1,4 @@
--- What is asked of a judge: for each fault number, whether the graph with its best parts is accepted.
+-- The questions to a judge: for each fault number, whether the graph with its best parts is accepted.
 use Rattle.std.specs.Prelude.{ℕ, ◌≤◌, ◌↔◌}
 use Rattle.cpg_base.specs.declared.limits.TheConstants.{MOST_FAULTS}
 use Rattle.cpg_base.specs.Graph.{Graph}

@@ -14,7 +14,7 @@ in_parts p n = record p { parts = n }
 abbrev pub duration_in : Process → ℕ → ℕ → ℕ
 duration_in p faults n = duration_of (in_parts p n) faults
 
--- the second number of parts if an execution lasts less with it, and else the first
+-- the second number of parts if an execution lasts less with it, or else the first
 abbrev pub shorter : Process → ℕ → ℕ → ℕ → ℕ
 shorter p faults m n = if nat_lt (duration_in p faults n) (duration_in p faults m) then n else m
 
@@ -30,5 +30,7 @@ best_parts g = map (λ p. best_of p g.faults) g.processes
 pub record IsBest (p : Process) (faults n : ℕ) : Type 0 where
   pub some : 1 ≤ n
   pub few : n ≤ MOST_PARTS
+  -- no number of parts makes the execution shorter
   pub least : (m : ℕ) → 1 ≤ m → m ≤ MOST_PARTS → duration_in p faults n ≤ duration_in p faults m
+  -- every lesser number of parts makes it longer
   pub first : (m : ℕ) → 1 ≤ m → m < n → duration_in p faults n < duration_in p faults m

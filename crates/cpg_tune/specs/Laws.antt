@@ -18,6 +18,6 @@ abbrev pub TunedLastLeast : Type 0
 TunedLastLeast = (g : Graph) (parts : List ℕ) → ArePartsOf g parts → (p : ℕ) → p < process_count g →
     duration (row_graph g g.faults) p g.faults ≤ duration (retuned g parts g.faults) p g.faults
 
--- what is tolerated is the greatest fault number whose row is accepted
+-- the faults that are tolerated are the greatest number whose row is accepted
 abbrev pub ToleratedIsGreatest : Type 0
 ToleratedIsGreatest = (rows : List Judged) → IsGreatestAccepted rows (tolerated rows)

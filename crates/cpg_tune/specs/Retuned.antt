@@ -10,12 +10,13 @@ use Rattle.cpg_tune.specs.Best.{in_parts}
 abbrev pub in_parts_each : List Process → List ℕ → List Process
 in_parts_each ps parts = map (λ pair. in_parts pair.0 pair.1) (zip ps parts)
 
--- all else is unchanged
+-- the graph with another fault number, and each process with the number of parts at its place
 abbrev pub retuned : Graph → List ℕ → ℕ → Graph
 retuned g parts faults = record g { faults = faults; processes = in_parts_each g.processes parts }
 
 -- one number of parts for each process, each from 1 to 255
 pub record ArePartsOf (g : Graph) (parts : List ℕ) : Type 0 where
   pub one_each : length parts ≡ process_count g
+  -- each number is from 1 to 255
   pub divided : All (λ n. 1 ≤ n) parts
   pub few : All (λ n. n ≤ MOST_PARTS) parts

@@ -14,9 +14,11 @@ use Rattle.cpg_rules.specs.Faults.{ShowsFault}
 use Rattle.cpg_tune.specs.Retuned.{retuned}
 use Rattle.cpg_tune.specs.Asked.{row_graph}
 
--- what the rules say of a graph they say of another
+-- if the first graph keeps the rules, so does the second
 pub record KeepsRules (g h : Graph) : Type 0 where
+  -- a cycle of the second graph is one of the first
   pub cycle : HasCycle h → HasCycle g
+  -- both have equally many tracks
   pub tracks : track_count h ≡ track_count g
   pub joins : HasSingleJoins g → HasSingleJoins h
   pub slots : HasSenderSlots g → HasSenderSlots h

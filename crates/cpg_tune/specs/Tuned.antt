@@ -11,7 +11,9 @@ use Rattle.cpg_tune.specs.Asked.{row_graph}
 -- the parts by process, the answers by fault number, and how many faults are tolerated
 pub record Tuning : Type 0 where
   pub parts : List ℕ
+  -- what the judge says of the graph with 0 faults, with 1, and so on
   pub rows : List Judged
+  -- the greatest number of faults that is accepted, if one is
   pub tolerates : Option ℕ
 
 -- whether the graph was accepted
@@ -43,6 +45,7 @@ pub record AreRows (answers : Graph → Judged → Type 0) (g : Graph) (count : 
 -- the best parts, nine rows, and what they tolerate
 pub record IsTuning (answers : Graph → Judged → Type 0) (g : Graph) (t : Tuning) : Type 0 where
   pub parts : t.parts ≡ best_parts g
+  -- a row for each number from 0 to MOST_FAULTS
   pub rows : AreRows answers g (MOST_FAULTS + 1) t.rows
   pub tolerates : t.tolerates ≡ tolerated t.rows
 

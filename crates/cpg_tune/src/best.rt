@@ -6,7 +6,7 @@ ghost use Rattle.cpg_tune.specs.Best.{duration_in, best_of, IsBest};
 
 use cpg_base::{MOST_PARTS, Problem, Process};
 
-/// How long an execution in so many parts lasts with so many faults, in time units.
+/// How long an execution in `parts` parts lasts with `faults` faults, in time units.
 fn duration_in(process: &Process, parts: u32, faults: u8) -> u64
     requires within { (nodes : ℕ) × IsProcessWithin nodes process.now }
     requires some { 1 ≤ parts }
@@ -15,11 +15,12 @@ fn duration_in(process: &Process, parts: u32, faults: u8) -> u64
     ensures { result ≡ duration_in process.now faults parts }
 {
     let checked = u64::from(parts) * (process.alpha + process.chi);
+    // what one more fault adds: a part runs once more
     let again = process.mu + process.wcet.div_ceil(u64::from(parts)) + process.alpha;
     process.wcet + checked + u64::from(faults) * again
 }
 
-/// The first of 1 to 255 parts in which an execution with so many faults lasts least.
+/// The least number of parts from 1 to 255 in which an execution with `faults` faults lasts least.
 fn best_of(process: &Process, faults: u8) -> u32
     requires within { (nodes : ℕ) × IsProcessWithin nodes process.now }
     requires faults { faults ≤ 8 }

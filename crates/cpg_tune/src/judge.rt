@@ -1,13 +1,13 @@
-//! What tells whether a graph is accepted.
+//! Judges, which say whether a graph is accepted.
 ghost use Rattle.std.specs.Prelude.{IfOk};
 ghost use Rattle.cpg_tune.specs.Asked.{SameQuestions, SameAnswers};
 
 use cpg_base::{OutOfMemory, Problem};
 
-/// What a judge says of a graph. Times are in the time units of the graph file.
+/// The answer of a judge for a graph. Times are in the time units of the graph file.
 #[derive(Clone, Copy, Debug, PartialEq, Eq)]
 pub enum Judged {
-    /// It is accepted, with this greatest finish.
+    /// The graph is accepted, with this greatest finish.
     Worst(u64),
     /// A process ends past its due, and this is its end.
     Late(u64),

@@ -1,5 +1,5 @@
-//! The best number of parts of each process of a graph, for each fault number what a judge says of the graph so tuned, and the
-//! laws on both.
+//! The best number of parts of each process of a graph, for each fault number what a judge says of the graph so
+//! tuned, and the laws on both.
 #![tactic(auto)]
 
 ghost use Rattle.cpg_tune.specs.RetunedLaws.{RetunedKeepRules, RetunedShowNoFault, TunedShowNoFault};
@@ -25,7 +25,7 @@ pub fn tuned_last_least()
     ensures { TunedLastLeast }
 {}
 
-/// The faults that are tolerated are the greatest number whose row is accepted, and `None` exactly if no row is.
+/// The faults that are tolerated are the greatest number whose row is accepted, or `None` exactly if no row is.
 pub fn tolerated_is_greatest()
     ensures { ToleratedIsGreatest }
 {}

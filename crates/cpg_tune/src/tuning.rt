@@ -12,8 +12,11 @@ use std::marker::Model;
 /// The best parts of a graph, and what a judge says of it with these parts, for each fault number from 0 to 8.
 #[derive(Drop)]
 pub struct Tuned {
+    /// The best number of parts of each process.
     parts: Vec<u32>,
+    /// What the judge says, by fault number.
     rows: Vec<Judged>,
+    /// The greatest fault number whose row is accepted; `None` if no row is.
     tolerates: Option<u8>,
 }
 
@@ -99,7 +102,8 @@ fn rows_of<J: Judge>(
     Ok(rows)
 }
 
-/// The best parts of each process, and what the judge says of the graph with these parts, for each fault number from 0 to 8.
+/// The best parts of each process, and what the judge says of the graph with these parts, for each fault number from
+/// 0 to 8.
 pub fn tune<J: Judge>(alloc: Global, problem: &Problem, judge: &mut J) -> Result<Tuned, OutOfMemory>
     requires { MayAskRows (J.may_ask judge.old) problem.now }
     ensures questions { SameQuestions (J.may_ask judge.old) (J.may_ask judge.new) }
@@ -131,7 +135,7 @@ impl Tuned {
         self.rows.as_slice()
     }
 
-    /// The greatest fault number whose row is accepted, and `None` exactly if no row is.
+    /// The greatest fault number whose row is accepted, or `None` exactly if no row is.
     pub fn tolerates(&self) -> Option<u8>
         ensures tolerates { result ≡ self.now.tolerates }
         ensures greatest { IsGreatestAccepted self.now.rows result }

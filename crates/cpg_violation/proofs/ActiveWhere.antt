@@ -29,6 +29,7 @@ same_value true false = refl
 same_value false true = refl
 same_value false false = refl
 
+-- the literal of a condition's value holds exactly if the condition has the value
 pub value_holds : (s : Scenario) (c : ℕ) (b : Bool) →
     holds s (value_literal c b) ≡ same_bool b (get_or s.values c false)
 value_holds s c b = ap (λ n. nat_le (number_of_value b) n && nat_le n (number_of_value b)) (number_of-value s c)
@@ -52,16 +53,19 @@ never true m n x e = ap (λ b. (b && n) && x) e
 never false m n x e = refl
 
 module _ (g : Graph) (order : List ℕ) (by : List (List Literal)) (wanted : Bool) (cube : List Literal) where
+  -- at a leaf that comes to what is wanted, the first scenario left of the cube is the answer
   pub at_leaf : (a : Activation) (o : Option Scenario) → same_bool wanted (is_active a) ≡ true →
       IsFirst g order (is_left by cube) o →
       IsFirst g order (λ s. is_left by cube s && comes_to (Leaf a) wanted s) o
   at_leaf a o e f = first_same g order (is_left by cube) (λ s. is_left by cube s && comes_to (Leaf a) wanted s) o
       (λ s _. with_true (is_left by cube s) (same_bool wanted (is_active a)) e) f
 
+  -- at another leaf, there is none
   pub at_other_leaf : (a : Activation) → same_bool wanted (is_active a) ≡ false →
       IsFirst g order (λ s. is_left by cube s && comes_to (Leaf a) wanted s) None
   at_other_leaf a e = λ s _. and_right (is_left by cube s) (same_bool wanted (is_active a)) e
 
+  -- at a test, the earlier of the answers with the condition false and true is the answer
   pub at_test : (c : ℕ) (off on : Guard) (a b : Option Scenario)
       → IsFirst g order (λ s. holds s (value_literal c false) && (is_left by cube s && comes_to off wanted s)) a
       → IsFirst g order (λ s. holds s (value_literal c true) && (is_left by cube s && comes_to on wanted s)) b
@@ -78,6 +82,7 @@ module _ (g : Graph) (order : List ℕ) (by : List (List Literal)) (wanted : Boo
       (first_or g order _ _ a b f h)
 
   module _ (l : Literal) (tree : Guard) where
+    -- what is first in the part of the cube that has the literal is first in the cube where the literal holds
     pub where_holds : (part : List Literal) (o : Option Scenario) →
         ((s : Scenario) → matches part s ≡ (holds s l && matches cube s)) →
         IsFirst g order (λ s. is_left by part s && comes_to tree wanted s) o
@@ -87,6 +92,7 @@ module _ (g : Graph) (order : List ℕ) (by : List (List Literal)) (wanted : Boo
         (λ s _. ap (λ m. (m && not (list_any (λ b. matches b s) by)) && comes_to tree wanted s) (both s) ∙
         moved (holds s l) (matches cube s) (not (list_any (λ b. matches b s) by)) (comes_to tree wanted s)) f
 
+    -- if the cube never matches together with the literal, there is none
     pub where_never : ((s : Scenario) → (holds s l && matches cube s) ≡ false) →
         IsFirst g order (λ s. holds s l && (is_left by cube s && comes_to tree wanted s)) None
     where_never none = λ s _.

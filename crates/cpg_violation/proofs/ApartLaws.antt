@@ -16,12 +16,14 @@ module _ (columns : List Column) (cube : List Literal) (places : List ℕ) where
   MeetsFirst n kept = (s : Scenario) (i : ℕ) → Contains (take n places) i → i < length columns →
       matches (column_at columns i).cube s ≡ true → matches cube s ≡ true → Contains kept i
 
+  -- past the last place, all columns that match together with the cube are kept
   pub meets_all : (kept : List ℕ) (k : ℕ) → length places ≤ k → MeetsFirst k kept
       → (s : Scenario) (i : ℕ) → Contains places i → i < length columns → matches (column_at columns i).cube s ≡ true →
       matches cube s ≡ true → Contains kept i
   meets_all kept k past h s i c l m e = h s i (subst (λ xs. Contains xs i) (sym (take_all k places past)) c) l m e
 
   module _ (kept : List ℕ) (k d : ℕ) (within : k < length places) where
+    -- with the next place kept, those of one place more are kept
     pub meets_push : MeetsFirst k kept → MeetsFirst (k + 1) (kept ++ get_or places k d ∷ [])
     meets_push h s i c l m e = ⊎_elim
         (λ (b : Contains (take k places) i). Contains-append_left kept (get_or places k d ∷ []) i (h s i b l m e))
@@ -30,6 +32,7 @@ module _ (columns : List Column) (cube : List Literal) (places : List ℕ) where
         (Contains-push_cases (take k places) (get_or places k d) i
         (subst (λ xs. Contains xs i) (take_more places k d within) c))
 
+    -- so they are without it if its column never matches together with the cube
     pub meets_skip : ((s : Scenario) → get_or places k d < length columns →
         (matches cube s && matches (column_at columns (get_or places k d)).cube s) ≡ false) →
         MeetsFirst k kept →

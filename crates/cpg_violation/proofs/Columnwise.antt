@@ -17,21 +17,23 @@ both_or : (m a b : Bool) → ((m && a) || (m && b)) ≡ (m && (a || b))
 both_or true a b = refl
 both_or false a b = refl
 
--- a test of what passes another
+-- some element that was kept passes exactly if some element was kept and passes
 pub any_filter : {X : Type 0} (test keep : X → Bool) (xs : List X) →
     list_any test (filter keep xs) ≡ list_any (λ x. keep x && test x) xs
 any_filter test keep [] = refl
 any_filter test keep (x ∷ xs) = go (keep x) (any_filter test keep xs)
   where
+    -- the first element counts if it is kept and passes the test
     go : (b : Bool) → list_any test (filter keep xs) ≡ list_any (λ x. keep x && test x) xs →
         list_any test (cond b (x ∷ filter keep xs) (filter keep xs))
         ≡ ((b && test x) || list_any (λ x. keep x && test x) xs)
     go true ih = ap (λ r. test x || r) ih
     go false ih = ih
 
+-- a fact of scenarios, and a test of scenarios and the elements of a list
 module _ {X : Type 0} (g : Graph) (order : List ℕ) (fact : Scenario → Bool) (test : Scenario → X → Bool)
     (xs : List X) where
-  -- one element more that may fail
+  -- the earlier of the answers for the first elements and for the next one is that for one element more
   pub first_any_more : (i : ℕ) (d : X) → i < length xs → (a b : Option Scenario) →
       IsFirst g order (λ s. fact s && list_any (test s) (take i xs)) a
       → IsFirst g order (λ s. fact s && test s (get_or xs i d)) b →
@@ -43,7 +45,7 @@ module _ {X : Type 0} (g : Graph) (order : List ℕ) (fact : Scenario → Bool) 
       ∙ ap (λ m. fact s && m) (sym (list_any_more (test s) xs i d h)))
       (first_or g order (λ s. fact s && list_any (test s) (take i xs)) (λ s. fact s && test s (get_or xs i d)) a b f k)
 
--- either of two failures
+-- the earlier of the answers for two failures is that for either of them
 pub first_either : (g : Graph) (order : List ℕ) (fact p q : Scenario → Bool) (a b : Option Scenario) →
     IsFirst g order (λ s. fact s && p s) a →
     IsFirst g order (λ s. fact s && q s) b
@@ -53,13 +55,13 @@ first_either g order fact p q a b f h =
     (λ s _. both_or (fact s) (p s) (q s)) (first_or g order (λ s. fact s && p s) (λ s. fact s && q s) a b f h)
 
 module _ (test : Scenario → Column → Bool) (columns : List Column) (i : ℕ) where
-  -- the column at a place
+  -- the column at a place is broken exactly if it matches and fails the test
   pub broken_at : (d : Column) (s : Scenario) → i < length columns →
       (matches (get_or columns i d).cube s && test s (get_or columns i d)) ≡ is_broken test columns i s
   broken_at d s h = sym (or-false (matches (get_or columns i d).cube s && test s (get_or columns i d)))
       ∙ sym (ap (λ l. list_any (λ (c : Column). matches c.cube s && test s c) (take 1 l)) (drop_more columns i d h))
 
-  -- there is no column past the last
+  -- no column is broken past the last place
   pub broken_past : (s : Scenario) → length columns ≤ i → is_broken test columns i s ≡ false
   broken_past s h = ap (λ l. list_any (λ (c : Column). matches c.cube s && test s c) (take 1 l)) (drop_all i columns h)
 

@@ -7,12 +7,12 @@ use Rattle.std.proofs.lemmas.List.{take_more, take_all, get_or-map, length-map, 
 use Rattle.std.proofs.lemmas.Option.{slice_get-get_or, slice_get_past, same_Some, none-some}
 
 module _ {X : Type 0} (xs ys : List X) (i : ℕ) where
-  -- one element more that is the same
+  -- lists that agree in the first elements and in the next one agree in one element more
   pub same_more : (d e : X) → i < length xs → i < length ys → get_or xs i d ≡ get_or ys i e → take i xs ≡ take i ys →
       take (i + 1) xs ≡ take (i + 1) ys
   same_more d e h k s t = take_more xs i d h ∙ ap₂ (λ ts x. ts ++ x ∷ []) t s ∙ sym (take_more ys i e k)
 
-  -- an element that differs
+  -- lists whose elements at a place differ, differ at the place
   pub differ_here : (d e : X) → i < length xs → i < length ys → get_or xs i d ≢ get_or ys i e →
       slice_get xs i ≢ slice_get ys i
   differ_here d e h k n q =
@@ -43,14 +43,17 @@ ends_differ xs ys i e n = elim (cases_lt i (length ys)) [
 pub same_whole : {X : Type 0} (xs ys : List X) (i : ℕ) → length xs ≤ i → length ys ≤ i → take i xs ≡ take i ys → xs ≡ ys
 same_whole xs ys i h k t = sym (take_all i xs h) ∙ t ∙ take_all i ys k
 
+-- the elements at one place of two lists, the second of which is mapped
 module _ {X Y : Type 0} (f : Y → X) (xs : List X) (ys : List Y) (i : ℕ) (x : X) (y : Y) (h : i < length xs)
     (k : i < length ys) (is : x ≡ get_or xs i x) (at : y ≡ get_or ys i y) where
   mapped : get_or (map f ys) i (f y) ≡ f y
   mapped = get_or-map f ys i y (f y) k ∙ ap f (sym at)
 
+  -- lists whose first elements agree, the second ones mapped, agree in one more if the next ones do
   pub same_more_mapped : x ≡ f y → take i xs ≡ take i (map f ys) → take (i + 1) xs ≡ take (i + 1) (map f ys)
   same_more_mapped e t =
       same_more xs (map f ys) i x (f y) h (omega (arith, length-map ys f)) (sym is ∙ e ∙ sym mapped) t
 
+  -- and they differ at the place if the next ones differ
   pub differ_mapped : x ≢ f y → slice_get xs i ≢ slice_get (map f ys) i
   differ_mapped n = differ_here xs (map f ys) i x (f y) h (omega (arith, length-map ys f)) (λ e. n (is ∙ e ∙ mapped))

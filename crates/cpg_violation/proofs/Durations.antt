@@ -8,6 +8,7 @@ use Rattle.cpg_base.specs.Scenario.{Scenario, IsScenario, fault_of}
 use Rattle.cpg_base.proofs.NumbersOf.{number_of-fault}
 use Rattle.cpg_cube.proofs.Boxes.{number_within, top_of_count}
 
+-- an execution with more faults takes no less time
 pub duration_grows : (g : Graph) (p m n : ℕ) → m ≤ n → duration g p m ≤ duration g p n
 duration_grows g p m n h =
     let more : m

@@ -13,7 +13,7 @@ use Rattle.cpg_head.specs.Head.{AreExtras}
 use Rattle.cpg_violation.proofs.Differences.{same_more, same_whole}
 
 module _ (ps : List Process) (p : ℕ) (e : Extra) (d : Process) (l : p < length ps) where
-  -- one more that is the same
+  -- if version 2 says of the first processes what the graph does, and of the next one, it does of one more
   pub extras_more : (o : Option (List Extra)) → Some e ≡ option_and_then (λ es. slice_get es p) o →
       e ≡ extra_of (get_or ps p d)
       → IfSome o (λ es. take p es ≡ take p (map extra_of ps)) →
@@ -26,7 +26,7 @@ module _ (ps : List Process) (p : ℕ) (e : Extra) (d : Process) (l : p < length
     | inr ge ↦ absurd (none-some e (sym (slice_get_past es p ge) ∙ sym i))
   ]
 
--- all of them
+-- past the last process, it says so of all
 pub extras_whole : (ps : List Process) (p : ℕ) (o : Option (List Extra)) → length ps ≤ p →
     IfSome o (AreExtras (length ps))
     → IfSome o (λ es. take p es ≡ take p (map extra_of ps)) → IfSome o (λ es. es ≡ map extra_of ps)

@@ -20,7 +20,7 @@ use Rattle.cpg_violation.specs.Sources.{is_active_by}
 use Rattle.cpg_violation.specs.declared.sources.ItemSource.{ItemSource}
 use Rattle.cpg_violation.proofs.ActiveWhere.{value_holds}
 
--- a test comes to nothing wanted if the sides that are open do
+-- a test doesn't come to what is wanted if the arms that may be taken don't
 module _ (wanted : Bool) (c : ℕ) (off on : Guard) (s : Scenario) where
   arms : (v : Bool) → get_or s.values c false ≡ v → (v ≡ false → comes_to off wanted s ≡ false) →
       (v ≡ true → comes_to on wanted s ≡ false) →
@@ -28,22 +28,26 @@ module _ (wanted : Bool) (c : ℕ) (off on : Guard) (s : Scenario) where
   arms true e low high = rw e (high refl)
   arms false e low high = rw e (low refl)
 
+  -- if the condition is true, the test doesn't come to what is wanted if its second arm doesn't
   pub only_on : holds s (value_literal c true) ≡ true → comes_to on wanted s ≡ false →
       comes_to (Test c off on) wanted s ≡ false
   only_on h high = arms (get_or s.values c false) refl (λ e.
       absurd (both_ways (holds s (value_literal c true)) (value_holds s c true ∙ ap (same_bool true) e) h)) (λ e. high)
 
+  -- if the condition is false, it doesn't if its first arm doesn't
   pub only_off : holds s (value_literal c false) ≡ true → comes_to off wanted s ≡ false →
       comes_to (Test c off on) wanted s ≡ false
   only_off h low = arms (get_or s.values c false) refl (λ e. low)
       (λ e. absurd (both_ways (holds s (value_literal c false)) (value_holds s c false ∙ ap (same_bool false) e) h))
 
+  -- in either case, it doesn't if neither arm does
   pub both_arms : comes_to off wanted s ≡ false → comes_to on wanted s ≡ false →
       comes_to (Test c off on) wanted s ≡ false
   both_arms low high = arms (get_or s.values c false) refl (λ e. low) (λ e. high)
 
 -- the same in all scenarios of a space
 module _ (wanted : Bool) (tree : Guard) (c : ℕ) (off on : Guard) (is : tree ≡ Test c off on) (space : Space) where
+  -- in a space in which the condition is true, asking the second arm is enough
   pub step_on : (b : Bool) → OnTrue b ((s : Scenario) → IsInSpace space s → comes_to on wanted s ≡ false) →
       ((s : Scenario) → IsInSpace space s → holds s (value_literal c true) ≡ true)
       → OnTrue b ((s : Scenario) → IsInSpace space s → comes_to tree wanted s ≡ false)
@@ -51,12 +55,14 @@ module _ (wanted : Bool) (tree : Guard) (c : ℕ) (off on : Guard) (is : tree �
       of_true b high (λ h. subst (λ t. (s : Scenario) → IsInSpace space s → comes_to t wanted s ≡ false) (sym is)
       (λ s lies. only_on wanted c off on s (some s lies) (h s lies)))
 
+  -- in a space in which the condition is false, asking the first arm is enough
   pub step_off : ((s : Scenario) → IsInSpace space s → comes_to off wanted s ≡ false) →
       ((s : Scenario) → IsInSpace space s → holds s (value_literal c false) ≡ true)
       → (s : Scenario) → IsInSpace space s → comes_to tree wanted s ≡ false
   step_off low none = subst (λ t. (s : Scenario) → IsInSpace space s → comes_to t wanted s ≡ false) (sym is)
       (λ s lies. only_off wanted c off on s (none s lies) (low s lies))
 
+  -- in any space, asking both arms is enough
   pub step_both : (b : Bool) → ((s : Scenario) → IsInSpace space s → comes_to off wanted s ≡ false) →
       OnTrue b ((s : Scenario) → IsInSpace space s → comes_to on wanted s ≡ false)
       → OnTrue b ((s : Scenario) → IsInSpace space s → comes_to tree wanted s ≡ false)
@@ -78,9 +84,11 @@ module _ {g : Graph} {order : List ℕ} {guards : Guards} (admitted : IsAdmitted
   same_false true e = refl
   same_false false e = sym e
 
+  -- a process whose guard comes to no activation is inactive
   pub idle_of : comes_to (tree_of guards p) true s ≡ false → active g s.values p ≡ false
   idle_of e = sym by_tree ∙ sym (same_true (is_active (outcome_at (tree_of guards p) s.values))) ∙ e
 
+  -- a process whose guard doesn't come to none is active
   pub running_of : comes_to (tree_of guards p) false s ≡ false → active g s.values p ≡ true
   running_of e = sym by_tree ∙ same_false (is_active (outcome_at (tree_of guards p) s.values)) e
 
@@ -91,6 +99,7 @@ module _ (g : Graph) (s : Scenario) (p c : ℕ) (when : Option Bool) (value : Bo
   taken_as = ap (λ w. takes w (value_of g s.values p)) asks
       ∙ ap (λ o. same_bool value (get_or s.values (unwrap_or o 0) false)) is
 
+  -- if the condition has the value that the edge asks for, the edge takes it
   pub taken_of : holds s (value_literal c value) ≡ true → takes when (value_of g s.values p) ≡ true
   taken_of h = taken_as ∙ sym (value_holds s c value) ∙ h
 
@@ -100,6 +109,7 @@ module _ (g : Graph) (s : Scenario) (p c : ℕ) (when : Option Bool) (value : Bo
   other false true e = refl
   other false false e = sym e
 
+  -- if the condition has the other value, the edge doesn't take it
   pub refused_of : holds s (value_literal c (not value)) ≡ true → takes when (value_of g s.values p) ≡ false
   refused_of h = taken_as ∙ other value (get_or s.values c false) (sym (value_holds s c (not value)) ∙ h)
 
@@ -108,10 +118,12 @@ pub idle_source : (a t : Bool) → a ≡ false → (a && t) ≡ false
 idle_source true t e = absurd (both_ways true e refl)
 idle_source false t e = refl
 
+-- if the second of two tests fails, not both pass
 pub other_value : (a t : Bool) → t ≡ false → (a && t) ≡ false
 other_value true t e = e
 other_value false t e = refl
 
+-- if both tests pass, they pass together
 pub both_there : (a t : Bool) → a ≡ true → t ≡ true → (a && t) ≡ true
 both_there a t e f = rw (e, f) refl
 

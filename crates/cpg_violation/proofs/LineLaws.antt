@@ -1,4 +1,4 @@
--- The first and the last time of columns, and lines of which one is sifted.
+-- The first and the last time of columns, and lists of lines when one is sifted.
 use Rattle.std.proofs.Common.{ℕ, ◌+◌, ◌<◌, ◌≤◌, ◌≡◌, List, length, get_or, slice_set, take, drop, All, arith, ap, ◌∙◌}
 use Rattle.std.proofs.Common.{sym, subst, inl, inr}
 use Rattle.std.specs.List.{fold}
@@ -10,7 +10,7 @@ use Rattle.cpg_table.specs.Table.{NodeTable, columns_of}
 use Rattle.cpg_violation.specs.Lines.{AreLines, IsLine}
 use Rattle.cpg_violation.specs.declared.lines.SievedLine.{SievedLine}
 
--- a walk takes one element more
+-- a walk over the rest of a list takes the next element first
 pub fold_more : {X : Type 0} (f : ℕ → X → ℕ) (value next : ℕ) (xs : List X) (i : ℕ) (d x : X) → i < length xs →
     x ≡ get_or xs i d →
     next ≡ f value x →
@@ -27,6 +27,7 @@ not_before_more columns k c first less l is before a b = All-more (λ (d : Colum
     (All-weaker (λ (d : Column). first ≤ d.time) (λ (d : Column). less ≤ d.time) (λ d m. omega arith)
     (take k columns) before) (subst (λ (d : Column). less ≤ d.time) is b)
 
+-- if no column so far is after a time, and the next one isn't after a later one, none is after that
 pub not_after_more : (columns : List Column) (k : ℕ) (c : Column) (last more : ℕ) → k < length columns →
     c ≡ get_or columns k c → All (λ (d : Column). d.time ≤ last) (take k columns) → last ≤ more →
     c.time ≤ more → All (λ (d : Column). d.time ≤ more) (take (k + 1) columns)
@@ -34,7 +35,7 @@ not_after_more columns k c last more l is before a b = All-more (λ (d : Column)
     (All-weaker (λ (d : Column). d.time ≤ last) (λ (d : Column). d.time ≤ more) (λ d m. omega arith)
     (take k columns) before) (subst (λ (d : Column). d.time ≤ more) is b)
 
--- lines of which one is sifted
+-- the lines stay lines of the items when one is sifted
 pub lines_sifted : (tables : List NodeTable) (items : ℕ) (lines : List SievedLine) (x : ℕ) (old new : SievedLine) →
     x < length lines →
     (IsLine (columns_of tables x) (get_or lines x old) → IsLine (columns_of tables x) new) →

@@ -9,13 +9,14 @@ use Rattle.cpg_table.specs.declared.rule.Rule.{Rule}
 use Rattle.cpg_violation.specs.Sure.{AreSure}
 use Rattle.cpg_violation.specs.Violation.{Holds}
 
+-- marks of items at which a rule is sure
 module _ (g : Graph) (tables : List NodeTable) (rule : Rule) (marks : List Bool)
     (sure : AreSure g tables rule marks) where
   -- a rule holds if all items are marked
   pub holds_all : ((x : ℕ) → x < item_count g → get_or marks x false ≡ true) → Holds g tables rule
   holds_all all x column s i l = sure x l (all x l) column s i
 
-  -- one item more that is marked
+  -- if no item before one breaks the rule and it is marked, none of one item more breaks it
   pub marked_more : (x : ℕ) → x < item_count g → get_or marks x false ≡ true
       → ((y : ℕ) (column : Option ℕ) (s : Scenario) → y < x → IsScenario g s → breaks rule g tables s y column ≡ false)
       → (y : ℕ) (column : Option ℕ) (s : Scenario) → y < x + 1 → IsScenario g s →

@@ -19,6 +19,7 @@ use Rattle.cpg_table.proofs.Settings.{second_false}
 use Rattle.cpg_violation.specs.Sure.{IsSure}
 use Rattle.cpg_violation.specs.Violation.{AllHold, Holds, row_rules}
 
+-- a scenario, and an item
 module _ (g : Graph) (tables : List NodeTable) (s : Scenario) (law : IsScenario g s) (x : ℕ)
     (l : x < item_count g) where
   -- a rule that is sure, at a column that matches
@@ -32,14 +33,14 @@ module _ (g : Graph) (tables : List NodeTable) (s : Scenario) (law : IsScenario 
       (drop_more (columns_of tables x) i d h)) ∙ sure (Some i) s law in
       second_false _ _ m (or_parts _ _ here).0
 
-  -- one that holds
+  -- a column that matches doesn't break a rule that holds
   pub at_rule : (rule : Rule) → Holds g tables rule → (i : ℕ) (d : Column) → i < length (columns_of tables x) →
       matches (get_or (columns_of tables x) i d).cube s ≡ true
       → breaks_rule rule g tables s x (take i (columns_of tables x)) (get_or (columns_of tables x) i d) ≡ false
   at_rule rule holds i d h m = sure_rule rule (λ column t lawful. holds x column t lawful l) i d h m
 
   module _ (rules : AllHold g tables row_rules) where
-    -- its item is active
+    -- the item of a column that matches is active
     pub active_where : (d : Column) → Contains (columns_of tables x) d → matches d.cube s ≡ true →
         item_active g s.values (item_at g x) ≡ true
     active_where d k m = not-false _
@@ -57,7 +58,7 @@ module _ (g : Graph) (tables : List NodeTable) (s : Scenario) (law : IsScenario 
         (sym (ap (λ (c : Column). list_any (λ (l : Literal). not (active g s.values (process_of_variable g l.variable)))
         c.cube) k.2) ∙ none) c)
 
-    -- an active item has one
+    -- an active item has a column that matches
     pub match_where : item_active g s.values (item_at g x) ≡ true →
         (d : Column) × Contains (columns_of tables x) d × (matches d.cube s ≡ true)
     match_where a = list_any_parts (λ (d : Column). matches d.cube s) (columns_of tables x)

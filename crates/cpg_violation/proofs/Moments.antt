@@ -14,12 +14,14 @@ use Rattle.cpg_cube.specs.declared.column.Column.{Column}
 use Rattle.cpg_table.specs.Valid.{ends_of, is_by, breaks_inputs_of}
 
 module _ (tables : List NodeTable) where
+  -- the time of a column that matches is a moment of the item
   pub in_at : (x : ℕ) (s : Scenario) (d : Column) → Contains (columns_of tables x) d → matches d.cube s ≡ true →
       Contains (at tables x s) d.time
   in_at x s d h m =
       Contains-map (λ (c : Column). c.time) (filter (λ (c : Column). matches c.cube s) (columns_of tables x)) d
       (Contains-filter (λ (c : Column). matches c.cube s) (columns_of tables x) d m h)
 
+  -- a moment of the item is the time of a column that matches
   pub at_parts : (x : ℕ) (s : Scenario) (time : ℕ) → Contains (at tables x s) time →
       (d : Column) × Contains (columns_of tables x) d × (matches d.cube s ≡ true) × (d.time ≡ time)
   at_parts x s time h =
@@ -29,7 +31,7 @@ module _ (tables : List NodeTable) where
       (r.0, q.0, q.1, r.2)
 
 module _ (g : Graph) (s : Scenario) (x : ℕ) (l : x < item_count g) (send : process_count g ≤ x) where
-  -- for the end of its producer
+  -- a send breaks V5 exactly if its producer hasn't ended
   pub waits : (tables : List NodeTable) (time : ℕ) →
       breaks_inputs_of g tables s time (item_at g x) ≡ not (is_by time (ends_of g tables s (producer g x)))
   waits tables time = elim (item_cases g x l) [
@@ -40,7 +42,7 @@ module _ (g : Graph) (s : Scenario) (x : ℕ) (l : x < item_count g) (send : pro
         ∙ sym (ap (λ i. not (is_by time (ends_of g tables s (producer_of_item g i)))) b.3)
   ]
 
-  -- which is active if the item is
+  -- the producer of an active item is active
   pub made : item_active g s.values (item_at g x) ≡ true → active g s.values (producer g x) ≡ true
   made a = elim (item_cases g x l) [
     | inl start ↦ absurd (omega (arith, start.0))

@@ -1,4 +1,4 @@
--- Which places a cut parts where; and what is found at places among which a column is that passes a test.
+-- To which side a cut parts places; and tests of columns by the places at which they are found.
 use Rattle.std.proofs.Common.{ℕ, ◌+◌, ◌<◌, ◌≤◌, ◌≡◌, Bool, true, false, not, ◌&&◌, cond, List, [], ◌∷◌, ◌++◌, length}
 use Rattle.std.proofs.Common.{get_or, take, Contains, arith, refl, sym, ap, ◌∙◌, subst, ⊎_elim, true≢false}
 use Rattle.std.proofs.Common.{lt-ltb, ltb-true}
@@ -16,6 +16,7 @@ use Rattle.cpg_cube.specs.Column.{column_at}
 use Rattle.cpg_violation.specs.Parted.{Parted, Cut}
 use Rattle.cpg_violation.specs.Sieves.{places_in, Sifts, is_at}
 
+-- a test isn't its own negation
 pub not_itself : (b x : Bool) → x ≡ b → x ≡ not b → ⊥
 not_itself true true e f = true≢false f
 not_itself true false e f = true≢false (sym e)
@@ -29,7 +30,7 @@ pub side_of : (b : Bool) (below above found : List ℕ) (i : ℕ) → (b ≡ tru
 side_of true below above found i h k c = h refl c
 side_of false below above found i h k c = k refl c
 
--- and what is found there
+-- a place on the side to which a scenario comes is found there
 pub side_found : (b : Bool) (below above : List ℕ) (i : ℕ) → (b ≡ true → Contains below i) →
     (b ≡ false → Contains above i) →
     Contains (cond b below above) i
@@ -42,13 +43,16 @@ module _ (columns : List Column) (v most : ℕ) (below : Bool) (places kept : Li
   KeepsFirst n kept = (s : Scenario) (i : ℕ) → Contains (take n places) i → i < length columns →
       matches (column_at columns i).cube s ≡ true → nat_le (number_of s v) most ≡ below → Contains kept i
 
+  -- past the last place, all columns that match on the side are kept
   pub keeps_all : length places ≤ k → KeepsFirst k kept
       → (s : Scenario) (i : ℕ) → Contains places i → i < length columns → matches (column_at columns i).cube s ≡ true →
       nat_le (number_of s v) most ≡ below → Contains kept i
   keeps_all past h s i c l m e = h s i (subst (λ xs. Contains xs i) (sym (take_all k places past)) c) l m e
 
+-- the places kept of the first ones on one side of a cut
 module _ (columns : List Column) (v most : ℕ) (below : Bool) (places kept : List ℕ) (k d : ℕ)
     (within : k < length places) where
+  -- with the next place kept, those of one place more are kept
   pub keeps_push : KeepsFirst columns v most below places kept k k kept →
       KeepsFirst columns v most below places kept k (k + 1) (kept ++ get_or places k d ∷ [])
   keeps_push h s i c l m e = ⊎_elim
@@ -58,6 +62,7 @@ module _ (columns : List Column) (v most : ℕ) (below : Bool) (places kept : Li
       (Contains-push_cases (take k places) (get_or places k d) i
       (subst (λ xs. Contains xs i) (take_more places k d within) c))
 
+  -- so they are without it if its column never matches on the side
   pub keeps_skip : ((s : Scenario) → get_or places k d < length columns →
       matches (column_at columns (get_or places k d)).cube s ≡ true → nat_le (number_of s v) most ≡ not below)
       → KeepsFirst columns v most below places kept k k kept →

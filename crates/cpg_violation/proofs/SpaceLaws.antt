@@ -12,6 +12,7 @@ use Rattle.cpg_tree.specs.Space.{HasAtMostFaults, IsInSpace}
 use Rattle.cpg_tree.proofs.OnePath.{scenario_few}
 
 module _ (g : Graph) (k : ℕ) (faults : k ≡ g.faults) (s : Scenario) (law : IsScenario g s) where
+  -- a scenario of the graph has at most the graph's faults
   pub few_of : HasAtMostFaults k s
   few_of = subst (λ k. HasAtMostFaults k s) (sym faults) (scenario_few g s law)
 
@@ -25,7 +26,7 @@ module _ (g : Graph) (k : ℕ) (faults : k ≡ g.faults) (s : Scenario) (law : I
         go (Some space) e none = none-some space (sym e)
         go None e none = both_ways (matches literals s) (none s few_of) (ap (λ c. matches c s) same ∙ m)
 
-    -- and the scenario lies in it
+    -- a scenario that the literals match lies in the space of these
     pub lies_in : (space : Space) → o ≡ Some space →
         IfSome o (λ r. (s : Scenario) → HasAtMostFaults k s → matches literals s ≡ true → IsInSpace r s) →
         IsInSpace space s

@@ -18,6 +18,7 @@ use Rattle.cpg_tree.proofs.Passes.{of_true}
 use Rattle.cpg_violation.specs.Sure.{AreSure, IsSure}
 use Rattle.cpg_violation.proofs.Tests.{off_where}
 
+-- a fact that follows from an order holds if the test of that order passes
 pub on_le : {P : Type 0} (a b : ℕ) → (a ≤ b → P) → OnTrue (nat_le a b) P
 on_le {P} a b f = OnTrue_from (nat_le a b) P (λ e. f (leb-true a b e))
 
@@ -33,7 +34,7 @@ module _ (g : Graph) (tables : List NodeTable) (rule : Rule) (x : ℕ) where
       (λ c k. off_where (matches c.cube s) (breaks_rule rule g tables s x (take i (columns_of tables x)) c)
       (λ m. each s c (take i (columns_of tables x)) law k m))
 
--- no item is marked
+-- without marks, no rule is said to be sure
 pub none_sure : (g : Graph) (tables : List NodeTable) (rule : Rule) → AreSure g tables rule []
 none_sure g tables rule x l e = absurd (both_ways false refl e)
 
@@ -55,9 +56,11 @@ pub record AreSoFar (g : Graph) (tables : List NodeTable) (rule : Rule) (x : ℕ
   pub long : length marks ≡ x
   pub sure : AreSure g tables rule marks
 
+-- no marks are right for no items
 pub first_none : (g : Graph) (tables : List NodeTable) (rule : Rule) → AreSoFar g tables rule 0 []
 first_none g tables rule = record { long = refl; sure = none_sure g tables rule }
 
+-- a mark for the next item that is set only if the item keeps the rule makes right marks of one item more
 pub one_more : (g : Graph) (tables : List NodeTable) (rule : Rule) (x : ℕ) (marks : List Bool) (b : Bool) →
     AreSoFar g tables rule x marks →
     OnTrue b (IsSure g tables rule x) →
@@ -68,11 +71,12 @@ one_more g tables rule x marks b before here = record {
       (λ z f k. before.sure z k f) b (of_true b here (λ h k. h)) y e l;
 }
 
--- what is so of the elements so far, one more, and all
+-- a fact that holds for the elements so far and for the next one holds for one element more
 pub each_more : {X : Type 0} (P : X → Type 0) (xs : List X) (i : ℕ) (x : X) → i < length xs → x ≡ get_or xs i x →
     All P (take i xs) → P x →
     All P (take (i + 1) xs)
 each_more P xs i x l is before here = All-more P xs i x l before (subst P is here)
 
+-- past the last element, what holds for those so far holds for all
 pub each_all : {X : Type 0} (P : X → Type 0) (xs : List X) (i : ℕ) → length xs ≤ i → All P (take i xs) → All P xs
 each_all P xs i past before = subst (All P) (take_all i xs past) before

@@ -1,7 +1,7 @@
--- Tests of which one is asked beside another.
+-- Two tests, of which one is asked beside the other.
 use Rattle.std.proofs.Common.{◌≡◌, Bool, true, false, not, ◌&&◌, ◌||◌, refl, sym}
 
--- beside one that passes
+-- a test beside one that passes is the test itself
 pub with_true : (m b : Bool) → b ≡ true → m ≡ (m && b)
 with_true true b e = sym e
 with_true false b e = refl
@@ -16,7 +16,7 @@ pub off_where : (m b : Bool) → (m ≡ true → b ≡ false) → (m && b) ≡ f
 off_where true b h = h refl
 off_where false b h = refl
 
--- one of two fails
+-- one of two tests fails exactly if not both pass
 pub not_both : (a b : Bool) → (not a || not b) ≡ not (a && b)
 not_both true b = refl
 not_both false b = refl

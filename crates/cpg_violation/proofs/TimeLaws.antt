@@ -37,12 +37,14 @@ module _ (g : Graph) (tables : List NodeTable) (x : ℕ) where
   loose_sure loose = sure_of g tables Rule.Frozen x refl
       (λ s c earlier law k m. ap (λ b. b && differs_from c.time (find (is_possible g) (columns_of tables x))) loose)
 
+  -- an item whose columns are all at one time keeps V8
   pub frozen_sure : (time : ℕ) → All (λ (c : Column). c.time ≡ time) (columns_of tables x) →
       IsSure g tables Rule.Frozen x
   frozen_sure time all = sure_of g tables Rule.Frozen x refl
       (λ s c earlier law k m. ap (λ b. is_frozen g x && b) (same c k (find (is_possible g) (columns_of tables x)) refl)
       ∙ and-false (is_frozen g x))
     where
+      -- no column differs from the time of the first possible one, as all columns have one time
       same : (c : Column) → Contains (columns_of tables x) c → (o : Option Column) →
           find (is_possible g) (columns_of tables x) ≡ o →
           differs_from c.time o ≡ false
@@ -57,6 +59,7 @@ module _ (g : Graph) (tables : List NodeTable) (x : ℕ) where
   message_sure past = sure_of g tables Rule.Due x refl (λ s c earlier law k m.
       ap (λ b. b && nat_lt (due g x) (c.time + duration g x (fault_of s x))) (le-ltb x (process_count g) past))
 
+  -- a process whose executions end by its due from each column that matches keeps V9
   pub due_sure : All (λ (c : Column). (s : Scenario) → IsScenario g s → matches c.cube s ≡ true →
       c.time + duration g x (fault_of s x) ≤ due g x) (columns_of tables x) →
       IsSure g tables Rule.Due x

@@ -1,4 +1,4 @@
--- Going over the items: what is known of the columns of each, and where the first violation is.
+-- Going over the items: what is known about the columns of each, and where the first violation is.
 use Rattle.std.proofs.Common.{ℕ, ◌+◌, ◌<◌, ◌≡◌, false, List, [], ◌∷◌, Option, Some, None, Contains, All, length, arith}
 use Rattle.std.proofs.Common.{subst, inl, inr}
 use Rattle.std.proofs.lemmas.Bool.{cases_lt}
@@ -23,6 +23,7 @@ use Rattle.cpg_table.proofs.Rows.{variables_exist}
 use Rattle.cpg_violation.specs.Violation.{IsFirstColumn, IsFirstViolation, IsFirstOf}
 
 module _ {g : Graph} {order : List ℕ} {guards : Guards} (admitted : IsAdmitted g order guards) where
+  -- the order has as many processes as the graph
   pub long_order : length order ≡ process_count g
   long_order = length_order (process_count g) order admitted.urgency.all
 
@@ -65,7 +66,7 @@ module _ (rule : Rule) (g : Graph) (tables : List NodeTable) (x : ℕ)
     columns = λ i t h k. first.columns i t h k;
   }
 
--- what is first of some rules breaks one of them
+-- a first violation of some rules breaks one of them
 pub first_broken : (g : Graph) (order : List ℕ) (tables : List NodeTable) (f : Fault) (rules : List Rule) →
     IsFirstOf g order tables rules f →
     (rule : Rule) × IsFirstViolation g order tables rule f

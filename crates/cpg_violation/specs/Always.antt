@@ -12,10 +12,10 @@ IsAlways g p = (s : Scenario) → IsScenario g s → active g s.values p ≡ tru
 abbrev pub AreAlways : Graph → List Bool → Type 0
 AreAlways g marks = (p : ℕ) → p < process_count g → get_or marks p false ≡ true → IsAlways g p
 
--- all processes are
+-- all processes are active in every scenario
 abbrev pub AllAlways : Graph → Type 0
 AllAlways g = (p : ℕ) → p < process_count g → IsAlways g p
 
--- an item is
+-- an item is active in every scenario
 abbrev pub IsUnconditional : Graph → ℕ → Type 0
 IsUnconditional g x = (s : Scenario) → IsScenario g s → item_active g s.values (item_at g x) ≡ true

@@ -40,6 +40,7 @@ pub record HasOtherEdges (g : Graph) (h : Head) : Type 0 where
   pub processes : AreProcessesOf g h
   pub edges : h.edges ≢ (head_of g).edges
 
+-- the part is the first in which the head differs from the graph's
 abbrev pub IsFirstDifference : Graph → Head → HeadPart → Type 0
 IsFirstDifference g h Faults = HasOtherFaults g h
 IsFirstDifference g h Nodes = HasOtherNodes g h

@@ -16,13 +16,13 @@ IsSure g tables rule x = (column : Option ℕ) (s : Scenario) → IsScenario g s
 abbrev pub AreSure : Graph → List NodeTable → Rule → List Bool → Type 0
 AreSure g tables rule marks = (x : ℕ) → x < item_count g → get_or marks x false ≡ true → IsSure g tables rule x
 
--- the marks of V1 to V3
+-- the marks of V1 to V3 are set only at items at which the rules are sure
 pub record AreRowMarks (g : Graph) (tables : List NodeTable) (marks : RowMarks) : Type 0 where
   pub activity : AreSure g tables Rule.Activity marks.activity.items
   pub single : AreSure g tables Rule.Single marks.single.items
   pub present : AreSure g tables Rule.Present marks.present.items
 
--- the marks of V4 to V9
+-- the marks of V4 to V9 are set only at items at which the rules are sure
 pub record AreTimeMarks (g : Graph) (tables : List NodeTable) (marks : TimeMarks) : Type 0 where
   pub heard : AreSure g tables Rule.Heard marks.heard.items
   pub inputs : AreSure g tables Rule.Inputs marks.inputs.items

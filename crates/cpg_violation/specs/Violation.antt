@@ -15,7 +15,7 @@ abbrev pub Holds : Graph → List NodeTable → Rule → Type 0
 Holds g tables rule = (x : ℕ) (column : Option ℕ) (s : Scenario) → IsScenario g s → x < item_count g →
     breaks rule g tables s x column ≡ false
 
--- the first column that some scenario speaks against, with the least such scenario
+-- the first column for which some scenario passes a test, with the least such scenario
 pub record IsFirstColumn (g : Graph) (order : List ℕ) (test : ℕ → Scenario → Bool) (found : ℕ × Scenario) : Type 0 where
   pub least : IsLeast g order (λ s. IsTrue (test found.0 s)) found.1
   pub columns : (i : ℕ) (s : Scenario) → i < found.0 → IsScenario g s → test i s ≡ false

@@ -15,7 +15,7 @@ use cpg_cube::{Cube, Literal};
 use cpg_rules::{Admitted, GuardTop, GuardTree};
 use std::alloc::Global;
 
-/// The literal that a condition has a value.
+/// The literal which says that a condition has a value.
 pub fn value_literal(condition: u32, value: bool) -> Literal
     requires { condition < MOST_CONDITIONS }
     ensures { result ≡ value_literal condition value }
@@ -47,6 +47,7 @@ fn least_where(
     ensures { IfOk result (IsFirst admitted.now.graph admitted.now.order (λ s.
         holds s literal && (is_left (map (λ b. b.now) by.now) cube.now s && comes_to tree.now wanted s))) }
 {
+    // no scenario of the cube has this value of the condition
     let Some(part) = cube.with(literal)? else {
         return Ok(None);
     };
@@ -75,6 +76,7 @@ pub fn least_at(
     let order = admitted.order();
     match tree.top() {
         GuardTop::Leaf(activation) => {
+            // the whole cube comes to the other outcome
             if activation.is_active() != wanted {
                 return Ok(None);
             }
@@ -82,6 +84,7 @@ pub fn least_at(
             Ok(found)
         }
         GuardTop::Test { condition, no, yes } => {
+            // the least scenario of each side, and of the two the one that is earlier in the order
             let off = value_literal(condition, false);
             let on = value_literal(condition, true);
             let first = least_where(alloc, admitted, no, wanted, cube, off, by)?;

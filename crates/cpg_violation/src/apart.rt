@@ -14,18 +14,21 @@ fn touch(first: &Literal, second: &Literal) -> bool
     first.low <= second.high && second.low <= first.high
 }
 
-/// Whether a scenario may match two lists of literals, both by rising variables: not if they ask for other numbers of a
+/// Whether a scenario may match two lists of literals, both by rising variables: not if they ask for different numbers of a
 /// variable.
 pub(crate) fn may_meet(first: &[Literal], second: &[Literal]) -> bool
     ensures { OnFalse result ((s : Scenario) → (matches first.now s && matches second.now s) ≡ false) }
 {
+    // once a list has ended, no variable is left that both ask for
     let (Some((one, rest)), Some((other, others))) = (first.split_first(), second.split_first())
     else {
         return true;
     };
+    // the variables rise, so the second list doesn't ask for this one
     if one.variable < other.variable {
         return may_meet(rest, second);
     }
+    // the first list doesn't ask for this one
     if one.variable > other.variable {
         return may_meet(first, others);
     }

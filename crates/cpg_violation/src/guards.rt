@@ -1,4 +1,4 @@
-//! Whether processes and items are active in all scenarios of a space, or in none, as quick tests ask it: what a yes says is so,
+//! Whether processes and items are active in all scenarios of a space, or in none, as quick tests ask it: a yes is sure,
 //! and a no says nothing.
 ghost use Rattle.std.specs.Prelude.{◌≡◌, ◌≤◌, ◌<◌, ℕ, IfOk, false, true};
 ghost use Rattle.std.specs.Bool.{OnTrue};
@@ -59,7 +59,8 @@ pub fn is_running(admitted: &Admitted, process: u32, space: &Space) -> bool
     is_never(admitted.guards().guard_of(process), false, space)
 }
 
-/// Which processes are known to be active in every scenario: what isn't marked may be. The one error is `OutOfMemory`.
+/// Which processes are known to be active in every scenario. A process that isn't marked may be, too. The one error is
+/// `OutOfMemory`.
 pub fn always_active(alloc: Global, admitted: &Admitted) -> Result<Vec<bool>, OutOfMemory>
     ensures { IfOk result (λ marks. AreAlways admitted.now.graph marks.items) }
 {

@@ -8,7 +8,7 @@ use cpg_base::{OutOfMemory, Problem, Process, are_same_names};
 use cpg_head::{Extra, Head, HeadProcess, head_of};
 use std::alloc::Global;
 
-/// A part of a pack's head. The first that differs from the graph's is told.
+/// A part of a pack's head. The first that differs from the graph's is reported.
 #[derive(Clone, Copy, Debug, PartialEq, Eq)]
 pub enum HeadPart {
     /// The number of faults.
@@ -21,6 +21,7 @@ pub enum HeadPart {
     Edges,
 }
 
+/// Whether two processes of heads are the same.
 fn is_same_process(process: &HeadProcess, other: &HeadProcess) -> bool
     ensures { IsTrue result ↔ (process.now ≡ other.now) }
 {
@@ -36,6 +37,7 @@ fn is_same_process(process: &HeadProcess, other: &HeadProcess) -> bool
     process.times.times() == other.times.times()
 }
 
+/// Whether two lists of processes of heads are the same.
 fn are_same_processes(processes: &[HeadProcess], others: &[HeadProcess]) -> bool
     ensures { IsTrue result ↔ (processes.now ≡ others.now) }
 {
@@ -50,12 +52,14 @@ fn are_same_processes(processes: &[HeadProcess], others: &[HeadProcess]) -> bool
     true
 }
 
+/// Whether two edges have the same ends.
 fn is_same_edge(edge: (u32, u32), other: (u32, u32)) -> bool
     ensures { IsTrue result ↔ (edge ≡ other) }
 {
     edge.0 == other.0 && edge.1 == other.1
 }
 
+/// Whether two lists of edges have the same ends.
 fn are_same_edges(edges: &[(u32, u32)], others: &[(u32, u32)]) -> bool
     ensures { IsTrue result ↔ (edges.now ≡ others.now) }
 {
@@ -70,13 +74,14 @@ fn are_same_edges(edges: &[(u32, u32)], others: &[(u32, u32)]) -> bool
     true
 }
 
+/// Whether the release and the deadline that version 2 adds are those of a process.
 fn is_same_extra(extra: &Extra, process: &Process) -> bool
     ensures { IsTrue result ↔ (extra.now ≡ extra_of process.now) }
 {
     extra.release == process.release && extra.deadline == process.deadline
 }
 
-/// Whether what version 2 says of the processes, if the head says it, is so.
+/// Whether the head says of the processes what the graph does in the parts that version 2 adds, if it has them.
 fn are_same_extras(problem: &Problem, head: &Head) -> bool
     requires { length head.now.processes ≡ process_count problem.now }
     ensures { IsTrue result ↔ IfSome head.now.extras (λ extras. extras ≡ map extra_of problem.now.processes) }
@@ -85,6 +90,7 @@ fn are_same_extras(problem: &Problem, head: &Head) -> bool
     // for `within`: if the head says more of the processes, it does of each
     let _described = head.processes();
     for process in 0..processes.len() {
+        // a head of version 1 says nothing more of the processes
         let Some(extra) = head.extra(process as u32) else {
             return true;
         };

@@ -87,6 +87,7 @@ impl SievedLine<'_> {
         requires { length columns.now ≤ MOST_LOAD }
         ensures { IfOk result (λ _. IsLine columns.now self.old → IsLine columns.now self.new) }
     {
+        // sifted by an earlier call
         if self.is_sifted {
             return Ok(());
         }
@@ -96,7 +97,7 @@ impl SievedLine<'_> {
     }
 }
 
-/// Sifts the columns of an item, if there is a line of it. It is to be done before the line is asked, which is slow otherwise.
+/// Sifts the columns of an item, if there is a line of it. Without this, asking the line is slow.
 pub fn sift(
     alloc: Global,
     tables: &Tables,
@@ -105,6 +106,7 @@ pub fn sift(
 ) -> Result<(), OutOfMemory>
     ensures { IfOk result (λ _. (items : ℕ) → AreLines tables.now.nodes items lines.old → AreLines tables.now.nodes items lines.new) }
 {
+    // there is no line of this item
     if item as usize >= lines.len() {
         return Ok(());
     }

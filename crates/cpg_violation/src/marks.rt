@@ -1,4 +1,4 @@
-//! Items that are marked since a rule is known to hold at them. They are left out when its first violation is looked for.
+//! Items that are marked because a rule is known to hold at them. They are left out when its first violation is looked for.
 ghost use Rattle.std.specs.Prelude.{◌≡◌, ◌<◌, ◌∷◌, ℕ, List, false, get_or, true};
 ghost use Rattle.std.specs.Bool.{OnTrue};
 ghost use Rattle.cpg_base.specs.Graph.{Graph, item_count};

@@ -22,6 +22,7 @@ fn ends_in_time(problem: &Problem, process: u32, column: &Column) -> bool
     ensures { OnTrue result ((s : Scenario) → IsScenario problem.now s → matches column.now.cube s ≡ true →
         column.now.time + duration problem.now process (fault_of s process) ≤ due problem.now process) }
 {
+    // a column that matches no scenario starts nothing
     let Some(space) = Space::of(problem.faults(), column.cube.literals()) else {
         return true;
     };
@@ -56,13 +57,14 @@ fn is_sure(problem: &Problem, tables: &Tables, item: u32) -> bool
     requires { item < item_count problem.now }
     ensures { OnTrue result (IsSure problem.now tables.now.nodes Rule.Due item) }
 {
+    // messages and broadcasts have no due
     if item as usize >= problem.processes().len() {
         return true;
     }
     all_end_in_time(problem, item, tables.columns_of(item))
 }
 
-/// Items whose executions all end by their dues; one that isn't marked may be one. The one error is `OutOfMemory`.
+/// Items whose executions all end by their dues. An item that isn't marked may be one, too. The one error is `OutOfMemory`.
 pub fn due_marks(
     alloc: Global,
     admitted: &Admitted,

@@ -38,7 +38,7 @@ fn is_sure(problem: &Problem, tables: &Tables, item: u32) -> bool
     is_one_time(tables.columns_of(item))
 }
 
-/// Items that aren't frozen, or have one time; one that isn't marked may be one. The one error is `OutOfMemory`.
+/// Items that aren't frozen, or have one time. An item that isn't marked may be one, too. The one error is `OutOfMemory`.
 pub fn frozen_marks(
     alloc: Global,
     admitted: &Admitted,

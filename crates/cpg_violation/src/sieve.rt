@@ -66,6 +66,7 @@ impl Model for Sieve {
 fn lets(literal: &Literal, variable: u8, most: u8, below: bool) -> bool
     ensures { OnFalse result ((s : Scenario) → holds s literal.now ≡ true → nat_le (number_of s variable) most ≡ not below) }
 {
+    // the literal says nothing of this variable
     if literal.variable != variable {
         return true;
     }
@@ -80,6 +81,7 @@ fn goes(cube: &Cube, variable: u8, most: u8, below: bool) -> bool
     ensures { OnFalse result ((s : Scenario) → matches cube.now s ≡ true → nat_le (number_of s variable) most ≡ not below) }
 {
     for literal in cube.literals() {
+        // the variables rise, so no later literal is on this one
         if literal.variable > variable {
             return true;
         }
@@ -121,12 +123,15 @@ struct Cut {
 
 /// Whether a cut parts `all` places, with few on both sides, if `below` of them go below it and `above` of them above it.
 fn is_parted(all: usize, below: usize, above: usize) -> bool {
+    // all go below, so the cut parts nothing
     if below >= all {
         return false;
     }
+    // all go above, so the cut parts nothing
     if above >= all {
         return false;
     }
+    // those that go below alone and those that go above alone; the rest of those below go both ways
     let low = all - above;
     let high = all - below;
     let both = below.saturating_sub(low);
@@ -149,6 +154,7 @@ fn cut_at(columns: &[Column], places: &[u32], literal: &Literal) -> Option<Cut> 
     if parts(columns, places, cut) {
         return Some(cut);
     }
+    // no number is below the literal
     if literal.low == 0 {
         return None;
     }
@@ -186,12 +192,13 @@ fn sample_of(alloc: Global, places: &[u32]) -> Result<Vec<u32>, OutOfMemory> {
     Ok(sample)
 }
 
-/// Where some of these places say to part them: it takes little time, and mostly there is such a cut.
+/// Where some of these places say to part them. This takes little time, and mostly there is such a cut.
 fn sampled_cut(
     alloc: Global,
     columns: &[Column],
     places: &[u32],
 ) -> Result<Option<Cut>, OutOfMemory> {
+    // the column in the middle gives the cuts to try
     let Some(place) = places.get(places.len() / 2) else {
         return Ok(None);
     };
@@ -226,6 +233,7 @@ fn clear_all(columns: &[Column], places: &[u32], tally: &mut Tally) {
 
 /// The cut that parts these places best, by all their columns' literals.
 fn tallied_cut(columns: &[Column], places: &[u32], tally: &mut Tally) -> Option<Cut> {
+    // the counts are raised for these columns alone, and taken away again, so that the tally can be used once more
     let count = u32::try_from(places.len()).ok()?;
     count_all(columns, places, tally);
     let found = tally.best(count);
@@ -282,7 +290,7 @@ fn sides_at(
     Ok(Some(SieveSides { cut, low, high }))
 }
 
-/// The sides of the cut that some of these places say, if it parts all of them with few on both sides.
+/// The sides of the cut that some of these places give, if it parts all of them with few on both sides.
 fn sampled_sides(
     alloc: Global,
     columns: &[Column],
@@ -323,10 +331,12 @@ fn sides_of(
 ) -> Result<Option<SieveSides>, OutOfMemory>
     ensures { IfOk result (λ r. IfSome r (ArePartsOf columns.now places.now)) }
 {
+    // few places are looked at one by one
     if places.len() <= FEW {
         return Ok(None);
     }
     let sampled = sampled_sides(alloc, columns, places)?;
+    // a sample has given a cut that parts all places well enough
     if sampled.is_some() {
         return Ok(sampled);
     }
@@ -344,6 +354,7 @@ fn sifted(
 ) -> Result<Sieve, OutOfMemory>
     ensures { IfOk result (Sifts columns.now places.items) }
 {
+    // the places are parted often enough
     if depth == 0 {
         return Ok(Sieve {
             node: SieveNode::Leaf(places),
@@ -446,6 +457,7 @@ impl Sieve {
         ensures all { IfOk result (λ _. (s : Scenario) (i : ℕ) → matches cube.now s ≡ true →
             nat_le (number_of s cut.variable) cut.most ≡ below → Contains (places_in self.now s) i → Contains found.new.items i) }
     {
+        // the cube has no scenario on this side
         if !goes(cube, cut.variable, cut.most, below) {
             return Ok(());
         }
@@ -481,7 +493,7 @@ impl Sieve {
         }
     }
 
-    /// The places of a row's columns, among which is each that matches some scenario together with a cube. Some may
+    /// Places of a row's columns: each column that matches some scenario together with a cube is among them. Some may
     /// stand there that don't, as the faults don't suffice, and some twice.
     pub fn candidates(
         &self,

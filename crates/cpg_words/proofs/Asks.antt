@@ -28,10 +28,12 @@ use Rattle.cpg_words.proofs.Splitting.{AllTexts}
 use Rattle.cpg_words.proofs.Walking.{Fails}
 use Rattle.cpg_words.proofs.WholeLine.{line_reads, forms_refuse}
 
+-- the bytes of strings are texts
 pub all_texts : {Z : Type 0} (ws : List (String Z)) → AllTexts (map string_bytes ws)
 all_texts [] = tt
 all_texts (w ∷ ws) = (IsUtf8-string_bytes w, all_texts ws)
 
+-- if `clap` takes the words, they ask for the command that its matches ask for
 pub ok_asks : (app : App) (words : List Text) (m : ArgMatches) → app ≡ line_app → AllTexts words
     → (is_simple_and_free app ≡ true → fault_of app words ≡ []) → HasMatchesOf app words m →
     command_of words ≡ command_at (subcommand_rows_of m)
@@ -42,6 +44,7 @@ ok_asks app words m is text faults found = elim (line_reads forms forms_refuse w
       absurd (subst Fails (sym (ap (λ (x : App). fault_of x words) is) ∙ faults (ap is_simple_and_free is)) r.fails)
 ]
 
+-- if `clap` refuses the words, and memory doesn't run out, they ask for no command
 pub bad_asks : (app : App) (words : List Text) (e : Error) → app ≡ line_app → AllTexts words
     → (is_simple_and_free app ≡ true → HasKind (fault_of app words) e) → kind_of e ≢ OutOfMemory →
     command_of words ≡ None
@@ -56,6 +59,7 @@ bad_asks app words e is text faults other = elim (line_reads forms forms_refuse 
 
 -- ---- the getters of the matches
 
+-- the values that the code gets of an argument are those among the rows
 pub values_got : (f : Found) (id : Text) (o : Option (Bor (List (Bor Text)))) (d got : Bor (List (Bor Text))) →
     got ≡ unwrap_or o d →
     map (λ w. w.now) d.now ≡ []
@@ -66,14 +70,17 @@ values_got f id None d got g e h = ap (λ (b : Bor (List (Bor Text))). map (λ (
 values_got f id (Some s) d got g e h = ap (λ (b : Bor (List (Bor Text))). map (λ (w : Bor Text). w.now) b.now) g
     ∙ ap (λ (x : Option (List Text)). unwrap_or x []) (h ∙ raw_values-rows f id)
 
+-- an answer to a question is one to an equal question
 pub answers_as : (asked now : Option Command) (r : Result Command WordsFault) → asked ≡ now → Answers asked r →
     Answers now r
 answers_as asked now r e a = subst (λ (o : Option Command). Answers o r) e a
 
+-- a command that is answered is the one that is asked for
 pub answered : (asked : Option Command) (r : Result Command WordsFault) → Answers asked r → IfOk r (λ c. asked ≡ Some c)
 answered asked (Ok c) a = a
 answered asked (Err f) a = tt
 
+-- the answer Bad shows that no command is asked for
 pub answered_bad : (asked : Option Command) (r : Result Command WordsFault) → Answers asked r → r ≡ Err Bad →
     asked ≡ None
 answered_bad asked (Ok c) a e = cc
@@ -81,6 +88,7 @@ answered_bad asked (Err Bad) a e = a
 answered_bad asked (Err WordsMemory) a e = cc
 
 module _ {Z : Type 0} where
+  -- a subcommand that was found, with its rows, is what the parse asks for
   pub entered_rows : (sub : Option (Box SubCommand Z)) (name : Text) (rows : List Row) →
       Some name ≡ option_map (λ b. (out-SubCommand (box_value b)).name.now) sub
       → Some rows ≡ option_map (λ p. p.1) (subcommand_rows sub) → subcommand_rows sub ≡ Some (name, rows)

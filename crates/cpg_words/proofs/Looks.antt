@@ -12,6 +12,7 @@ use Rattle.clap.specs.Lexer.{long_of, short_of, name_and_value}
 use Rattle.cpg_words.specs.Parts.{Text, is_option, is_turns, value_in, is_equals}
 use Rattle.cpg_words.specs.Number.{number}
 
+-- how `clap` and the rule see a word: no option, two dashes alone, `--turns`, a strange long option, or a short one
 pub data Look (w : Text) : Type 0 where
   plain : is_option w ≡ false → bytes_eq w (codes "--") ≡ false → long_of w ≡ None → short_of w ≡ None → Look w
   dashes : is_option w ≡ true → bytes_eq w (codes "--") ≡ true → Look w
@@ -63,6 +64,7 @@ other_second : (y : ℕ) (rest : Text) (b : Bool) → (y == 61) ≡ b → (45 ==
 other_second y rest true e h = rw e refl
 other_second y rest false e h = rw (e, take_one (prefix_len (λ x. not (is_equals x)) rest) y rest, h) refl
 
+-- a word that begins with two dashes and goes on is the option `turns` or a strange option; 45 is the dash
 look_long : (x y z : ℕ) (zs : Text) → (x == 45) ≡ true → (y == 45) ≡ true → (b : Bool) →
     bytes_eq (codes "turns") (name_and_value (z ∷ zs)).0 ≡ b
     → Look (x ∷ y ∷ z ∷ zs)
@@ -77,6 +79,7 @@ look_long x y z zs e d false n =
     strange (name_and_value (z ∷ zs)).0 (name_and_value (z ∷ zs)).1 e (rw (e, d) refl)
     (rw (x_is, y_is) (turns_long (z ∷ zs) ∙ n)) (rw (e, d) refl) n
 
+-- a word of two bytes or more is plain, two dashes alone, a long option or a short one; by its first two bytes
 look_two : (x y : ℕ) (rest : Text) (b c : Bool) → (x == 45) ≡ b → (y == 45) ≡ c → IsUtf8 (x ∷ y ∷ rest) →
     Look (x ∷ y ∷ rest)
 look_two x y rest false c e d text = plain e (rw e refl) (rw e refl) (rw e refl)
@@ -90,11 +93,13 @@ look_two x y rest true false e d text =
     ∙ other_second y rest (y == 61) refl (not_minus y d))) (rw (e, d) refl)
     (rw (e, d) refl) flag.1
 
+-- each word has a look: one way in which `clap` and the rule see it
 pub look : (w : Text) → IsUtf8 w → Look w
 look [] text = plain refl refl refl refl
 look (x ∷ []) text = look_one x (x == 45) refl
 look (x ∷ y ∷ rest) text = look_two x y rest (x == 45) (y == 45) refl refl text
 
+-- an option is no number
 pub option_number : (w : Text) → is_option w ≡ true → number w ≡ None
 option_number [] e = cc
 option_number (b ∷ []) e = cc

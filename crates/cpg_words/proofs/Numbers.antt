@@ -10,18 +10,22 @@ use Rattle.std.proofs.lemmas.Str.Parse.{parse_digits, numerals_by_value, tells_a
 use Rattle.std.proofs.lemmas.Bool.Decides.{nat_tests}
 use Rattle.cpg_words.specs.Number.{number}
 
+-- both tests of decimal digits say the same
 pub digits_all : (w : List ℕ) → list_all is_ascii_digit w ≡ all_ascii_digits w
 digits_all [] = refl
 digits_all (b ∷ rest) = ap (λ (t : Bool). is_ascii_digit b && t) (digits_all rest)
 
+-- digits that write a number below 2^64 are taken as this number
 taken : (d : Bool) (n v x : ℕ) → d ≡ true → n ≤ 20 → 0 < n → v < 2 ^ 64 → x ≡ v
     → Some x ≡ (if (d && (nat_lt 0 n && nat_le n 20)) && nat_lt v (2 ^ 64) then Some v else None)
 taken d n v x is few some low e = grind (arith, nat_tests)
 
+-- digits that write no such number are refused
 refused : (d : Bool) (n v : ℕ) → d ≡ true → n ≤ 20 → ((0 < n) × (v < 2 ^ 64) → ⊥)
     → None ≡ (if (d && (nat_lt 0 n && nat_le n 20)) && nat_lt v (2 ^ 64) then Some v else None)
 refused d n v is few h = grind (arith, nat_tests)
 
+-- a text of at most 20 digits is parsed exactly as the rule reads it
 pub number_parsed : {E : Type 0} (w : List ℕ) (r : Result ℕ E) → ParsesUnsigned 64 10 w r → all_ascii_digits w ≡ true →
     length w ≤ 20 →
     result_ok r ≡ number w

@@ -11,10 +11,12 @@ abbrev pub joined : List Pair → Option (List Pair) → Option (List Pair)
 joined ps None = None
 joined ps (Some qs) = Some (ps ++ qs)
 
+-- with no pairs read before, the pairs to come are all pairs
 pub joined-none : (o : Option (List Pair)) → joined [] o ≡ o
 joined-none None = refl
 joined-none (Some qs) = refl
 
+-- one more pair that is read is the first of those to come
 pub joined-more : (ps : List Pair) (n : ℕ) (graph : Text) (o : Option (List Pair))
     → joined (ps ++ record { period = n; graph = graph } ∷ []) o ≡ joined ps (with_pair (Some n) graph o)
 joined-more ps n graph None = refl
@@ -25,12 +27,14 @@ joined-more ps n graph (Some qs) = ap Some (append_assoc ps (record { period = n
 rest_is : (rest : List (Bor Text)) → take (suc (suc (length rest)) - 2) rest ≡ rest
 rest_is rest = let e : suc (suc (length rest)) - 2 ≡ length rest = omega arith in rw e (take-length rest)
 
+-- two words or more are a period, a graph and the words after them
 pub left_is : (left : List (Bor Text)) (d : Bor Text) → 2 ≤ length left
     → texts left ≡ (get_or left 0 d).now ∷ (get_or left 1 d).now ∷ texts (take (length left - 2) (drop 2 left))
 left_is [] d h = absurd (omega arith)
 left_is (a ∷ []) d h = absurd (omega arith)
 left_is (a ∷ b ∷ rest) d h = ap (λ (xs : List (Bor Text)). a.now ∷ b.now ∷ texts xs) (sym (rest_is rest))
 
+-- with one more pair read, all pairs stay the same
 pub pairs_step : (left : List (Bor Text)) (d : Bor Text) (items now : List Pair) (p : Pair)
     (whole : Option (List Pair)) → 2 ≤ length left
     → number (get_or left 0 d).now ≡ Some p.period → p.graph ≡ (get_or left 1 d).now → now ≡ items ++ p ∷ []
@@ -45,6 +49,7 @@ pairs_step left d items now p whole long period graph more so_far =
     ∙ ap (λ (ts : List Text). joined ps (pairs_of ts)) (sym (left_is left d long))
     ∙ so_far
 
+-- one word alone is no pair, so the words aren't pairs
 pub pairs_odd : (left : List (Bor Text)) (ps : List Pair) (whole : Option (List Pair)) → length left < 2 →
     (length left == 0) ≡ false
     → joined ps (pairs_of (texts left)) ≡ whole → whole ≡ None

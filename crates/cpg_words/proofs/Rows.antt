@@ -7,17 +7,20 @@ use Rattle.cpg_words.specs.Parts.{Text}
 use Rattle.cpg_words.specs.Matches.{values_in}
 use Rattle.cpg_words.proofs.Walking.{add}
 
+-- a value added to more rows comes last among the argument's values, if it does so in the rows after the first
 add_here : (id v : Text) (r : Row) (rs : List Row) (b : Bool) → bytes_eq r.id id ≡ b →
     values_in id (add id v rs) ≡ values_in id rs ++ v ∷ []
     → values_in id (add id v (r ∷ rs)) ≡ values_in id (r ∷ rs) ++ v ∷ []
 add_here id v r rs true e h = rw (e, e) refl
 add_here id v r rs false e h = rw (e, e) h
 
+-- a value that is added for an argument comes last among its values
 pub add_same : (id v : Text) (rows : List Row) → bytes_eq id id ≡ true →
     values_in id (add id v rows) ≡ values_in id rows ++ v ∷ []
 add_same id v [] own = rw own refl
 add_same id v (r ∷ rs) own = add_here id v r rs (bytes_eq r.id id) refl (add_same id v rs own)
 
+-- a value added to more rows changes no other argument's values, if it changes none in the rows after the first
 add_past : (id other v : Text) (r : Row) (rs : List Row) (b c : Bool) → bytes_eq r.id id ≡ b → bytes_eq r.id other ≡ c →
     bytes_eq id other ≡ false
     → values_in other (add id v rs) ≡ values_in other rs →
@@ -29,6 +32,7 @@ add_past id other v r rs true c e f off h =
 add_past id other v r rs false true e f off h = rw (e, f) refl
 add_past id other v r rs false false e f off h = rw (e, f) h
 
+-- a value that is added for an argument leaves the values of the others as they are
 pub add_other : (id other v : Text) (rows : List Row) → bytes_eq id other ≡ false →
     values_in other (add id v rows) ≡ values_in other rows
 add_other id other v [] off = rw off refl

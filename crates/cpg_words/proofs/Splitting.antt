@@ -58,6 +58,7 @@ fails_as a b e f = subst Walking.Fails (sym e) f
 
 -- ---- after `--`
 
+-- after `--` no word fails
 trail_fault : (ws : List Text) (last : Walking.Last) (rows : List Row) →
     Walking.fault_from (Walking.at true last rows) ws ≡ []
 unfolding walk_fault
@@ -66,6 +67,7 @@ trail_fault (w ∷ ws) last rows =
     Walking.fault_steps _ _ w ws (Walking.trailing_passes last rows w) (Walking.trailing_step last rows w)
     ∙ trail_fault ws (Walking.after_word w) (Walking.rows_with last rows)
 
+-- after `--` all words are positionals
 trail_words : (ws : List Text) (last : Walking.Last) (rows : List Row)
     → values_in (codes "words") (Walking.rows_from (Walking.at true last rows) ws)
     ≡ values_in (codes "words") (Walking.rows_with last rows) ++ ws
@@ -77,6 +79,7 @@ trail_words (w ∷ ws) last rows =
     ∙ ap (λ (xs : List Text). xs ++ ws) (add_same (codes "words") w start refl)
     ∙ append_assoc (values_in (codes "words") start) (w ∷ []) ws
 
+-- after `--` no value of `--turns` is added
 trail_turns : (ws : List Text) (last : Walking.Last) (rows : List Row)
     → values_in (codes "turns") (Walking.rows_from (Walking.at true last rows) ws)
     ≡ values_in (codes "turns") (Walking.rows_with last rows)
@@ -88,6 +91,7 @@ trail_turns (w ∷ ws) last rows =
 
 -- ---- one more word
 
+-- a positional before the words adds it for `clap` and for the rule alike
 with_word : (w : Text) (fault now : Kinds) (rows rows_now start : List Row) (parts parts_now : Option Parts)
     → now ≡ fault → rows_now ≡ rows → parts_now ≡ with_positional w parts
     → Verdict fault rows (Walking.add (codes "words") w start) parts → Verdict now rows_now start parts_now
@@ -106,6 +110,7 @@ with_word w fault now rows rows_now start parts parts_now f r p (inr t) = inr (r
   refused = ap is_refused p ∙ refused_positional w parts t.refused;
 })
 
+-- a value of `--turns` before the words adds it for `clap` and for the rule alike
 with_turn : (v : Text) (fault now : Kinds) (rows rows_now start : List Row) (parts parts_now : Option Parts)
     → now ≡ fault → rows_now ≡ rows → parts_now ≡ with_turns v parts
     → Verdict fault rows (Walking.add (codes "turns") v start) parts → Verdict now rows_now start parts_now
@@ -124,6 +129,7 @@ with_turn v fault now rows rows_now start parts parts_now f r p (inr t) = inr (r
   refused = ap is_refused p ∙ refused_turns v parts t.refused;
 })
 
+-- equal faults, rows and parts have the same verdict
 same_verdict : (fault now : Kinds) (rows rows_now start : List Row) (parts parts_now : Option Parts)
     → now ≡ fault → rows_now ≡ rows → parts_now ≡ parts → Verdict fault rows start parts →
     Verdict now rows_now start parts_now
@@ -147,6 +153,7 @@ abbrev ReadsValue : List Text → Type 0
 ReadsValue ws = (rows : List Row) → Verdict (Walking.fault_from (Walking.awaiting rows) ws)
     (Walking.rows_from (Walking.awaiting rows) ws) rows (parts_from true ws)
 
+-- with no word left both sides end, with what they have read so far
 read_none : Reads []
 unfolding walk_fault
 read_none last rows = inl (record {
@@ -161,6 +168,7 @@ read_no_value : ReadsValue []
 unfolding walk_fault
 read_no_value rows = inr (record { fails = tt; refused = refl })
 
+-- a word and the words behind it are read as the rule says; by how the word looks
 read_word : (w : Text) (ws : List Text) → Look w → Reads ws → ReadsValue ws → Reads (w ∷ ws)
 read_word w ws (plain o d l s) more value last rows =
     with_word w _ _ _ _ (Walking.rows_with last rows) (parts_from false ws) _
@@ -198,6 +206,7 @@ read_word w ws (short flags c o d t l s f) more value last rows = inr (record {
   refused = rw (d, o, t) refl;
 })
 
+-- the same if the word stands where the value of `turns` is awaited
 read_value : (w : Text) (ws : List Text) → Look w → Reads ws → ReadsValue (w ∷ ws)
 read_value w ws (plain o d l s) more rows = with_turn w _ _ _ _ rows (parts_from false ws) _
     (Walking.fault_steps _ _ w ws (Walking.turn_passes rows w d l s) (Walking.turn_step rows w d l s))
@@ -220,6 +229,7 @@ read_value w ws (short flags c o d t l s f) more rows = inr (record {
   refused = refused_value w (parts_from false ws) (option_number w o);
 })
 
+-- `clap` and the rule take the same words, with the same positionals and values, or both refuse them
 pub reads : (ws : List Text) → AllTexts ws → Reads ws × ReadsValue ws
 reads [] text = (read_none, read_no_value)
 reads (w ∷ ws) text =

@@ -74,22 +74,25 @@ abbrev pub Fails : Kinds → Type 0
 Fails [] = ⊥
 Fails (k ∷ ks) = Unit {0}
 
+-- a value that is pending between two words has no fault at the end
 pub settles : (last : Last) (rows : List Row) → settle_fault level_rules false (held_of last rows) ≡ []
 settles clear rows = refl
 settles (after_word w) rows = refl
 settles (after_turn v) rows = refl
 
+-- a value that is pending at the end goes to the rows
 pub settled_is : (last : Last) (rows : List Row) → (settled level_rules (held_of last rows)).rows ≡ rows_with last rows
 settled_is clear rows = refl
 settled_is (after_word w) rows = refl
 settled_is (after_turn v) rows = refl
 
--- after `--`
+-- after `--` no word is a fault
 pub trailing_passes : (last : Last) (rows : List Row) (w : Text) → fault_at (at true last rows) w ≡ []
 trailing_passes clear rows w = refl
 trailing_passes (after_word v) rows w = refl
 trailing_passes (after_turn v) rows w = refl
 
+-- after `--` each word is a positional
 pub trailing_step : (last : Last) (rows : List Row) (w : Text) →
     step_of (at true last rows) w ≡ at true (after_word w) (rows_with last rows)
 unfolding walked
@@ -97,7 +100,7 @@ trailing_step clear rows w = refl
 trailing_step (after_word v) rows w = refl
 trailing_step (after_turn v) rows w = refl
 
--- a word that is no option
+-- a word that is no option is no fault
 pub plain_passes : (last : Last) (rows : List Row) (w : Text) → bytes_eq w (codes "--") ≡ false → long_of w ≡ None →
     short_of w ≡ None
     → fault_at (at false last rows) w ≡ []
@@ -105,6 +108,7 @@ plain_passes clear rows w d l s = rw (d, l, s) refl
 plain_passes (after_word v) rows w d l s = rw (d, l, s) refl
 plain_passes (after_turn v) rows w d l s = rw (d, l, s) refl
 
+-- a word that is no option is a positional
 pub plain_step : (last : Last) (rows : List Row) (w : Text) → bytes_eq w (codes "--") ≡ false → long_of w ≡ None →
     short_of w ≡ None
     → step_of (at false last rows) w ≡ at false (after_word w) (rows_with last rows)
@@ -113,13 +117,14 @@ plain_step clear rows w d l s = rw (d, l, s) refl
 plain_step (after_word v) rows w d l s = rw (d, l, s) refl
 plain_step (after_turn v) rows w d l s = rw (d, l, s) refl
 
--- `--`
+-- the word `--` is no fault
 pub dashes_passes : (last : Last) (rows : List Row) (w : Text) → bytes_eq w (codes "--") ≡ true →
     fault_at (at false last rows) w ≡ []
 dashes_passes clear rows w d = rw d refl
 dashes_passes (after_word v) rows w d = rw d refl
 dashes_passes (after_turn v) rows w d = rw d refl
 
+-- `--` ends the options
 pub dashes_step : (last : Last) (rows : List Row) (w : Text) → bytes_eq w (codes "--") ≡ true →
     step_of (at false last rows) w ≡ at true last rows
 unfolding walked
@@ -127,7 +132,7 @@ dashes_step clear rows w d = rw d refl
 dashes_step (after_word v) rows w d = rw d refl
 dashes_step (after_turn v) rows w d = rw d refl
 
--- `--turns=VALUE`
+-- `--turns=VALUE` is no fault
 pub value_passes : (last : Last) (rows : List Row) (w name v : Text) → bytes_eq w (codes "--") ≡ false →
     long_of w ≡ Some (name, Some v)
     → bytes_eq (codes "turns") name ≡ true → fault_at (at false last rows) w ≡ []
@@ -135,6 +140,7 @@ value_passes clear rows w name v d l n = rw (d, l, n) refl
 value_passes (after_word x) rows w name v d l n = rw (d, l, n) refl
 value_passes (after_turn x) rows w name v d l n = rw (d, l, n) refl
 
+-- `--turns=VALUE` adds the value
 pub value_step : (last : Last) (rows : List Row) (w name v : Text) → bytes_eq w (codes "--") ≡ false →
     long_of w ≡ Some (name, Some v)
     → bytes_eq (codes "turns") name ≡ true →
@@ -144,7 +150,7 @@ value_step clear rows w name v d l n = rw (d, l, n) refl
 value_step (after_word x) rows w name v d l n = rw (d, l, n) refl
 value_step (after_turn x) rows w name v d l n = rw (d, l, n) refl
 
--- `--turns`
+-- `--turns` is no fault
 pub turns_passes : (last : Last) (rows : List Row) (w name : Text) → bytes_eq w (codes "--") ≡ false →
     long_of w ≡ Some (name, None)
     → bytes_eq (codes "turns") name ≡ true → fault_at (at false last rows) w ≡ []
@@ -152,6 +158,7 @@ turns_passes clear rows w name d l n = rw (d, l, n) refl
 turns_passes (after_word x) rows w name d l n = rw (d, l, n) refl
 turns_passes (after_turn x) rows w name d l n = rw (d, l, n) refl
 
+-- `--turns` waits for its value
 pub turns_step : (last : Last) (rows : List Row) (w name : Text) → bytes_eq w (codes "--") ≡ false →
     long_of w ≡ Some (name, None)
     → bytes_eq (codes "turns") name ≡ true → step_of (at false last rows) w ≡ awaiting (rows_with last rows)
@@ -160,13 +167,14 @@ turns_step clear rows w name d l n = rw (d, l, n) refl
 turns_step (after_word x) rows w name d l n = rw (d, l, n) refl
 turns_step (after_turn x) rows w name d l n = rw (d, l, n) refl
 
--- another option
+-- another option fails
 pub strange_fails : (last : Last) (rows : List Row) (w name : Text) (v : Option Text) → bytes_eq w (codes "--") ≡ false
     → long_of w ≡ Some (name, v) → bytes_eq (codes "turns") name ≡ false → Fails (fault_at (at false last rows) w)
 strange_fails clear rows w name v d l n = rw (d, l, n) tt
 strange_fails (after_word x) rows w name v d l n = rw (d, l, n) tt
 strange_fails (after_turn x) rows w name v d l n = rw (d, l, n) tt
 
+-- a short option fails
 pub short_fails : (last : Last) (rows : List Row) (w flags : Text) (c : ℕ) → bytes_eq w (codes "--") ≡ false →
     long_of w ≡ None
     → short_of w ≡ Some flags → slice_get (chars flags) 0 ≡ Some c → Fails (fault_at (at false last rows) w)
@@ -176,28 +184,32 @@ short_fails clear rows w (y ∷ ys) c d l s f = rw (d, l, s, f) tt
 short_fails (after_word x) rows w (y ∷ ys) c d l s f = rw (d, l, s, f) tt
 short_fails (after_turn x) rows w (y ∷ ys) c d l s f = rw (d, l, s, f) tt
 
--- the value of `--turns`
+-- a value of `--turns` that is no option is no fault
 pub turn_passes : (rows : List Row) (w : Text) → bytes_eq w (codes "--") ≡ false → long_of w ≡ None →
     short_of w ≡ None →
     fault_at (awaiting rows) w ≡ []
 turn_passes rows w d l s = rw (d, l, s) refl
 
+-- the word after `--turns` is its value, if it is no option
 pub turn_step : (rows : List Row) (w : Text) → bytes_eq w (codes "--") ≡ false → long_of w ≡ None → short_of w ≡ None
     → step_of (awaiting rows) w ≡ at false (after_turn w) rows
 unfolding walked
 turn_step rows w d l s = rw (d, l, s) refl
 
+-- another `--turns` in place of the value fails
 pub awaiting_turns : (rows : List Row) (w name : Text) (v : Option Text) → bytes_eq w (codes "--") ≡ false →
     long_of w ≡ Some (name, v)
     → bytes_eq (codes "turns") name ≡ true → Fails (fault_at (awaiting rows) w)
 awaiting_turns rows w name (Some v) d l n = rw (d, l, n) tt
 awaiting_turns rows w name None d l n = rw (d, l, n) tt
 
+-- another option in place of the value of `--turns` fails
 pub awaiting_strange : (rows : List Row) (w name : Text) (v : Option Text) → bytes_eq w (codes "--") ≡ false →
     long_of w ≡ Some (name, v)
     → bytes_eq (codes "turns") name ≡ false → Fails (fault_at (awaiting rows) w)
 awaiting_strange rows w name v d l n = rw (d, l, n) tt
 
+-- a short option in place of the value of `--turns` fails
 pub awaiting_short : (rows : List Row) (w flags : Text) (c : ℕ) → bytes_eq w (codes "--") ≡ false → long_of w ≡ None
     → short_of w ≡ Some flags → slice_get (chars flags) 0 ≡ Some c → Fails (fault_at (awaiting rows) w)
 unfolding flags_fault chars
@@ -206,7 +218,7 @@ awaiting_short rows w (y ∷ ys) c d l s f = rw (d, l, s, f) tt
 
 -- ---- the walk over all words
 
--- the fault of the walk and of what is pending at its end
+-- the fault of the walk, or else of the value that is pending at its end
 abbrev pub fault_from : Walk → List Text → Kinds
 fault_from w ws = or_else (walk_fault (level []) [] w ws) (settle_fault level_rules false (fold step_of w ws).held)
 
@@ -214,25 +226,29 @@ fault_from w ws = or_else (walk_fault (level []) [] w ws) (settle_fault level_ru
 abbrev pub rows_from : Walk → List Text → List Row
 rows_from w ws = (settled level_rules (fold step_of w ws).held).rows
 
+-- the faults of words are those of the first, and then of the others
 pub fault_steps : (w after : Walk) (x : Text) (xs : List Text) → fault_at w x ≡ [] → step_of w x ≡ after →
     fault_from w (x ∷ xs) ≡ fault_from after xs
 unfolding walk_fault
 fault_steps w after x xs f s = ap₂ (λ (k : Kinds) (v : Walk).
     or_else (or_else k (walk_fault (level []) [] v xs)) (settle_fault level_rules false (fold step_of v xs).held)) f s
 
+-- the rows of words are those after the first, and then the others
 pub rows_step : (w after : Walk) (x : Text) (xs : List Text) → step_of w x ≡ after →
     rows_from w (x ∷ xs) ≡ rows_from after xs
 rows_step w after x xs s = ap (λ (v : Walk). rows_from v xs) s
 
+-- if the first of two faults is there, a fault is there
 pub or_else_fails : (a b : Kinds) → Fails a → Fails (or_else a b)
 or_else_fails [] b f = absurd f
 or_else_fails (k ∷ ks) b f = tt
 
+-- if the first word fails, all words fail
 pub fault_stops : (w : Walk) (x : Text) (xs : List Text) → Fails (fault_at w x) → Fails (fault_from w (x ∷ xs))
 unfolding walk_fault
 fault_stops w x xs f = or_else_fails _ _ (or_else_fails _ (walk_fault (level []) [] (step_of w x) xs) f)
 
--- `--` in place of the value of `--turns`
+-- `--` in place of the value of `--turns` fails
 pub awaiting_dashes : (rows : List Row) (w : Text) (xs : List Text) → bytes_eq w (codes "--") ≡ true →
     Fails (fault_from (awaiting rows) (w ∷ xs))
 unfolding walk_fault walked

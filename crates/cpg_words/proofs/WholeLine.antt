@@ -35,6 +35,7 @@ built_top = (built (line_app_of [])).top
 abbrev pub line : List Form → App
 line fs = record { top = record built_top { is_leaf = false }; subs = map Walking.level (form_names fs) }
 
+-- the command line, built by `clap`, is the line of all forms
 pub line_is : built (line_app_of (form_names forms)) ≡ line forms
 line_is = refl
 
@@ -54,6 +55,7 @@ or_else_none : (a : Kinds) → or_else a [] ≡ a
 or_else_none [] = refl
 or_else_none (k ∷ ks) = refl
 
+-- each command's level has the faults of the walk over its words
 level_fault_is : (n : Text) (ws : List Text) →
     level_fault (Walking.level n) [] nothing_held ws false []
     ≡ Walking.fault_from (Walking.at false Walking.clear []) ws
@@ -72,6 +74,7 @@ no_default : (id : Text) (rows : List Row) (b : Bool) → has_row id rows ≡ b 
 no_default id rows true e = rw e refl
 no_default id rows false e = rw e refl
 
+-- each command's level has the rows of the walk over its words
 finished_is : (ws : List Text) →
     finished Walking.level_rules (walk Walking.level_rules [] nothing_held ws).held
     ≡ Walking.rows_from (Walking.at false Walking.clear []) ws
@@ -99,6 +102,7 @@ pub record Unnamed (fs : List Form) (w : Text) : Type 0 where
   pub in_forms : find (λ f. bytes_eq f.0 w) fs ≡ None
   pub in_names : find (answers_to w) (names_in fs) ≡ None
 
+-- with one form more a word is named in both or in neither
 name_here : (f : Form) (fs : List Form) (w : Text) (b : Bool) → bytes_eq f.0 w ≡ b → Named fs w ⊎ Unnamed fs w →
     Named (f ∷ fs) w ⊎ Unnamed (f ∷ fs) w
 name_here f fs w true e rest =
@@ -108,6 +112,7 @@ name_here f fs w false e (inl h) =
     inl (record { form = h.form; in_forms = rw e h.in_forms; in_names = rw e h.in_names; in_line = rw e h.in_line })
 name_here f fs w false e (inr h) = inr (record { in_forms = rw e h.in_forms; in_names = rw e h.in_names })
 
+-- each word is the name of a command in the rule and for `clap` alike, or in neither
 pub named : (fs : List Form) (w : Text) → Named fs w ⊎ Unnamed fs w
 named [] w = inr (record { in_forms = refl; in_names = refl })
 named (f ∷ fs) w = name_here f fs w (bytes_eq f.0 w) refl (named fs w)
@@ -124,20 +129,24 @@ start = walk_from nothing_held
 abbrev entering : Text → List Text → Walk
 entering w ws = record start { stopped = Some (w, ws) }
 
+-- a first word that names a command ends the walk over the top
 first_walked : (fs : List Form) (w : Text) → find (answers_to w) (names_in fs) ≡ Some (w, []) →
     walked [] (names_in fs) start w ≡ entering w []
 unfolding walked
 first_walked fs w e = rw e refl
 
+-- a first word that names a command is no fault
 first_fault : (fs : List Form) (w : Text) → find (answers_to w) (names_in fs) ≡ Some (w, []) →
     turn_fault (line fs).top (names_in fs) start w ≡ []
 first_fault fs w e = rw (e, and_false (bytes_eq w (codes "help"))) refl
 
+-- after a command's name the walk over the top stops, and leaves the other words
 entered_walk : (fs : List Form) (w : Text) (ws : List Text) → find (answers_to w) (names_in fs) ≡ Some (w, [])
     → walk [] (names_in fs) nothing_held (w ∷ ws) ≡ entering w ws
 entered_walk fs w ws e = ap (λ (v : Walk). fold (walked [] (names_in fs)) v ws) (first_walked fs w e)
     ∙ sym (walk_stopped [] (names_in fs) start w [] ws)
 
+-- a command's name and the words after it are no fault of the top
 entered_fault_is : (fs : List Form) (w : Text) (ws : List Text) → find (answers_to w) (names_in fs) ≡ Some (w, [])
     → walk_fault (line fs).top (names_in fs) start (w ∷ ws) ≡ []
 unfolding walk_fault
@@ -151,6 +160,7 @@ line_end fs end before =
     (or_else (defaults_fault (settled [] end.held).rows [])
     (check_fault (line fs).top (finished [] end.held) (is_some (entered (line fs) end.stopped))))))
 
+-- after a command's name, `clap` has the faults of the words after it
 named_fault : (fs : List Form) (w : Text) (ws : List Text) → find (answers_to w) (names_in fs) ≡ Some (w, []) →
     level_at fs w ≡ Some (Walking.level w)
     → built_fault (line fs) nothing_held (w ∷ ws) ≡ Walking.fault_from (Walking.at false Walking.clear []) ws
@@ -160,6 +170,7 @@ named_fault fs w ws n l =
     ∙ rw l (or_else_none (level_fault (Walking.level w) [] nothing_held ws false []))
     ∙ level_fault_is w ws
 
+-- after a command's name, `clap` has the rows of the words after it
 named_rows : (fs : List Form) (w : Text) (ws : List Text) → find (answers_to w) (names_in fs) ≡ Some (w, []) →
     level_at fs w ≡ Some (Walking.level w)
     → entered (line fs) (stop_after [] (names_in fs) (w ∷ ws))
@@ -170,6 +181,7 @@ named_rows fs w ws n l =
 
 -- ---- a first word that names no command
 
+-- a first word that is no command's name fails, if it isn't `--`
 unnamed_turn : (fs : List Form) (w : Text) → find (answers_to w) (names_in fs) ≡ None → Look w
     → Walking.Fails (turn_fault (line fs).top (names_in fs) start w) ⊎ (bytes_eq w (codes "--") ≡ true)
 unfolding flags_fault chars
@@ -180,6 +192,7 @@ unnamed_turn fs w n (strange name v o d t l e) = inl (rw (n, d, l) tt)
 unnamed_turn fs w n (short [] c o d t l s f) = cc
 unnamed_turn fs w n (short (y ∷ ys) c o d t l s f) = inl (rw (n, d, l, s, f) tt)
 
+-- `--` as the first word fails
 unnamed_dashes : (fs : List Form) (w : Text) (ws : List Text) → find (answers_to w) (names_in fs) ≡ None →
     bytes_eq w (codes "--") ≡ true
     → Walking.Fails (built_fault (line fs) nothing_held (w ∷ ws))
@@ -187,6 +200,7 @@ unfolding walk_fault walked defaults_fault
 unnamed_dashes fs w [] n d = rw (n, d) tt
 unnamed_dashes fs w (x ∷ xs) n d = rw (n, d) tt
 
+-- a first word that is no command's name fails
 unnamed_fails : (fs : List Form) (w : Text) (ws : List Text) → IsUtf8 w → find (answers_to w) (names_in fs) ≡ None
     → Walking.Fails (built_fault (line fs) nothing_held (w ∷ ws))
 unfolding walk_fault
@@ -204,6 +218,7 @@ EachRefuses (f ∷ fs) =
     ((ps ts : List Text) → is_refused (Some (record { positionals = ps; turns = ts })) ≡ true → f.1 ps ts ≡ None) ×
     EachRefuses fs
 
+-- if one form refuses the parts and so do the others, all do
 form_refuses : (f : Form) (fs : List Form) (w : Text) (p : Parts) (b : Bool) → bytes_eq f.0 w ≡ b →
     (f.1 p.positionals p.turns ≡ None) →
     command_named fs w p ≡ None
@@ -211,17 +226,20 @@ form_refuses : (f : Form) (fs : List Form) (w : Text) (p : Parts) (b : Bool) →
 form_refuses f fs w p true e h rest = rw e h
 form_refuses f fs w p false e h rest = rw e rest
 
+-- if each form refuses bad values of `--turns`, every command does
 each_refuses : (fs : List Form) → EachRefuses fs → (w : Text) (p : Parts) → is_refused (Some p) ≡ true →
     command_named fs w p ≡ None
 each_refuses [] each w p h = refl
 each_refuses (f ∷ fs) each w p h =
     form_refuses f fs w p (bytes_eq f.0 w) refl (each.0 p.positionals p.turns h) (each_refuses fs each.1 w p h)
 
+-- parts that are refused make no command
 refused_parts : (fs : List Form) → EachRefuses fs → (w : Text) (o : Option Parts) → is_refused o ≡ true →
     option_and_then (command_named fs w) o ≡ None
 refused_parts fs each w None h = refl
 refused_parts fs each w (Some p) h = each_refuses fs each w p h
 
+-- a name that no form has makes no command
 no_form : (fs : List Form) (w : Text) (o : Option Parts) → find (λ f. bytes_eq f.0 w) fs ≡ None →
     option_and_then (command_named fs w) o ≡ None
 no_form fs w None e = refl
@@ -230,10 +248,13 @@ no_form fs w (Some p) e = rw e refl
 pub record Accepted (fs : List Form) (words : List Text) : Type 0 where
   pub name : Text
   pub rest : List Text
+  -- the first word is the command's name
   pub words_are : words ≡ name ∷ rest
+  -- what `clap` enters for the rest, without a fault
   pub rows : List Row
   pub no_fault : built_fault (line fs) nothing_held words ≡ []
   pub entered_is : entered (line fs) (stop_after [] (names_in fs) words) ≡ Some (name, rows)
+  -- the command is the one of this name, by the positionals and the values of `--turns` in these rows
   pub call : command_in fs words ≡ command_named fs name
       (record { positionals = values_in (codes "words") rows; turns = values_in (codes "turns") rows })
 
@@ -241,6 +262,7 @@ pub record Rejected (fs : List Form) (words : List Text) : Type 0 where
   pub fails : Walking.Fails (built_fault (line fs) nothing_held words)
   pub refused : command_in fs words ≡ None
 
+-- words that begin with a command's name are accepted by both, or refused by both
 with_name : (fs : List Form) → EachRefuses fs → (w : Text) (ws : List Text) → Named fs w → AllTexts ws →
     Accepted fs (w ∷ ws) ⊎ Rejected fs (w ∷ ws)
 with_name fs each w ws n text = elim ((reads ws text).0 Walking.clear []) [
@@ -261,6 +283,7 @@ with_name fs each w ws n text = elim ((reads ws text).0 Walking.clear []) [
   })
 ]
 
+-- each list of words is accepted by `clap` and the rule alike, with the same command, or refused by both
 pub line_reads : (fs : List Form) → EachRefuses fs → (words : List Text) → AllTexts words →
     Accepted fs words ⊎ Rejected fs words
 unfolding walk_fault defaults_fault
@@ -276,6 +299,7 @@ not_number : (o : Option ℕ) → (not (is_some o) || false) ≡ true → o ≡ 
 not_number None e = refl
 not_number (Some n) e = cc
 
+-- a form of one word refuses a value of `--turns` that is no number; the forms below do, too
 one_word_refuses : (f : Text → Command) (ps ts : List Text) →
     is_refused (Some (record { positionals = ps; turns = ts })) ≡ true →
     one_word f ps ts ≡ None
@@ -293,6 +317,7 @@ two_words_refuses f (a ∷ []) (t ∷ ts) h = refl
 two_words_refuses f (a ∷ b ∷ []) (t ∷ ts) h = refl
 two_words_refuses f (a ∷ b ∷ c ∷ ps) (t ∷ ts) h = refl
 
+-- a form of three words makes no command of words that are refused; by how many words and values there are
 three_words_refuses : (f : Text → Text → Text → Command) (ps ts : List Text) →
     is_refused (Some (record { positionals = ps; turns = ts })) ≡ true →
     three_words f ps ts ≡ None
@@ -303,6 +328,7 @@ three_words_refuses f (a ∷ b ∷ []) (t ∷ ts) h = refl
 three_words_refuses f (a ∷ b ∷ c ∷ []) (t ∷ ts) h = refl
 three_words_refuses f (a ∷ b ∷ c ∷ d ∷ ps) (t ∷ ts) h = refl
 
+-- `play` makes no command of words that are refused; by how many words and values there are
 play_refuses : (ps ts : List Text) → is_refused (Some (record { positionals = ps; turns = ts })) ≡ true →
     play_of ps ts ≡ None
 play_refuses [] ts h = refl
@@ -325,6 +351,7 @@ hyper_refuses : (ps ts : List Text) → is_refused (Some (record { positionals =
 hyper_refuses ps [] h = cc
 hyper_refuses ps (t ∷ ts) h = refl
 
+-- each form of the command line refuses a value of `--turns` that is no number
 pub forms_refuse : EachRefuses forms
 forms_refuse = (
   one_word_refuses Show,
@@ -358,6 +385,7 @@ other_name : (f : Form) (fs : List Form) (w : Text) (p : Parts) (b : Bool) → b
 other_name f fs w p true e off rest = absurd (off (sym ((bytes_eq-Decides f.0 w).0 e)))
 other_name f fs w p false e off rest = rw e rest
 
+-- a name that is none of the forms' is no command
 pub no_such_form : (fs : List Form) (w : Text) (p : Parts) → NotAmong fs w → command_named fs w p ≡ None
 no_such_form [] w p off = refl
 no_such_form (f ∷ fs) w p off = other_name f fs w p (bytes_eq f.0 w) refl off.0 (no_such_form fs w p off.1)

@@ -1,4 +1,4 @@
--- What an answer says of the words.
+-- What an answer says about the words.
 use Rattle.std.specs.Prelude.{⊤, ◌≡◌, Option, Some, None, Result, Ok, Err}
 use Rattle.cpg_words.specs.declared.command.Command.{Command}
 use Rattle.cpg_words.specs.declared.fault.WordsFault.{WordsFault}

@@ -13,15 +13,17 @@ use Rattle.cpg_words.specs.Parts.{Text, Parts, parts_of}
 abbrev pub Reads : Type 0
 Reads = List Text → List Text → Option Command
 
--- Exactly one, two or three positionals, and no option.
+-- Exactly one positional, and no option.
 abbrev pub one_word : (Text → Command) → Reads
 one_word make (a ∷ []) [] = Some (make a)
 one_word make _ _ = None
 
+-- Exactly two positionals, and no option.
 abbrev pub two_words : (Text → Text → Command) → Reads
 two_words make (a ∷ b ∷ []) [] = Some (make a b)
 two_words make _ _ = None
 
+-- Exactly three positionals, and no option.
 abbrev pub three_words : (Text → Text → Text → Command) → Reads
 three_words make (a ∷ b ∷ c ∷ []) [] = Some (make a b c)
 three_words make _ _ = None
@@ -74,6 +76,7 @@ forms = (codes "show", one_word Show)
     ∷ (codes "audit", three_words Audit)
     ∷ []
 
+-- The command of a form, if there is one.
 abbrev pub in_form : Parts → Option Form → Option Command
 in_form p None = None
 in_form p (Some form) = form.1 p.positionals p.turns

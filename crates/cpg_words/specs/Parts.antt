@@ -18,9 +18,11 @@ pub record Parts : Type 0 where
   pub positionals : List Text
   pub turns : List Text
 
+-- The parts with one more positional in front.
 abbrev pub with_positional : Text → Option Parts → Option Parts
 with_positional w = option_map (λ p. record { positionals = w ∷ p.positionals; turns = p.turns })
 
+-- The parts with one more value of `--turns` in front.
 abbrev pub with_turns : Text → Option Parts → Option Parts
 with_turns v = option_map (λ p. record { positionals = p.positionals; turns = v ∷ p.turns })
 

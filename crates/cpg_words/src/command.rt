@@ -1,11 +1,11 @@
-//! What a command line asks for.
+//! The command that a command line asks for.
 ghost use Rattle.std.specs.Prelude.{◌≡◌, ◌<◌, ◌≤◌, length};
 ghost use Rattle.cpg_words.specs.Forms.{one_to_four};
 
 use crate::word::Word;
 use std::marker::Model;
 
-/// What to do, with the words that say on what.
+/// A command, with the words that it works on.
 #[derive(Debug, Drop)]
 pub enum Command {
     /// `show GRAPH`.
@@ -105,7 +105,7 @@ impl Model for Pairs {
 }
 
 impl Pairs {
-    /// Takes one to four pairs. None exactly if they're fewer or more.
+    /// Takes one to four pairs. `None` exactly if there are fewer or more.
     pub(crate) fn new(pairs: Vec<Pair>) -> Option<Pairs>
         ensures { result ≡ one_to_four pairs.items }
     {

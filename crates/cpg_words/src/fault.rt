@@ -1,12 +1,12 @@
-//! Why no command comes of the words.
+//! Why words make no command.
 
 use std::alloc::{AllocError, AllocFailed};
 use thiserror::Error;
 
-/// Why no command comes of the words.
+/// Why words make no command.
 #[derive(Clone, Copy, Debug, PartialEq, Eq, Error)]
 pub enum WordsFault {
-    /// They have no form of the command line.
+    /// The words have no form of the command line.
     #[error("the words have no form")]
     Bad,
     /// Out of memory.

@@ -1,5 +1,5 @@
 //! The form of each command: from its positionals and the values of `--turns` to the command, and `Bad` if they
-//! aren't just those that it has.
+//! aren't exactly those that it has.
 ghost use Rattle.std.specs.Prelude.{◌≡◌, IfOk, Err, Some, None};
 ghost use Rattle.cpg_words.specs.Answers.{Answers};
 ghost use Rattle.cpg_words.specs.Parts.{texts};
@@ -11,6 +11,7 @@ use crate::number::number;
 use crate::word::Word;
 use std::alloc::Global;
 
+/// `show GRAPH`.
 fn show(alloc: Global, words: &[&str], turns: &[&str]) -> Result<Command, WordsFault>
     ensures { Answers (one_word Command.Show (texts words.now) (texts turns.now)) result }
 {
@@ -22,6 +23,7 @@ fn show(alloc: Global, words: &[&str], turns: &[&str]) -> Result<Command, WordsF
     })
 }
 
+/// `check GRAPH PACK`.
 fn check(alloc: Global, words: &[&str], turns: &[&str]) -> Result<Command, WordsFault>
     ensures { Answers (two_words Command.Check (texts words.now) (texts turns.now)) result }
 {
@@ -34,6 +36,7 @@ fn check(alloc: Global, words: &[&str], turns: &[&str]) -> Result<Command, Words
     })
 }
 
+/// `play GRAPH PACK SCENARIO --turns N`.
 fn play(alloc: Global, words: &[&str], turns: &[&str]) -> Result<Command, WordsFault>
     ensures { Answers (play_of (texts words.now) (texts turns.now)) result }
 {
@@ -51,6 +54,7 @@ fn play(alloc: Global, words: &[&str], turns: &[&str]) -> Result<Command, WordsF
     })
 }
 
+/// `compile GRAPH`.
 fn compile(alloc: Global, words: &[&str], turns: &[&str]) -> Result<Command, WordsFault>
     ensures { Answers (one_word Command.Compile (texts words.now) (texts turns.now)) result }
 {
@@ -62,6 +66,7 @@ fn compile(alloc: Global, words: &[&str], turns: &[&str]) -> Result<Command, Wor
     })
 }
 
+/// `node PACK NAME`.
 fn node(alloc: Global, words: &[&str], turns: &[&str]) -> Result<Command, WordsFault>
     ensures { Answers (two_words Command.Node (texts words.now) (texts turns.now)) result }
 {
@@ -74,6 +79,7 @@ fn node(alloc: Global, words: &[&str], turns: &[&str]) -> Result<Command, WordsF
     })
 }
 
+/// `trial N`.
 fn trial(words: &[&str], turns: &[&str]) -> Result<Command, WordsFault>
     ensures { Answers (trial_of (texts words.now) (texts turns.now)) result }
 {
@@ -86,6 +92,7 @@ fn trial(words: &[&str], turns: &[&str]) -> Result<Command, WordsFault>
     }
 }
 
+/// `live PACK NAME STREAM`.
 fn live(alloc: Global, words: &[&str], turns: &[&str]) -> Result<Command, WordsFault>
     ensures { Answers (three_words Command.Live (texts words.now) (texts turns.now)) result }
 {
@@ -99,6 +106,7 @@ fn live(alloc: Global, words: &[&str], turns: &[&str]) -> Result<Command, WordsF
     })
 }
 
+/// `tune GRAPH`.
 fn tune(alloc: Global, words: &[&str], turns: &[&str]) -> Result<Command, WordsFault>
     ensures { Answers (one_word Command.Tune (texts words.now) (texts turns.now)) result }
 {
@@ -110,6 +118,7 @@ fn tune(alloc: Global, words: &[&str], turns: &[&str]) -> Result<Command, WordsF
     })
 }
 
+/// `audit GRAPH PACK LOG`.
 fn audit(alloc: Global, words: &[&str], turns: &[&str]) -> Result<Command, WordsFault>
     ensures { Answers (three_words Command.Audit (texts words.now) (texts turns.now)) result }
 {
@@ -123,7 +132,7 @@ fn audit(alloc: Global, words: &[&str], turns: &[&str]) -> Result<Command, Words
     })
 }
 
-// The words two by two, each a period and a graph.
+/// The words two by two, each pair a period and a graph.
 fn pairs(alloc: Global, words: &[&str]) -> Result<Vec<Pair>, WordsFault>
     ensures ok { IfOk result (λ pairs. pairs_of (texts words.now) ≡ Some pairs.items) }
     ensures bad { result ≡ Err WordsFault.Bad → pairs_of (texts words.now) ≡ None }
@@ -138,12 +147,14 @@ fn pairs(alloc: Global, words: &[&str]) -> Result<Vec<Pair>, WordsFault>
         pairs.push(Pair { period, graph })?;
         left = rest;
     }
+    // one word is left over, without a graph
     if !left.is_empty() {
         return Err(WordsFault::Bad);
     }
     Ok(pairs)
 }
 
+/// `hyper N GRAPH`, with one to four such pairs.
 fn hyper(alloc: Global, words: &[&str], turns: &[&str]) -> Result<Command, WordsFault>
     ensures { Answers (hyper_of (texts words.now) (texts turns.now)) result }
 {

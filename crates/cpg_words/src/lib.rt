@@ -20,7 +20,7 @@
 //! 2^64; it may begin with zeros. Names aren't shortened, and there is no help and no version. Every other list of
 //! words has no form, and is [`WordsFault::Bad`].
 //!
-//! `clap` reads the words. It's told of one level of subcommands without help and version, and of two arguments for
+//! `clap` reads the words. It knows one level of subcommands without help and version, and two arguments for
 //! each: any number of positionals, and any number of values of `--turns`, all of them texts. So neither its defaults
 //! nor its counts decide anything. It refuses an unknown name, another option, and `--turns` with no next word. It also
 //! refuses `--` or an option in place of the next word; by the rule that word is the value, and it's no N. How many

@@ -1,5 +1,5 @@
-//! The command line as `clap` is told of it. Each command takes any number of positionals and of values of `--turns`,
-//! as texts: which of these it needs is tested after the parse.
+//! The command line as it is described to `clap`. Each command takes any number of positionals and of values of
+//! `--turns`, as texts: which of these it needs is tested after the parse.
 ghost use Rattle.std.specs.Prelude.{◌≡◌, IfOk, false, fold, map};
 ghost use Rattle.clap.specs.Words.{app_of, rule_of};
 ghost use Rattle.clap.specs.declared.builder.command.Command.TheViews.{out-Command};
@@ -8,7 +8,7 @@ ghost use Rattle.cpg_words.specs.Line.{positionals_rule, turns_rule, plain_app, 
 use clap::{Arg, ArgAction, Command};
 use std::alloc::{AllocError, Global};
 
-// All positionals of a command.
+/// The argument for all positionals of a command.
 fn positionals<'a>(alloc: Global) -> Arg<'a>
     ensures rule { rule_of result ≡ positionals_rule }
     ensures local { result.global ≡ false }
@@ -16,7 +16,7 @@ fn positionals<'a>(alloc: Global) -> Arg<'a>
     Arg::new(alloc, "words").action(ArgAction::Append)
 }
 
-// All values of `--turns`.
+/// The argument for all values of `--turns`.
 fn turns<'a>(alloc: Global) -> Arg<'a>
     ensures rule { rule_of result ≡ turns_rule }
     ensures local { result.global ≡ false }
@@ -26,7 +26,7 @@ fn turns<'a>(alloc: Global) -> Arg<'a>
         .action(ArgAction::Append)
 }
 
-// A command without help and version.
+/// A command without help and version.
 fn plain<'a>(alloc: Global, name: &'a str) -> Command<'a>
     ensures app { app_of result ≡ plain_app name.entry.now }
     ensures local { (out-Command result).has_globals ≡ false }
@@ -36,7 +36,7 @@ fn plain<'a>(alloc: Global, name: &'a str) -> Command<'a>
         .disable_version_flag(true)
 }
 
-// The subcommand of this name.
+/// The subcommand of this name.
 fn form<'a>(alloc: Global, name: &'a str) -> Result<Command<'a>, AllocError>
     ensures app { IfOk result (λ c. app_of c ≡ sub_app name.entry.now) }
     ensures local { IfOk result (λ c. (out-Command c).has_globals ≡ false) }
@@ -46,7 +46,7 @@ fn form<'a>(alloc: Global, name: &'a str) -> Result<Command<'a>, AllocError>
     Ok(form)
 }
 
-// The command line before its subcommands. A name has to come first.
+/// The command line before its subcommands. A name must come first.
 fn top<'a>(alloc: Global) -> Command<'a>
     ensures { app_of result ≡ top_app }
 {
@@ -56,7 +56,7 @@ fn top<'a>(alloc: Global) -> Command<'a>
         .subcommand_required(true)
 }
 
-// The line with one more subcommand.
+/// The line with one more subcommand.
 fn with_form<'a>(alloc: Global, line: Command<'a>, name: &'a str) -> Result<Command<'a>, AllocError>
     ensures { IfOk result (λ c. app_of c ≡ with_command (app_of line.entry) name.entry.now) }
 {
@@ -64,7 +64,7 @@ fn with_form<'a>(alloc: Global, line: Command<'a>, name: &'a str) -> Result<Comm
     Ok(more)
 }
 
-// The line with these subcommands more.
+/// The line with these subcommands added.
 fn with_forms<'a>(
     alloc: Global,
     line: Command<'a>,

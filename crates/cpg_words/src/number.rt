@@ -4,9 +4,10 @@ ghost use Rattle.std.specs.List.{list_all};
 ghost use Rattle.std.specs.Char.{is_ascii_digit};
 ghost use Rattle.cpg_words.specs.Number.{number as number_of};
 
-// How many digits a number has at most.
+/// How many digits a number has at most.
 const LONGEST: usize = 20;
 
+/// Whether a text has only decimal digits.
 fn is_digits(text: &str) -> bool
     ensures { result ≡ list_all is_ascii_digit text.now }
 {

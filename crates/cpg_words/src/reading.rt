@@ -14,7 +14,7 @@ use clap::ArgMatches;
 use clap::error::ErrorKind;
 use std::alloc::Global;
 
-// What the subcommand that `clap` found asks for.
+/// The command that the subcommand found by `clap` asks for.
 fn asked(alloc: Global, name: &str, found: &ArgMatches<'_>) -> Result<Command, WordsFault>
     ensures { Answers (command_at (Some (name.now, rows_of (found_of found.now)))) result }
 {
@@ -23,7 +23,7 @@ fn asked(alloc: Global, name: &str, found: &ArgMatches<'_>) -> Result<Command, W
     command(alloc, name, words, turns)
 }
 
-// If `clap` refuses the words, and memory hasn't run out, they have no form.
+/// The fault of a refusal by `clap`: unless memory ran out, the words have no form.
 fn fault_of(kind: ErrorKind) -> WordsFault
     ensures { result ≡ WordsFault.Bad ↔ kind ≢ ErrorKind.OutOfMemory }
 {
@@ -33,7 +33,7 @@ fn fault_of(kind: ErrorKind) -> WordsFault
     }
 }
 
-// What `clap` finds in the words.
+/// What `clap` finds in the words.
 fn matches<'a>(alloc: Global, words: &'a [String]) -> Result<ArgMatches<'a>, WordsFault>
     ensures ok { IfOk result (λ m. command_of (map string_bytes words.entry.now) ≡ command_at (subcommand_rows_of m)) }
     ensures bad { result ≡ Err WordsFault.Bad → command_of (map string_bytes words.entry.now) ≡ None }

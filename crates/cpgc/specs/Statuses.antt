@@ -10,6 +10,8 @@ use Rattle.cpg_outputs.specs.Told.{Sent, sent}
 -- line of the fault was sent to the second
 pub record EndsWithout (fault : WordsFault) (old new : ShelfState) (out out' err err' : SinkState)
     (status : ℕ) : Type 0 where
+  -- nothing was fetched
   pub files : new ≡ old
   pub silent : out' ≡ out
+  -- one line was sent to the second sink: that of the fault, with its status
   pub said : Sent (sent err err') status (status_of (halt_of_words fault)) (line_of (halt_of_words fault))

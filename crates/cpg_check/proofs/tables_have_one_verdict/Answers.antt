@@ -1,5 +1,7 @@
 use Rattle.cpg_check.proofs.OneVerdict.{have_one_verdict}
 use Rattle.cpg_check.proofs.tables_have_one_verdict.Goals as goal
 
+-- Tables have one verdict: one first difference of the head, or one first violation, or neither. `have_one_verdict`
+-- of `OneVerdict` proves this law.
 pub returns : goal.returns
 returns c = have_one_verdict

@@ -1,5 +1,6 @@
 use Rattle.cpg_codec.proofs.Theorems.{one_value}
 use Rattle.cpg_codec.proofs.packs_have_one_value.Goals as goal
 
+-- Tables with the same spelling are equal. `one_value` of `Theorems` proves this law.
 pub returns : goal.returns
 returns c = one_value

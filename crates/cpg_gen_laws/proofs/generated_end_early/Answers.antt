@@ -1,5 +1,6 @@
 use Rattle.cpg_gen_laws.proofs.Timely.{ends_early}
 use Rattle.cpg_gen_laws.proofs.generated_end_early.Goals as goal
 
+-- no process ends later than 19,720, by proofs/Timely.antt
 pub returns : goal.returns
 returns c = ends_early

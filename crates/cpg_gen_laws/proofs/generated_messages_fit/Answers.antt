@@ -1,5 +1,6 @@
 use Rattle.cpg_gen_laws.proofs.Kept.{all_fit}
 use Rattle.cpg_gen_laws.proofs.generated_messages_fit.Goals as goal
 
+-- each message fits into its sender's slot, by proofs/Kept.antt
 pub returns : goal.returns
 returns c = all_fit

@@ -1,5 +1,7 @@
 use Rattle.cpg_given_laws.proofs.Read.{orders_are_read}
 use Rattle.cpg_given_laws.proofs.given_orders_are_read.Goals as goal
 
+-- A file whose document differs only at the key `order` says the same graph with that order. `orders_are_read` of
+-- `Read` proves this law.
 pub returns : goal.returns
 returns c = orders_are_read

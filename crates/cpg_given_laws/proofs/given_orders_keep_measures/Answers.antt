@@ -1,5 +1,7 @@
 use Rattle.cpg_given_laws.proofs.Kept.{same_measures}
 use Rattle.cpg_given_laws.proofs.given_orders_keep_measures.Goals as goal
 
+-- The greatest excess and finish under an order don't depend on the order that the graph gives. `same_measures` of
+-- `Kept` proves this law.
 pub returns : goal.returns
 returns c = same_measures

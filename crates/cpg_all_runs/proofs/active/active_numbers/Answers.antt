@@ -5,6 +5,7 @@ use Rattle.cpg_all_runs.specs.Active.{active_fault, active_value}
 use Rattle.cpg_all_runs.proofs.Placed.{map_below_after}
 use Rattle.cpg_all_runs.proofs.active.active_numbers.Goals as goal
 
+-- the number of one more condition is added behind those of the processes
 pub loop-condition-preserved : goal.loop-condition-preserved
 loop-condition-preserved c =
     let g = c.args.problem.now in

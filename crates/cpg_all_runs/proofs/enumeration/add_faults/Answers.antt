@@ -3,6 +3,7 @@ use Rattle.cpg_all_runs.specs.Listing.{with_fault}
 use Rattle.cpg_all_runs.proofs.Listed.{appended_push}
 use Rattle.cpg_all_runs.proofs.enumeration.add_faults.Goals as goal
 
+-- the scenario with one more count is added
 pub loop-faults-preserved : goal.loop-faults-preserved
 loop-faults-preserved c =
     appended_push (with_fault c.args.process c.args.scenario.now) c.args.scenarios.now.items

@@ -3,9 +3,11 @@ use Rattle.cpg_all_runs.specs.Listing.{HasValue, AreScenarios, with_values_below
 use Rattle.cpg_all_runs.proofs.Listed.{values_first, values_more, all_within, are_scenarios}
 use Rattle.cpg_all_runs.proofs.enumeration.scenarios.Goals as goal
 
+-- before the loop the list has the scenarios with each value false
 pub loop-condition-init : goal.loop-condition-init
 loop-condition-init c = c.in_ok-list.ensures ∙ values_first c.args.problem.now
 
+-- each scenario of the list has a value of the condition
 pub spread_values-requires : goal.spread_values-requires
 spread_values-requires c = record {
   scenarios =
@@ -14,11 +16,13 @@ spread_values-requires c = record {
       (omega (arith, c.loop-condition-test.true, c.conditions-condition-end.ensures.count)));
 }
 
+-- each scenario with both values of one more condition gives the next list
 pub loop-condition-preserved : goal.loop-condition-preserved
 loop-condition-preserved c =
     values_more c.args.problem.now c.loop-condition.condition c.as_slice.result.now c.in_ok-list-2.list.items
     (c.as_slice.ensures.value ∙ c.loop-condition.invariant) c.in_ok-list-2.ensures
 
+-- with the values of all conditions, the list has each scenario of the graph once
 pub returns : goal.returns
 returns c =
     let e = c.loop-condition.auto.condition-end in

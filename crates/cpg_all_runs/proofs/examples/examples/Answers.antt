@@ -5,6 +5,7 @@ use Rattle.cpg_all_runs.proofs.Showing.{examples_more, examples_kept, examples_a
 use Rattle.cpg_all_runs.proofs.examples.examples.Goals as goal
 use Rattle.cpg_all_runs.proofs.examples.examples.Goals.{then-firsts-at+in_ok-copy+in_ok-push, else-firsts-at}
 
+-- a scenario that is the first with its active numbers is added, and another is shown by the first one
 pub loop-at-preserved : goal.loop-at-preserved
 loop-at-preserved c g all alike =
     let list = c.args.scenarios.now in
@@ -23,6 +24,7 @@ loop-at-preserved c g all alike =
           (examples_kept g at list c.loop-at.list.items shown within c.args.firsts.now alike w.if-firsts-at.false)
     ]
 
+-- once all scenarios were looked at, the list shows all that can be active
 pub returns : goal.returns
 returns c g all alike = examples_all g c.loop-at.at c.args.scenarios.now c.loop-at.list.items all
     (omega (arith, c.loop-at-test.false, c.loop-at.auto.at-end)) (c.loop-at.invariant g all alike)

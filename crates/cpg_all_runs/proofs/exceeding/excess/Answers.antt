@@ -8,6 +8,7 @@ use Rattle.cpg_all_runs.proofs.Listed.{some_listed}
 use Rattle.cpg_all_runs.proofs.Ends.{is_excess}
 use Rattle.cpg_all_runs.proofs.exceeding.excess.Goals as goal
 
+-- the urgency order has as many places as the graph has processes
 pub first_greatest-at-requires-clause-urgency : goal.first_greatest-at-requires-clause-urgency
 first_greatest-at-requires-clause-urgency c =
     let g = c.args.admitted.now.graph in
@@ -15,10 +16,12 @@ first_greatest-at-requires-clause-urgency c =
     ∙ length_order (process_count g) c.args.admitted.now.order c.problem-2.ensures.admitted.urgency.all
     ∙ sym (ap process_count c.problem-2.ensures.problem)
 
+-- there is a scenario
 pub first_greatest-at-requires-clause-some : goal.first_greatest-at-requires-clause-some
 first_greatest-at-requires-clause-some c =
     some_listed c.args.admitted.now.graph c.args.scenarios.now c.requires.scenarios
 
+-- the place that was found is that of the greatest excess, so its scenario and process are the least ones
 pub returns : goal.returns
 returns c = λ order frozen topological are.
     let g = c.args.admitted.now.graph in

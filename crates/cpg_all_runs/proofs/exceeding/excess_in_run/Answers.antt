@@ -3,6 +3,7 @@ use Rattle.cpg_run.specs.Finish.{excess_of}
 use Rattle.cpg_all_runs.proofs.Firsts.{greatest_more, the_max}
 use Rattle.cpg_all_runs.proofs.exceeding.excess_in_run.Goals as goal
 
+-- the greatest excess so far takes in one more process
 pub loop-process-preserved : goal.loop-process-preserved
 loop-process-preserved c =
     c.max-most.ensures ∙ the_max c.loop-process.most c.excess_of.result

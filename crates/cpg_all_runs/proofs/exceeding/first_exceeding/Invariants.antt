@@ -2,5 +2,6 @@ use Rattle.std.proofs.Common.{ℕ, ◌<◌, ◌≢◌}
 use Rattle.cpg_run.specs.Finish.{excess_of}
 use Rattle.cpg_all_runs.proofs.exceeding.first_exceeding.Given as goal
 
+-- no process below `process` has this excess
 abbrev pub invariant-loop-process : goal.invariant-loop-process
 invariant-loop-process l = (q : ℕ) → q < l.process → excess_of l.problem l.times q ≢ l.excess

@@ -5,6 +5,7 @@ use Rattle.cpg_all_runs.specs.Peaks.{IsFirstExceeding}
 use Rattle.cpg_all_runs.proofs.Ends.{least_exceeding}
 use Rattle.cpg_all_runs.proofs.exceeding.most_exceeding.Goals as goal
 
+-- if something exceeds, the process that was found is the first with the greatest excess
 pub returns : goal.returns
 returns c =
     let g = c.args.problem.now in

@@ -7,6 +7,7 @@ use Rattle.cpg_all_runs.specs.declared.few.TheConstants.{MOST_SCENARIOS}
 use Rattle.cpg_all_runs.proofs.FewWays.{all_fit, too_many}
 use Rattle.cpg_all_runs.proofs.few.has_few_scenarios.Goals as goal
 
+-- with more than 14 conditions there are too many scenarios
 pub returns-then-conditions-gt-MOST_DOUBLINGS : goal.returns-then-conditions-gt-MOST_DOUBLINGS
 returns-then-conditions-gt-MOST_DOUBLINGS c = (
   λ n. absurd (false≢true n),
@@ -14,6 +15,7 @@ returns-then-conditions-gt-MOST_DOUBLINGS c = (
       (omega (arith, c.if-conditions-gt-MOST_DOUBLINGS.true, c.conditions-conditions.ensures.count)) few),
 )
 
+-- with at most 14 conditions the number of scenarios fits in 64 bits
 pub overflow_mul-result : goal.overflow_mul-result
 overflow_mul-result c =
     let a = all_fit c.conditions-conditions.result (length c.processes.result.now) c.faults.result
@@ -22,6 +24,7 @@ overflow_mul-result c =
     (omega (arith, c.faults.ensures.faults, c.faults.ensures.within.faults)) in
     omega (arith, a, ap₂ ◌*◌ c.pow.ensures c.ways-ways.ensures)
 
+-- the product is the number of scenarios
 pub returns : goal.returns
 returns c =
     let g = c.args.problem.now in

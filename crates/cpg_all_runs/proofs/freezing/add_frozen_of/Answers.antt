@@ -16,6 +16,7 @@ one_more f before items first i x l is =
     ∙ ap (λ y. filter f (first ∷ (take i items ++ y ∷ []))) is ∙
     ap (λ ys. filter f (first ∷ ys)) (sym (take_more items i 0 l)))
 
+-- what a process sends is an item of the graph
 pub add_if_frozen-requires-in-loop-item : goal.add_if_frozen-requires-in-loop-item
 add_if_frozen-requires-in-loop-item c =
     let x = get_or c.queue-item-items.result.now c.loop-item.item-index 0 in
@@ -23,6 +24,7 @@ add_if_frozen-requires-in-loop-item c =
     (subst (λ xs. Contains xs x) c.queue-item-items.ensures
     (Contains-get_or c.queue-item-items.result.now c.loop-item.item-index 0 c.loop-item-test.true))).within
 
+-- one more item of the queue is added if it is frozen
 pub loop-item-preserved : goal.loop-item-preserved
 loop-item-preserved c =
     let g = c.args.problem.now in

@@ -3,6 +3,7 @@ use Rattle.cpg_base.specs.Graph.{is_frozen}
 use Rattle.cpg_bus.specs.Plan.{queue_of}
 use Rattle.cpg_all_runs.proofs.freezing.add_frozen_of.Given as goal
 
+-- the items are the old ones followed by the frozen ones of the process's start and of the items that it sends so far
 abbrev pub invariant-loop-item : goal.invariant-loop-item
 invariant-loop-item l = l.items.items ≡ l.fn.items.items
     ++ filter (is_frozen l.problem) (l.process ∷ take l.item-index (queue_of l.problem l.process))

@@ -5,11 +5,13 @@ use Rattle.cpg_run.specs.FrozenItems.{frozen_along}
 use Rattle.cpg_run.proofs.Settled.{settled_first, settled_all}
 use Rattle.cpg_all_runs.proofs.freezing.frozen_times.Goals as goal
 
+-- the order has as many places as the graph has processes
 pub frozen_items-requires-clause-order : goal.frozen_items-requires-clause-order
 frozen_items-requires-clause-order c =
     length_order (process_count c.args.admitted.now.graph) c.args.order.now c.requires.topological.all
     ∙ sym (ap process_count c.problem-problem.ensures.problem)
 
+-- if nothing is frozen, no times are those of the frozen items
 pub returns-then-is_empty-clause-frozen : goal.returns-then-is_empty-clause-frozen
 returns-then-is_empty-clause-frozen c =
     let g = c.args.admitted.now.graph in

@@ -11,6 +11,7 @@ use Rattle.cpg_run.proofs.Settled.{settled_all}
 use Rattle.cpg_all_runs.proofs.Swept.{along_kept, later_place}
 use Rattle.cpg_all_runs.proofs.freezing.sweep.Goals as goal
 
+-- before the first item nothing is settled, and nothing is known of any run
 pub loop-item-init : goal.loop-item-init
 loop-item-init c = record {
   settled = settled_first c.args.setting.now.problem.now c.args.setting.now.order.now c.requires.setting.topological
@@ -20,12 +21,14 @@ loop-item-init c = record {
   ahead = λ j l k. omega arith;
 }
 
+-- each frozen item is an item of the graph
 pub producer-requires : goal.producer-requires
 producer-requires c =
     next_within c.args.setting.now.problem.now c.args.setting.now.order.now c.requires.setting.topological
     c.args.items.now c.loop-item.item-index c.loop-item.frozen c.loop-item.invariant.settled
     c.loop-item-test.true
 
+-- the producer of the item is a process of the order
 pub place-next-requires : goal.place-next-requires
 place-next-requires c = omega (
   arith,
@@ -34,12 +37,14 @@ place-next-requires c = omega (
       c.requires.setting.topological.all,
 )
 
+-- the times that are settled are early
 pub advance-requires-clause-early : goal.advance-requires-clause-early
 advance-requires-clause-early c =
     settled_early c.args.setting.now.problem.now c.args.setting.now.order.now c.requires.setting.topological
     c.args.items.now c.loop-item.item-index c.loop-item.frozen c.loop-item.invariant.settled
     c.requires.setting.admitted.1.limits
 
+-- frozen items rise in moment, so the item's place is not before the one that was reached
 pub advance-requires-clause-ahead : goal.advance-requires-clause-ahead
 advance-requires-clause-ahead c =
     let g = c.args.setting.now.problem.now in
@@ -49,6 +54,7 @@ advance-requires-clause-ahead c =
     c.place-next.ensures.place ∙ ap (place order) (c.producer.ensures.producer) in
     omega (arith, there, c.loop-item.invariant.ahead c.loop-item.item-index (omega arith) c.loop-item-test.true)
 
+-- the place is one of the order
 pub advance-requires-clause-place : goal.advance-requires-clause-place
 advance-requires-clause-place c = omega (
   arith,
@@ -57,12 +63,14 @@ advance-requires-clause-place c = omega (
       c.requires.setting.topological.all,
 )
 
+-- the times that are settled are early
 pub settle-requires-clause-early : goal.settle-requires-clause-early
 settle-requires-clause-early c =
     settled_early c.args.setting.now.problem.now c.args.setting.now.order.now c.requires.setting.topological
     c.args.items.now c.loop-item.item-index c.loop-item.frozen c.loop-item.invariant.settled
     c.requires.setting.admitted.1.limits
 
+-- the place is one of the order
 pub settle-requires-clause-place : goal.settle-requires-clause-place
 settle-requires-clause-place c = omega (
   arith,
@@ -71,23 +79,27 @@ settle-requires-clause-place c = omega (
       c.requires.setting.topological.all,
 )
 
+-- each frozen item is an item of the graph
 pub settle-requires-clause-item : goal.settle-requires-clause-item
 settle-requires-clause-item c =
     next_within c.args.setting.now.problem.now c.args.setting.now.order.now c.requires.setting.topological
     c.args.items.now c.loop-item.item-index c.loop-item.frozen c.loop-item.invariant.settled
     c.loop-item-test.true
 
+-- the place is that of the item's producer
 pub settle-requires-clause-there : goal.settle-requires-clause-there
 settle-requires-clause-there c =
     let x = get_or c.args.items.now c.loop-item.item-index 0 in
     sym (c.place-next.ensures.place ∙ ap (place c.args.setting.now.order.now) (c.producer.ensures.producer))
 
+-- the next item has no time yet
 pub settle-requires-clause-unset : goal.settle-requires-clause-unset
 settle-requires-clause-unset c =
     next_unset c.args.setting.now.problem.now c.args.setting.now.order.now c.requires.setting.topological
     c.args.items.now c.loop-item.item-index c.loop-item.frozen c.loop-item.invariant.settled
     c.loop-item-test.true
 
+-- the item's time is settled, what was found before its place stays right, and the other items come no earlier
 pub loop-item-preserved : goal.loop-item-preserved
 loop-item-preserved c =
     let g = c.args.setting.now.problem.now in
@@ -115,18 +127,21 @@ loop-item-preserved c =
           );
     }
 
+-- once all items are settled, the times are the frozen times of the graph
 pub returns-clause-frozen : goal.returns-clause-frozen
 returns-clause-frozen c =
     settled_all c.args.setting.now.problem.now c.args.setting.now.order.now c.requires.setting.topological
     c.args.items.now c.loop-item.item-index c.loop-item.frozen c.loop-item.invariant.settled
     (omega (arith, c.loop-item-test.false, c.loop-item.auto.item-index-end))
 
+-- the times that are settled are early
 pub returns-clause-early : goal.returns-clause-early
 returns-clause-early c =
     settled_early c.args.setting.now.problem.now c.args.setting.now.order.now c.requires.setting.topological
     c.args.items.now c.loop-item.item-index c.loop-item.frozen c.loop-item.invariant.settled
     c.requires.setting.admitted.1.limits
 
+-- the examples are scenarios of the graph
 pub advance-requires-clause-scenarios : goal.advance-requires-clause-scenarios
 advance-requires-clause-scenarios c =
     let list = c.args.scenarios.now in

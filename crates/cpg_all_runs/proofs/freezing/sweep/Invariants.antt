@@ -3,6 +3,8 @@ use Rattle.cpg_all_runs.specs.Sweep.{AreAlong, place_of_item}
 use Rattle.cpg_run.proofs.Settled.{AreSettled}
 use Rattle.cpg_all_runs.proofs.freezing.sweep.Given as goal
 
+-- `settled`: the frozen items so far have their times. `along`: for each scenario it is found what its run does
+-- before the place. `ahead`: no frozen item that is left is of a process before the place.
 abbrev pub invariant-loop-item : goal.invariant-loop-item
 invariant-loop-item l = record {
   settled : AreSettled l.setting.problem.now l.setting.order.now l.items l.item-index l.frozen;

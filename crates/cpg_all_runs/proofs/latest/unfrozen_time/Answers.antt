@@ -5,6 +5,7 @@ use Rattle.cpg_run.specs.Latest.{later}
 use Rattle.cpg_all_runs.proofs.Latests.{IsLatest, latest_more, latest_is}
 use Rattle.cpg_all_runs.proofs.latest.unfrozen_time.Goals as goal
 
+-- what is found of the scenario is that of its run before the place
 pub time_there-requires-clause-along : goal.time_there-requires-clause-along
 time_there-requires-clause-along c =
     let g = c.args.setting.now.problem.now in
@@ -15,6 +16,7 @@ time_there-requires-clause-along c =
     (subst (IsAlong g c.args.setting.now.order.now c.args.frozen.now _ c.args.place) (sym c.index-found-at.is)
     (along.each c.loop-at.at s p c.loop-at-test.true))
 
+-- the later of the greatest time so far and that of one more run is the greatest of both
 pub loop-at-preserved : goal.loop-at-preserved
 loop-at-preserved c =
     let g = c.args.setting.now.problem.now in
@@ -28,6 +30,7 @@ loop-at-preserved c =
     c.index-scenarios-at.result r.0 c.loop-at-test.true
     (sym c.index-scenarios-at.is) r.1 c.loop-at.invariant)
 
+-- the greatest time in all examples is the unfrozen time of the item
 pub returns : goal.returns
 returns c =
     latest_is c.args.setting.now.problem.now c.args.setting.now.order.now c.requires.setting.topological

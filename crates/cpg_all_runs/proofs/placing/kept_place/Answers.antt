@@ -2,6 +2,7 @@ use Rattle.std.proofs.Common.{◌≡◌, Some, None, inl, inr, refl, sym, subst}
 use Rattle.cpg_all_runs.specs.Placed.{place_in}
 use Rattle.cpg_all_runs.proofs.placing.kept_place.Goals as goal
 
+-- numbers with a place keep it
 pub returns-in-Some : goal.returns-in-Some
 returns-in-Some c = inl (
   subst (λ numbers. place_in c.args.places.now.entries numbers ≡ Some c.in-Some.place.now) c.as_slice.ensures.value
@@ -9,6 +10,7 @@ returns-in-Some c = inl (
   refl,
 )
 
+-- numbers without a place get the given one
 pub returns : goal.returns
 returns c = inr (
   subst (λ numbers. place_in c.args.places.now.entries numbers ≡ None) c.as_slice.ensures.value

@@ -1,6 +1,7 @@
 use Rattle.cpg_all_runs.proofs.Measured.{runs_more}
 use Rattle.cpg_all_runs.proofs.running.runs.Goals as goal
 
+-- the run of one more scenario is added
 pub loop-at-preserved : goal.loop-at-preserved
 loop-at-preserved c =
     let found = rw (c.of-setting.ensures.problem, c.of-setting.ensures.order) at c.in_ok-times.ensures in

@@ -2,6 +2,7 @@ use Rattle.std.proofs.Common.{◌≡◌, subst, arith}
 use Rattle.cpg_all_runs.specs.Sweep.{AreAlong}
 use Rattle.cpg_all_runs.proofs.sweeping.advance.Goals as goal
 
+-- at the end of the loop the place is reached
 pub returns : goal.returns
 returns c =
     let there : c.loop-place.place ≡ c.args.to =

@@ -8,6 +8,7 @@ use Rattle.cpg_head.specs.GraphHead.{head_process}
 use Rattle.cpg_head.proofs.HeadWithin.{All-below, head_within}
 use Rattle.cpg_app.proofs.heads.head_is_lawful.Goals as goal
 
+-- the head is within its limits, and the names of its nodes and processes are names
 pub returns : goal.returns
 returns c =
     let g = c.args.graph.now in

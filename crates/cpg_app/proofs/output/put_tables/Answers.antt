@@ -5,6 +5,7 @@ use Rattle.cpg_outputs.specs.Told.{IsWritten, sent}
 use Rattle.cpg_app.proofs.Written.{packed}
 use Rattle.cpg_app.proofs.output.put_tables.Goals as goal
 
+-- the text that was written by the rows is the one of the tables
 pub returns : goal.returns
 returns g c =
     let before = g.O.Sink.state c.args.out.now in

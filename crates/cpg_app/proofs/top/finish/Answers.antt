@@ -11,6 +11,7 @@ use Rattle.cpg_app.proofs.Finished.{stopped_lawful, written_lawful}
 use Rattle.cpg_app.proofs.Worked.{IsLive, live_of, text_of}
 use Rattle.cpg_app.proofs.top.finish.Goals as goal
 
+-- the stream is one of the command's files, so it may be fetched
 pub follow-requires-clause-may : goal.follow-requires-clause-may
 follow-requires-clause-may g c =
     let asked = c.requires.may in
@@ -21,6 +22,7 @@ follow-requires-clause-may g c =
     subst (g.S.Shelf.may_fetch c.args.shelf.now) (sym c.as_str-in-Ok-Stream.ensures)
     (may_follow (g.S.Shelf.may_fetch c.args.shelf.now) asked.command asked.values _ _ live asked.files)
 
+-- the node was opened before its stream
 pub follow-requires-clause-opened : goal.follow-requires-clause-opened
 follow-requires-clause-opened g c =
     let asked = c.requires.may in
@@ -42,6 +44,7 @@ put_node_table-requires g c =
     (subst (Answers asked.command asked.values) c.in-Ok-NodeTable.field-0-is
     (c.in-Ok-NodeTable.ensures.output asked.command asked.values asked.are))).0
 
+-- the output is a text, which was written or met a fault, so the run ends lawfully
 pub returns-in-Ok-Lines-clause-lawful : goal.returns-in-Ok-Lines-clause-lawful
 returns-in-Ok-Lines-clause-lawful g c words start at =
     let r : Ran = record {
@@ -60,6 +63,7 @@ returns-in-Ok-Lines-clause-lawful g c words start at =
     written_lawful r (string_bytes c.in-Ok-Lines.text) c.put.result prints (subst
     (λ (bytes : List ℕ). IsWritten r.out c.put.result bytes) c.as_str.ensures.value c.put.ensures) c.end.ensures
 
+-- the output is the text of a graph's tables, which was written or met a fault
 pub returns-in-Ok-Table-clause-lawful : goal.returns-in-Ok-Table-clause-lawful
 returns-in-Ok-Table-clause-lawful g c words start at =
     let r : Ran = record {
@@ -78,6 +82,7 @@ returns-in-Ok-Table-clause-lawful g c words start at =
     written_lawful r (shown_by c.in-Ok-Table.made.admitted.graph c.in-Ok-Table.made.rows) c.put_tables.result prints
     (c.put_tables.ensures) c.end-in-Ok-Table.ensures
 
+-- the output is the text of a node's table, which was written or met a fault
 pub returns-in-Ok-NodeTable-clause-lawful : goal.returns-in-Ok-NodeTable-clause-lawful
 returns-in-Ok-NodeTable-clause-lawful g c words start at =
     let r : Ran = record {
@@ -96,6 +101,7 @@ returns-in-Ok-NodeTable-clause-lawful g c words start at =
     written_lawful r (node_text c.in-Ok-NodeTable.tables c.in-Ok-NodeTable.node) c.put_node_table.result prints
     c.put_node_table.ensures c.end-in-Ok-NodeTable.ensures
 
+-- the output is a pack, which was written or met a fault
 pub returns-in-Ok-Pack-clause-lawful : goal.returns-in-Ok-Pack-clause-lawful
 returns-in-Ok-Pack-clause-lawful g c words start at =
     let r : Ran = record {
@@ -113,6 +119,7 @@ returns-in-Ok-Pack-clause-lawful g c words start at =
     record { command = at.command; values = at.has.values; has = has; puts = puts } in
     written_lawful r (spelling c.in-Ok-Pack.tables) c.put_pack.result prints c.put_pack.ensures c.end-in-Ok-Pack.ensures
 
+-- the node followed its stream, to the close or not, so the run ends lawfully
 pub returns-in-Ok-Stream-clause-lawful : goal.returns-in-Ok-Stream-clause-lawful
 returns-in-Ok-Stream-clause-lawful g c words start at =
     let r : Ran = record {
@@ -129,6 +136,7 @@ returns-in-Ok-Stream-clause-lawful g c words start at =
     (g.S.Shelf.state c.args.shelf.now).history at.words at.has.reads live
     (rw c.as_str-in-Ok-Stream.ensures at c.follow.ensures.followed)
 
+-- the work stopped, and the line that says so was written or met a fault
 pub returns-in-Err-clause-lawful : goal.returns-in-Err-clause-lawful
 returns-in-Err-clause-lawful g c words start at =
     let r : Ran = record {

@@ -13,6 +13,7 @@ pub read_inputs-requires : goal.read_inputs-requires
 read_inputs-requires g c =
     subst (All (g.S.Shelf.may_fetch c.args.shelf.now)) (ap file_words_if c.in-Ok.ensures.command) c.requires
 
+-- the files of the command that was read may be fetched
 pub finish-requires-clause-may : goal.finish-requires-clause-may
 finish-requires-clause-may g c =
     let has = c.in-Ok-read_inputs.ensures.inputs in
@@ -38,6 +39,7 @@ returns-in-Ok-read_inputs-clause-lawful g c =
     c.finish.ensures.lawful (map string_bytes c.args.words.now) (g.S.Shelf.state c.args.shelf.now)
     (record { command = c.in-Ok.command; words = c.in-Ok.ensures.command; has = c.in-Ok-read_inputs.ensures.inputs })
 
+-- a file stopped the run, and the line that says so was written or met a fault
 pub returns-in-Err-read_inputs-clause-lawful : goal.returns-in-Err-read_inputs-clause-lawful
 returns-in-Err-read_inputs-clause-lawful g c =
     let r : Ran = record {
@@ -51,6 +53,7 @@ returns-in-Err-read_inputs-clause-lawful g c =
     (inr (inl (record { command = c.in-Ok.command; words = c.in-Ok.ensures.command; stops = c.in-Err-read_inputs.ensures.inputs })))
     (record { faultless = refl; taken = refl }) c.stop.ensures
 
+-- the words form no command, or memory ran out, and the line that says so was written or met a fault
 pub returns-in-Err-clause-lawful : goal.returns-in-Err-clause-lawful
 returns-in-Err-clause-lawful g c =
     let r : Ran = record {

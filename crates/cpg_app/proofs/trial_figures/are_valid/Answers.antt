@@ -8,6 +8,7 @@ use Rattle.cpg_app.proofs.Figures.{is_yes, verdict_is}
 use Rattle.cpg_app.proofs.trial_figures.are_valid.Goals.{in-Yes, in-Other, in-No}
 use Rattle.cpg_app.proofs.trial_figures.are_valid.Goals as goal
 
+-- the verdict is yes exactly if the tables have the graph's head and are valid
 pub returns : goal.returns
 returns c =
     let g = c.args.admitted.now.graph in

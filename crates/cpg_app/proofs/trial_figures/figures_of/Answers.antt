@@ -9,6 +9,7 @@ unreachable-requires c = both_ways c.in_ok-are_valid.field-0 c.if-not-branch.tru
     (c.in_ok-are_valid.ensures.1
     (compiled_valid c.args.admitted.now.graph c.args.admitted.now.order c.args.compiled.now c.requires.compilation))
 
+-- the figures are the counts of the graph and its tables, and the play of the worst case reaches the greatest finish
 pub returns : goal.returns
 returns c = record {
   processes = ap (λ ps. length ps) c.processes.ensures.processes ∙ ap process_count c.problem-problem.ensures.problem;

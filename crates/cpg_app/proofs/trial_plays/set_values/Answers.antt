@@ -3,6 +3,7 @@ use Rattle.cpg_base.specs.Scenario.{Scenario}
 use Rattle.cpg_app.proofs.Values.{next_true}
 use Rattle.cpg_app.proofs.trial_plays.set_values.Goals as goal
 
+-- the next value is set to true, and the faults stay
 pub loop-condition-preserved : goal.loop-condition-preserved
 loop-condition-preserved c = record {
   values = next_true c.args.count c.loop-condition.condition c.loop-condition.scenario.values

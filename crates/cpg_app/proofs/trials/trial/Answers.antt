@@ -1,6 +1,7 @@
 use Rattle.cpg_app.proofs.Safe.{compilations_are_safe}
 use Rattle.cpg_app.proofs.trials.trial.Goals as goal
 
+-- the tables are those of a compile, so they are safe
 pub returns-in-Ok-trial_text-clause-text : goal.returns-in-Ok-trial_text-clause-text
 returns-in-Ok-trial_text-clause-text c =
     let is = c.in-Ok.ensures in

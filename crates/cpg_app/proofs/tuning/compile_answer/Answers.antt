@@ -3,6 +3,7 @@ use Rattle.cpg_core.specs.Accepted.{ShowsNoFinish}
 use Rattle.cpg_core.proofs.AcceptedTables.{accepted_have_tables}
 use Rattle.cpg_app.proofs.tuning.compile_answer.Goals as goal
 
+-- the compile accepted the graph, so its tables have this greatest finish
 pub returns-in-Ok : goal.returns-in-Ok
 returns-in-Ok c =
     let g = c.args.admitted.now.graph in
@@ -12,6 +13,7 @@ returns-in-Ok c =
     c.first_order-order.ensures.admitted narrow c.in-Ok.ensures.accepted in
     (narrow, tables.0, tables.1, tables.2)
 
+-- the graph is late, by the scenario and the process that the fault names
 pub returns-in-Err-Late : goal.returns-in-Err-Late
 returns-in-Err-Late c =
     let g = c.args.admitted.now.graph in

@@ -5,6 +5,7 @@ use Rattle.cpg_violation.proofs.HeadLaws.{tables_of_graph}
 use Rattle.cpg_app.proofs.Safe.{valid_are_safe}
 use Rattle.cpg_app.proofs.work.judged.Goals as goal
 
+-- the tables are valid, and valid tables are safe
 pub returns-in-Ok-Yes-clause-safe : goal.returns-in-Ok-Yes-clause-safe
 returns-in-Ok-Yes-clause-safe c =
     let g = c.args.admitted.graph in

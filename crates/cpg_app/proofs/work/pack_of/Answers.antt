@@ -1,6 +1,7 @@
 use Rattle.std.proofs.Common.{refl}
 use Rattle.cpg_app.proofs.work.pack_of.Goals as goal
 
+-- the pack is spelled from the tables of the compile
 pub returns-clause-pack : goal.returns-clause-pack
 returns-clause-pack c =
     record {

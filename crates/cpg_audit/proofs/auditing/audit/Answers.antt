@@ -24,22 +24,26 @@ use Rattle.cpg_audit.proofs.auditing.audit.Goals as goal
 abbrev seen : Bor (List Literal) → List Literal
 seen b = b.now
 
+-- the acts are those of the log, and each of them is one by the log's end
 pub all_idle-requires : goal.all_idle-requires
 all_idle-requires c = (
   c.args.log.now.until,
   subst (All (IsActBy c.args.admitted.now.graph c.args.log.now.until)) (sym c.acts.ensures) c.requires.log.acts,
 )
 
+-- an admitted order has as many places as the graph has processes
 pub uncovered-requires-clause-order : goal.uncovered-requires-clause-order
 uncovered-requires-clause-order c =
     rw (c.order-order.ensures.order, c.problem-problem.ensures.problem) (long_order c.order-order.ensures.admitted)
 
+-- the tables are of the graph, so the columns of each item are on its variables
 pub excluded-requires : goal.excluded-requires
 excluded-requires c x =
     let are = tables_of_graph c.args.admitted.now.graph c.args.tables.now.head c.args.tables.now.nodes c.requires.head
     c.head-head.ensures.lawful in
     rw c.problem-problem.ensures.problem (columns_known c.order-order.ensures.admitted c.args.tables.now.nodes are x)
 
+-- the kept cubes and the idle ones are on variables of the graph
 pub uncovered-requires-clause-list : goal.uncovered-requires-clause-list
 uncovered-requires-clause-list c =
     let g = c.args.admitted.now.graph in
@@ -51,6 +55,7 @@ uncovered-requires-clause-list c =
     rw (c.problem-problem.ensures.problem, c.as_slice-2.ensures.value)
     (all_unmapped (IsKnown g) seen c.push_cubes.new.by.items cubes)
 
+-- the least scenario that the cubes leave of the space is the least that gives the log
 pub returns-clause-least : goal.returns-clause-least
 returns-clause-least c =
     let g = c.args.admitted.now.graph in
@@ -83,6 +88,7 @@ returns-clause-least c =
     (first_same g order (is_left (map seen c.push_cubes.new.by.items) c.in_ok-cube.cube)
     (is_left (all ++ idle) []) c.in_ok-found.found same first)
 
+-- the cubes leave no scenario of the space, so none gives the log
 pub returns-clause-none : goal.returns-clause-none
 returns-clause-none c =
     let g = c.args.admitted.now.graph in

@@ -23,12 +23,14 @@ item t = t.item
 abbrev blank : TimedItem
 blank = record { time = 0; item = 0 }
 
+-- with the next item's excluded cubes taken off, the kept cubes match where those of one item more do
 pub loop-timed-preserved : goal.loop-timed-preserved
 loop-timed-preserved c =
     let f : ℕ → List (List Literal) = excluded_of c.args.tables.now.nodes c.args.log.now in
     let xs : List TimedItem = c.as_slice-timed-items.result.now in
     let i : ℕ = c.loop-timed.timed-index in
     let x : TimedItem = get_or xs i blank in
+    -- the cubes of the next item are those that the log excludes of it
     let one : map (λ (b : Bor (List Literal)). b.now) c.in_ok-by.by.items ≡ f x.item =
     rw (c.until.ensures, c.time_of.ensures, c.columns_of-columns.ensures.columns) at c.in_ok-by.ensures in
     let inv = c.loop-timed.invariant in
@@ -56,6 +58,7 @@ loop-timed-preserved c =
           (subst (All (IsKnown c.args.problem.now)) (sym one) cubes))) inv.known;
     }
 
+-- all items were gone over in some order, so the kept cubes match where any excluded cube does
 pub returns-clause-same : goal.returns-clause-same
 returns-clause-same c s lies =
     let f : ℕ → List (List Literal) = excluded_of c.args.tables.now.nodes c.args.log.now in

@@ -8,6 +8,8 @@ use Rattle.cpg_audit.specs.Excluded.{excluded_of}
 use Rattle.cpg_audit.specs.Narrowing.{Leaves}
 use Rattle.cpg_audit.proofs.auditing.excluded.Given as goal
 
+-- `same`: the kept cubes match where the excluded cubes of the items so far do, within the first space. `left`: what
+-- no kept cube matches lies in the space left. `known`: kept cubes are on variables of the graph
 abbrev pub invariant-loop-timed : goal.invariant-loop-timed
 invariant-loop-timed l = record {
   same : (s : Scenario) → IsInSpace l.fn.space s →

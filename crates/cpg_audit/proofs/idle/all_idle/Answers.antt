@@ -7,6 +7,7 @@ use Rattle.cpg_cube.specs.Fit.{IsKnown}
 use Rattle.cpg_audit.proofs.IdleLaws.{idle_more}
 use Rattle.cpg_audit.proofs.idle.all_idle.Goals as goal
 
+-- the columns of the next act's idle scenarios are added
 pub loop-act-preserved : goal.loop-act-preserved
 loop-act-preserved c =
     let g = c.args.admitted.now.graph in

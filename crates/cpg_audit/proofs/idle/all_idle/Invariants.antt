@@ -6,6 +6,7 @@ use Rattle.cpg_cube.specs.Fit.{IsKnown}
 use Rattle.cpg_audit.specs.Excluded.{is_some_idle}
 use Rattle.cpg_audit.proofs.idle.all_idle.Given as goal
 
+-- in each scenario, one of the columns so far matches exactly if one of the acts so far is idle
 abbrev pub invariant-loop-act : goal.invariant-loop-act
 invariant-loop-act l = record {
   known : All (λ c. IsKnown l.admitted.graph c.cube) l.all.items;

@@ -9,12 +9,14 @@ use Rattle.cpg_tree.proofs.Passing.{known_from}
 use Rattle.cpg_audit.proofs.IdleLaws.{idle_columns}
 use Rattle.cpg_audit.proofs.idle.idle_columns.Goals as goal
 
+-- the idle tree is mapped from the tree of the activity, so it tests variables of the graph alone
 pub columns-requires-clause-known : goal.columns-requires-clause-known
 columns-requires-clause-known c =
     let g = c.args.admitted.now.graph in
     rw c.problem.ensures.problem (known_from g c.in_ok-idle.idle.paths
     (c.in_ok-idle.ensures.pass (is_variable g) c.in_ok-active.ensures.tree.known))
 
+-- a tidy column is on variables of the graph
 pub returns-clause-known : goal.returns-clause-known
 returns-clause-known c =
     let g = c.args.admitted.now.graph in
@@ -22,6 +24,7 @@ returns-clause-known c =
     (λ column tidy. subst (λ (h : Graph). IsKnown h column.cube) c.problem.ensures.problem tidy.cube.known)
     c.in_ok-columns.columns.items c.in_ok-columns.ensures.tidy
 
+-- a column of the idle tree matches exactly where the item isn't active
 pub returns-clause-idle : goal.returns-clause-idle
 returns-clause-idle c = idle_columns c.args.admitted.now.graph c.args.item c.in_ok-active.active
     c.in_ok-active.ensures.tree c.in_ok-active.ensures.active c.in_ok-idle.idle c.in_ok-idle.ensures.is

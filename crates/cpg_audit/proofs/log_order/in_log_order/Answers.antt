@@ -11,12 +11,14 @@ use Rattle.cpg_audit.proofs.log_order.in_log_order.Goals as goal
 abbrev item : TimedItem → ℕ
 item t = t.item
 
+-- the next item is pushed with its time
 pub loop-item-preserved : goal.loop-item-preserved
 loop-item-preserved c =
     let timed : TimedItem = record { time = c.unwrap_or-time.result; item = c.loop-item.item } in
     ap (map item) c.in_ok-push.ensures.items ∙ map-append item c.loop-item.ordered.items (timed ∷ [])
     ∙ ap (λ xs. xs ++ c.loop-item.item ∷ []) c.loop-item.invariant ∙ sym (below_push c.loop-item.item)
 
+-- the loop took all items, and sorting them is a permutation
 pub returns : goal.returns
 returns c =
     let last : c.loop-item.item ≡ item_count c.args.problem.now = search rules in

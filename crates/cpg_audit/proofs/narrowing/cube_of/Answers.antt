@@ -2,6 +2,7 @@ use Rattle.std.proofs.Common.{◌≤◌, length}
 use Rattle.cpg_audit.proofs.NarrowingLaws.{ranges_weaker, known_ranges, matches_space}
 use Rattle.cpg_audit.proofs.narrowing.cube_of.Goals as goal
 
+-- the first ranges are on variables below those of the second ones
 pub push_ranges-requires-2-clause-before : goal.push_ranges-requires-2-clause-before
 push_ranges-requires-2-clause-before c =
     let few : length c.processes.result.now ≤ 128 =
@@ -9,10 +10,12 @@ push_ranges-requires-2-clause-before c =
     ranges_weaker c.args.problem.now c.args.space.now
     (length c.processes.result.now) 128 few c.push_ranges.new.cube c.in_ok-push_ranges.ensures
 
+-- each range holds in all scenarios of the space, so the cube matches them
 pub returns-clause-matches : goal.returns-clause-matches
 returns-clause-matches c s lies =
     matches_space c.args.problem.now c.args.space.now _ c.push_ranges-2.new.cube c.in_ok-push_ranges-2.ensures s lies
 
+-- each range is on a variable of the graph
 pub returns-clause-known : goal.returns-clause-known
 returns-clause-known c =
     known_ranges c.args.problem.now c.args.space.now _ c.push_ranges-2.new.cube c.in_ok-push_ranges-2.ensures

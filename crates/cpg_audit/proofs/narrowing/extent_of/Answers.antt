@@ -13,6 +13,7 @@ use Rattle.cpg_audit.proofs.narrowing.extent_of.Goals.{then-not-implies+else-is_
 abbrev blank : Literal
 blank = record { variable = 0; low = 0; high = 0 }
 
+-- the next literal holds in the whole space, or is the first that may not hold
 pub loop-literal-preserved : goal.loop-literal-preserved
 loop-literal-preserved c =
     let inv = c.loop-literal.invariant in
@@ -35,10 +36,12 @@ loop-literal-preserved c =
           })
     ]
 
+-- this literal holds nowhere in the space, so the cube matches nowhere there
 pub returns-then-is_apart : goal.returns-then-is_apart
 returns-then-is_apart c s lies =
     unmatched s c.args.literals.now c.loop-literal.literal-index blank (omega arith) (search rules)
 
+-- all literals are gone over, so the cube matches in the space exactly where the open one holds
 pub returns-in-Some : goal.returns-in-Some
 returns-in-Some c = subst
     (λ (ls : List Literal). (s : Scenario) → IsInSpace c.args.space.now s → matches ls s ≡ holds s c.in-Some.literal)

@@ -4,11 +4,13 @@ use Rattle.std.proofs.lemmas.Bool.{OnTrue_from, ltb-true}
 use Rattle.cpg_tree.proofs.Holding.{above_high, below_low}
 use Rattle.cpg_audit.proofs.narrowing.is_apart.Goals as goal
 
+-- the greatest value of the space is below the literal, so it holds nowhere there
 pub returns-then-most-literal : goal.returns-then-most-literal
 returns-then-most-literal c = OnTrue_from (nat_lt c.most.result c.args.literal.now.low) _
     (λ e s lies. below_low s c.args.literal.now
     (omega (arith, c.most.ensures s lies, ltb-true c.most.result c.args.literal.now.low e)))
 
+-- the least value of the space is above the literal, so it holds nowhere there
 pub returns-else-most-literal : goal.returns-else-most-literal
 returns-else-most-literal c = OnTrue_from (nat_lt c.args.literal.now.high c.least.result) _
     (λ e s lies. above_high s c.args.literal.now

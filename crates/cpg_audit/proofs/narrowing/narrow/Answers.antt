@@ -4,6 +4,7 @@ use Rattle.cpg_cube.specs.Cube.{matches}
 use Rattle.cpg_audit.proofs.NarrowingLaws.{one_before}
 use Rattle.cpg_audit.proofs.narrowing.narrow.Goals as goal
 
+-- the cube matches just where a literal holds, and those scenarios are left out
 pub loop-place-preserved-in-Where : goal.loop-place-preserved-in-Where
 loop-place-preserved-in-Where c = record {
   within = omega (arith, c.loop-place.invariant.within);
@@ -14,6 +15,7 @@ loop-place-preserved-in-Where c = record {
       c.exclude.ensures s old (sym (rw c.literals.ensures.literals at c.in-Where.ensures s old) ∙ parts.1);
 }
 
+-- the cube matches in no scenario of the space, or isn't told, and leaves the space as it is
 pub loop-place-preserved : goal.loop-place-preserved
 loop-place-preserved c = record {
   within = omega (arith, c.loop-place.invariant.within);
@@ -23,6 +25,7 @@ loop-place-preserved c = record {
       c.loop-place.invariant.left s parts.0 lies;
 }
 
+-- the place is 0, so all cubes are gone over
 pub returns : goal.returns
 returns c s off lies =
     let first : c.loop-place.place ≡ 0 = omega (arith, c.loop-place-test.false) in

@@ -5,6 +5,8 @@ use Rattle.cpg_cube.specs.Cube.{matches}
 use Rattle.cpg_tree.specs.Space.{IsInSpace}
 use Rattle.cpg_audit.proofs.narrowing.narrow.Given as goal
 
+-- the cubes are gone over from the last one; a scenario of the first space that none of the cubes so far matches lies
+-- in the space left
 abbrev pub invariant-loop-place : goal.invariant-loop-place
 invariant-loop-place l = record {
   within : l.place ≤ length l.by;
@@ -12,5 +14,6 @@ invariant-loop-place l = record {
       IsInSpace l.space s;
 }
 
+-- each turn goes one place down
 abbrev pub decreases-loop-place : goal.decreases-loop-place
 decreases-loop-place l = l.place

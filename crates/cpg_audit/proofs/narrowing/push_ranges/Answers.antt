@@ -6,6 +6,7 @@ use Rattle.cpg_audit.proofs.NarrowingLaws.{ranges_weaker}
 use Rattle.cpg_audit.proofs.narrowing.push_ranges.Goals as goal
 use Rattle.cpg_audit.proofs.narrowing.push_ranges.Goals.{then-low-gt0+in_ok-push, else-low-gt0+else-high-top}
 
+-- the range of the next variable is added, if it isn't the whole one
 pub loop-variable-preserved : goal.loop-variable-preserved
 loop-variable-preserved c =
     let g = c.args.problem.now in

@@ -6,6 +6,7 @@ use Rattle.cpg_cube.specs.Fit.{IsKnown}
 use Rattle.cpg_audit.proofs.NarrowingLaws.{before_place}
 use Rattle.cpg_audit.proofs.narrowing.take_off_all.Goals as goal
 
+-- with the next cube taken off, the kept cubes match where one cube more does
 pub loop-place-preserved : goal.loop-place-preserved
 loop-place-preserved c =
     let inv = c.loop-place.invariant in
@@ -26,6 +27,7 @@ loop-place-preserved c =
           (inv.known g all first);
     }
 
+-- the place is 0, so all cubes are gone over
 pub returns-clause-same : goal.returns-clause-same
 returns-clause-same c s leaves =
     let first : c.loop-place.place ≡ 0 = omega (arith, c.loop-place-test.false) in

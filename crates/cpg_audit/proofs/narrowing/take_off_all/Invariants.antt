@@ -7,6 +7,9 @@ use Rattle.cpg_cube.specs.Fit.{IsKnown}
 use Rattle.cpg_audit.specs.Narrowing.{Leaves}
 use Rattle.cpg_audit.proofs.narrowing.take_off_all.Given as goal
 
+-- the cubes are gone over from the last one. `same`: the kept cubes match where those of before or the cubes so far
+-- do. `left`: what no kept cube matches lies in the space left. `grows`, `known`: cubes are added alone, on known
+-- variables
 abbrev pub invariant-loop-place : goal.invariant-loop-place
 invariant-loop-place l = record {
   within : l.place ≤ length l.by;
@@ -18,5 +21,6 @@ invariant-loop-place l = record {
       All (λ b. IsKnown g b.now) l.kept.items;
 }
 
+-- each turn goes one place down
 abbrev pub decreases-loop-place : goal.decreases-loop-place
 decreases-loop-place l = l.place

@@ -3,6 +3,7 @@ use Rattle.std.proofs.lemmas.List.Elements.{Contains-get_or}
 use Rattle.cpg_base.proofs.Places.{from_order}
 use Rattle.cpg_base.proofs.before.is_before.Goals as goal
 
+-- each process of the order is one of the graph
 pub at_process-requires : goal.at_process-requires
 at_process-requires c =
     let e = c.processes-process-items.ensures in

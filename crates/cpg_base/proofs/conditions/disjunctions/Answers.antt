@@ -8,9 +8,11 @@ use Rattle.cpg_base.proofs.conditions.disjunctions.Goals.{then-is_some, else-is_
 abbrev none : Edge
 none = record { from = 0; to = 0; size = 0; when = None; frozen = false }
 
+-- without an edge nothing is marked
 pub loop-edge-init : goal.loop-edge-init
 loop-edge-init c = record { marks = no_marks; long = search rules }
 
+-- a conditional edge marks its source, and a simple edge marks nothing
 pub loop-edge-preserved : goal.loop-edge-preserved
 loop-edge-preserved c = elim c.if-is_some.branch [
   | then-is_some w ↦

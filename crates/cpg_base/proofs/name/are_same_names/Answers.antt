@@ -2,6 +2,7 @@ use Rattle.std.proofs.Common.{sym, ◌∙◌}
 use Rattle.std.specs.Cmp.Lexicographic.{bytes_decides, pointwise_decides}
 use Rattle.cpg_base.proofs.name.are_same_names.Goals as goal
 
+-- lists of names are equal if they are so name by name
 pub returns : goal.returns
 returns c =
     let decides = pointwise_decides bytes_decides c.args.names.now c.args.others.now in

@@ -2,6 +2,7 @@ use Rattle.std.proofs.Common.{◌≡◌, ap, length, arith, subst}
 use Rattle.cpg_base.proofs.Standing.{AreWritten, process_within, written_more, all_written}
 use Rattle.cpg_base.proofs.order.places_of.Goals as goal
 
+-- what stands in the order is one of its processes
 pub index_mut-requires : goal.index_mut-requires
 index_mut-requires c =
     let long : length c.as_slice-process-items.result.now ≡ length c.args.processes.now.items =
@@ -9,11 +10,13 @@ index_mut-requires c =
     let w = process_within c.args.processes.now.items c.requires c.loop-i.i (omega arith) in
     rw c.as_slice-process-items.ensures.value (omega (arith, c.loop-i.invariant.long))
 
+-- the place of one more process is written down
 pub loop-i-preserved : goal.loop-i-preserved
 loop-i-preserved c = rw c.as_slice-process-items.ensures.value
     (written_more c.args.processes.now.items c.requires c.loop-i.places.items c.loop-i.i
     (omega (arith, ap length c.as_slice-process-items.ensures.value)) c.loop-i.invariant)
 
+-- once all are written down, the places are those of the order
 pub returns : goal.returns
 returns c = all_written c.args.processes.now.items c.requires c.loop-i.places.items
     (let e : c.loop-i.i ≡ length c.args.processes.now.items =

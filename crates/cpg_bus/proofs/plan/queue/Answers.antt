@@ -3,6 +3,7 @@ use Rattle.std.proofs.lemmas.List.Elements.{Contains-get_or}
 use Rattle.cpg_base.proofs.Inputs.{outputs_parts}
 use Rattle.cpg_bus.proofs.plan.queue.Goals as goal
 
+-- an output of a process is an edge of the graph
 pub is_message-requires : goal.is_message-requires
 is_message-requires c =
     let edge = get_or c.outputs-edge-items.result.now c.loop-edge.edge-index 0 in

@@ -3,6 +3,8 @@ use Rattle.cpg_base.specs.Graph.{outputs, is_message, message_item, condition_of
 use Rattle.cpg_bus.specs.Plan.{broadcasts_of}
 use Rattle.cpg_bus.proofs.plan.queue.Given as goal
 
+-- after each edge, the queue has the broadcast of the process, if it has one, and the message of each output so far
+-- that has one
 abbrev pub invariant-loop-edge : goal.invariant-loop-edge
 invariant-loop-edge l =
     l.items.items ≡ broadcasts_of l.problem (condition_of l.problem l.process) ++ map (message_item l.problem)

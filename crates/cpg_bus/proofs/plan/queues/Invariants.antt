@@ -3,5 +3,6 @@ use Rattle.cpg_base.specs.Numbers.{numbers_below}
 use Rattle.cpg_bus.specs.Plan.{queue_of}
 use Rattle.cpg_bus.proofs.plan.queues.Given as goal
 
+-- after each process, the list has the queue of each process so far
 abbrev pub invariant-loop-process : goal.invariant-loop-process
 invariant-loop-process l = l.queues.items ≡ map (queue_of l.problem) (numbers_below l.process)

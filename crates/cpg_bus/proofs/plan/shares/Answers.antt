@@ -2,6 +2,7 @@ use Rattle.cpg_base.proofs.Lists.{map_below_push}
 use Rattle.cpg_bus.specs.Plan.{share_if}
 use Rattle.cpg_bus.proofs.plan.shares.Goals as goal
 
+-- the share of one more node is added
 pub loop-node-preserved : goal.loop-node-preserved
 loop-node-preserved c = map_below_push (share_if c.args.problem.now) c.loop-node.shares.items c.push.new.self.items
     c.share_if.result c.loop-node.node c.loop-node.invariant c.share_if.ensures

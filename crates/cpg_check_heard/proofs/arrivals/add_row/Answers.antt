@@ -8,6 +8,7 @@ use Rattle.cpg_check_heard.proofs.ArrivalLaws.{late_row}
 use Rattle.cpg_check_heard.proofs.PartLaws.{row_more, row_all}
 use Rattle.cpg_check_heard.proofs.arrivals.add_row.Goals as goal
 
+-- with the next place's column, the columns tell what one place more of the row tells
 pub loop-place-preserved : goal.loop-place-preserved
 loop-place-preserved c =
     let t = c.args.teller.now in
@@ -23,6 +24,7 @@ loop-place-preserved c =
           (c.in_ok-add_column.ensures.told g b s);
     }
 
+-- the places have each column of the row that matches together with the cube, so they tell what the row does
 pub returns-clause-told : goal.returns-clause-told
 returns-clause-told c = λ g b s m.
     let t = c.args.teller.now in

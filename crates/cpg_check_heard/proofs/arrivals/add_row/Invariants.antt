@@ -9,6 +9,9 @@ use Rattle.cpg_check_heard.specs.Arrivals.{IsArrival, do_tell}
 use Rattle.cpg_check_heard.specs.Tellings.{CanTell, is_telling_at}
 use Rattle.cpg_check_heard.proofs.arrivals.add_row.Given as goal
 
+-- After each place of the row. `each`: every arrival is one of the graph, if the line's columns are known, the teller
+-- can tell, and those before were. `told`: the arrivals say a bound by the time exactly if those before do, or a
+-- column at one of the places so far does.
 abbrev pub invariant-loop-place : goal.invariant-loop-place
 invariant-loop-place l = record {
   each : (g : Graph) → All (λ (c : Column). IsKnown g c.cube) l.teller.line.now.columns.now →

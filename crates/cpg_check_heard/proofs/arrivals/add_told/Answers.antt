@@ -19,6 +19,7 @@ part_of-requires-clause-cube c =
     (c.requires.arrivals c.loop-arrival.arrival-index c.arrival-item.result c.loop-arrival-test.true) in
     is.known
 
+-- with the next column's part, the cubes match where one column more tells the bound
 pub loop-arrival-preserved : goal.loop-arrival-preserved
 loop-arrival-preserved c =
     let g = c.args.problem.now in

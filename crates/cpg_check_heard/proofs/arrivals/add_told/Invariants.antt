@@ -6,6 +6,8 @@ use Rattle.cpg_cube.specs.Fit.{IsKnown}
 use Rattle.cpg_check_heard.specs.Arrivals.{do_tell}
 use Rattle.cpg_check_heard.proofs.arrivals.add_told.Given as goal
 
+-- After each arrival. `known`: the cubes in `told` speak of known variables alone. `told`: a scenario matches one of
+-- them exactly if it matched one before or an arrival so far says the bound there.
 abbrev pub invariant-loop-arrival : goal.invariant-loop-arrival
 invariant-loop-arrival l = record {
   known : All (IsKnown l.problem) l.told.items;

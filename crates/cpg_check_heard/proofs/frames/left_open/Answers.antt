@@ -6,6 +6,7 @@ use Rattle.cpg_check_heard.specs.Bounds.{variable_of}
 use Rattle.cpg_check_heard.proofs.Framed.{kept_more, left_more}
 use Rattle.cpg_check_heard.proofs.frames.left_open.Goals as goal
 
+-- the next bound is told wherever the column matches, so it needn't be left
 pub loop-bound-preserved-then-tells_one_whole : goal.loop-bound-preserved-then-tells_one_whole
 loop-bound-preserved-then-tells_one_whole c = record {
   known = c.loop-bound.invariant.known;
@@ -15,6 +16,7 @@ loop-bound-preserved-then-tells_one_whole c = record {
       (c.if-tells_one_whole.ensures s law m));
 }
 
+-- the next bound is left
 pub loop-bound-preserved : goal.loop-bound-preserved
 loop-bound-preserved c =
     let P = λ (b : LiteralBound). IsVariable c.args.problem.now (variable_of b) in

@@ -8,6 +8,8 @@ use Rattle.cpg_check_heard.specs.Arrivals.{do_tell}
 use Rattle.cpg_check_heard.specs.Bounds.{variable_of}
 use Rattle.cpg_check_heard.proofs.frames.left_open.Given as goal
 
+-- After each bound. `known`: each bound left open is of a variable of the graph. `left`: a test that fails for every
+-- bound that the arrivals say holds for a bound left open exactly if it holds for one of the bounds so far.
 abbrev pub invariant-loop-bound : goal.invariant-loop-bound
 invariant-loop-bound l = record {
   known : All (λ (b : LiteralBound). IsVariable l.problem (variable_of b)) l.left.items;

@@ -16,6 +16,7 @@ use Rattle.cpg_check_heard.specs.Ended.{HasActive}
 use Rattle.cpg_check_heard.specs.Unheard.{is_unheard}
 use Rattle.cpg_check_heard.proofs.heard.check_heard.Goals as goal
 
+-- the graph is admitted, the tables are its, keep V1 to V3, and have the rows that were made
 pub first_unheard-requires-clause-hearing : goal.first_unheard-requires-clause-hearing
 first_unheard-requires-clause-hearing c =
     let are : AreTablesOf (head_of c.args.admitted.now.graph) c.args.tables.now.nodes =
@@ -29,6 +30,7 @@ first_unheard-requires-clause-hearing c =
       tellers = c.in_ok-tellers.ensures c.args.tables.now.nodes c.requires.lines;
     }
 
+-- by V1, the processes of a column's literals are active if it matches
 pub first_unheard-requires-clause-active : goal.first_unheard-requires-clause-active
 first_unheard-requires-clause-active c =
     let g = c.args.admitted.now.graph in
@@ -44,6 +46,7 @@ first_unheard-requires-clause-active c =
     (λ d k s l law m n. literal_active g tables s law x below c.requires.rules d k m l n)
     (columns_of tables x) (All-contains_itself (columns_of tables x)))
 
+-- the columns of tables of the graph are on its variables
 pub first_unheard-requires-clause-columns : goal.first_unheard-requires-clause-columns
 first_unheard-requires-clause-columns c =
     let are : AreTablesOf (head_of c.args.admitted.now.graph) c.args.tables.now.nodes =
@@ -56,6 +59,7 @@ pub first_unheard-requires-clause-few : goal.first_unheard-requires-clause-few
 first_unheard-requires-clause-few c = rw c.columns_of-columns.ensures.columns
     (columns_few c.args.tables.now.head c.args.tables.now.nodes c.columns_of-columns.ensures.lawful c.loop-item.item)
 
+-- no earlier item breaks V4, so the first unheard column of this one is the first violation
 pub returns-in-Some-clause-first : goal.returns-in-Some-clause-first
 returns-in-Some-clause-first c =
     let g = c.args.admitted.now.graph in
@@ -72,6 +76,7 @@ returns-in-Some-clause-first c =
       ap item_count c.problem-problem.ensures.problem,
     )) c.loop-item.invariant first
 
+-- no column of the next item is unheard, so none of one item more breaks V4
 pub loop-item-preserved : goal.loop-item-preserved
 loop-item-preserved c =
     let g = c.args.admitted.now.graph in
@@ -80,6 +85,7 @@ loop-item-preserved c =
     rw (← c.columns_of-columns.ensures.columns) (rw c.in_default.is at c.in_ok-unheard.ensures.none) in
     none_more Rule.Heard g c.args.tables.now.nodes c.loop-item.item (λ y s. refl) c.loop-item.invariant none
 
+-- the next item is marked as sure, so none of one item more breaks V4
 pub loop-item-preserved-then-is_marked : goal.loop-item-preserved-then-is_marked
 loop-item-preserved-then-is_marked c =
     let g = c.args.admitted.now.graph in

@@ -14,6 +14,7 @@ use Rattle.cpg_violation.proofs.Columnwise.{broken_place}
 use Rattle.cpg_check_heard.specs.Unheard.{is_column_unheard, is_unheard}
 use Rattle.cpg_check_heard.proofs.heard.first_unheard.Goals as goal
 
+-- the items are those that the item's node hears
 pub ranks-requires-clause-items : goal.ranks-requires-clause-items
 ranks-requires-clause-items c =
     let g = c.args.hearing.now.admitted.now.graph in
@@ -27,6 +28,7 @@ ranks-requires-clause-items c =
     subst (All (Contains (heard_by g c.home-node.result))) (sym are)
     (All-contains_itself (heard_by g c.home-node.result))
 
+-- the items are those that the item's node hears
 pub least_unheard-requires-clause-items : goal.least_unheard-requires-clause-items
 least_unheard-requires-clause-items c =
     let g = c.args.hearing.now.admitted.now.graph in
@@ -37,6 +39,7 @@ least_unheard-requires-clause-items c =
     ∙ hears_of_graph g c.args.hearing.now.tables.now.head c.requires.hearing.head c.requires.hearing.admitted.limits
     c.home-node.result inside
 
+-- no earlier column is unheard, so the least scenario of this one is that of the first unheard column
 pub returns-in-Some-clause-first : goal.returns-in-Some-clause-first
 returns-in-Some-clause-first c =
     let g = c.args.hearing.now.admitted.now.graph in
@@ -56,6 +59,7 @@ returns-in-Some-clause-first c =
       columns = c.loop-place.invariant;
     }
 
+-- the column at this place is always heard, so all up to the next place are
 pub loop-place-preserved : goal.loop-place-preserved
 loop-place-preserved c =
     let g = c.args.hearing.now.admitted.now.graph in

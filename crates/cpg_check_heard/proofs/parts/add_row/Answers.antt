@@ -8,6 +8,7 @@ use Rattle.cpg_check_heard.proofs.ArrivalLaws.{late_row}
 use Rattle.cpg_check_heard.proofs.PartLaws.{told_add, known_add, row_more, row_all}
 use Rattle.cpg_check_heard.proofs.parts.add_row.Goals as goal
 
+-- with the next place's part, the cubes match where one place more of the row tells the bound
 pub loop-place-preserved : goal.loop-place-preserved
 loop-place-preserved c =
     let g = c.args.problem.now in
@@ -25,6 +26,7 @@ loop-place-preserved c =
           c.loop-place.told.items c.in_ok-part.part c.in_ok-part.ensures.part s i);
     }
 
+-- the places have each column of the row that matches together with the cube, so they tell what the row does
 pub returns-clause-told : goal.returns-clause-told
 returns-clause-told c = λ s i m.
     let g = c.args.problem.now in
@@ -36,6 +38,7 @@ returns-clause-told c = λ s i m.
     (λ j l t.
     subst (λ xs. Contains xs j) (sym c.as_slice-place-items.ensures.value) (c.in_ok-places.ensures s j l t m)))
 
+-- even the first column comes too late, so the row tells nothing
 pub returns-then-not-may_have_come-clause-told : goal.returns-then-not-may_have_come-clause-told
 returns-then-not-may_have_come-clause-told c = λ s i m.
     let g = c.args.problem.now in

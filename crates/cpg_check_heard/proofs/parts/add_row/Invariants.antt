@@ -6,6 +6,8 @@ use Rattle.cpg_cube.specs.Fit.{IsKnown}
 use Rattle.cpg_check_heard.specs.Tellings.{is_telling_at}
 use Rattle.cpg_check_heard.proofs.parts.add_row.Given as goal
 
+-- After each place of the row. `known`: the cubes in `told` speak of known variables alone. `told`: a scenario
+-- matches one of them exactly if it matched one before or a column at one of the places so far says the bound there.
 abbrev pub invariant-loop-place : goal.invariant-loop-place
 invariant-loop-place l = record {
   known : All (IsKnown l.problem) l.told.items;

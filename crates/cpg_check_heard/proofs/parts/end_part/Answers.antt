@@ -24,6 +24,7 @@ returns-in_default-clause-part c = end_apart c.args.problem.now c.counts_by-coun
     c.counts_by-counts.result c.counts_by-counts.ensures.counts (omega (arith, c.if-counts-eq0.false))
     (rw c.in_default.is at c.in_ok-part.ensures.none)
 
+-- the part has the counts with which the execution has ended and the numbers within the bound
 pub returns-clause-part : goal.returns-clause-part
 returns-clause-part c =
     let g = c.args.problem.now in
@@ -36,6 +37,7 @@ returns-clause-part c =
     c.counts_by-counts.result c.counts_by-counts.ensures.counts (omega (arith, c.if-counts-eq0.false)) c.in-Some.part
     c.in_ok-told.told (rw c.in-Some.is at c.in_ok-part.ensures.both) told
 
+-- the part narrows the column's cube by literals on known variables
 pub returns-clause-known : goal.returns-clause-known
 returns-clause-known c =
     let g = c.args.problem.now in

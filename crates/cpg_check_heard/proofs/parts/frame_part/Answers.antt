@@ -8,6 +8,7 @@ use Rattle.cpg_check_heard.specs.Tellings.{IsPart, is_value}
 use Rattle.cpg_check_heard.proofs.PartLaws.{frame_value, part_with, known_with, range_variable}
 use Rattle.cpg_check_heard.proofs.parts.frame_part.Goals as goal
 
+-- no literal tells the bound, so the frame does where the value that it carries is within it
 pub returns-clause-part : goal.returns-clause-part
 returns-clause-part c =
     let g = c.args.problem.now in

@@ -6,6 +6,7 @@ use Rattle.cpg_check_heard.specs.Tellings.{AreTellers}
 use Rattle.cpg_check_heard.proofs.TellerLists.{tellers_more}
 use Rattle.cpg_check_heard.proofs.tellers.tellers.Goals as goal
 
+-- the row of the next item is added after those before
 pub loop-item-preserved : goal.loop-item-preserved
 loop-item-preserved c = λ tables are.
     let g = c.args.admitted.now.graph in
@@ -22,6 +23,7 @@ loop-item-preserved c = λ tables are.
     (c.loop-item.invariant tables are)
     (record { line = line; telling = rw (← c.problem-problem.ensures.problem) c.telling_of-telling.ensures })
 
+-- the loop has seen all items
 pub returns : goal.returns
 returns c = λ tables are.
     let g = c.args.admitted.now.graph in

@@ -2,6 +2,7 @@ use Rattle.std.proofs.Common.{◌≡◌, ◌++◌, drop, flat_map}
 use Rattle.cpg_check_quick.specs.Bounds.{unknown_bounds}
 use Rattle.cpg_check_quick.proofs.bounds.list_unknown.Given as goal
 
+-- the unknown bounds of all literals are those listed so far, and then those of the literals that are left
 abbrev pub invariant-loop-literal : goal.invariant-loop-literal
 invariant-loop-literal l = flat_map (unknown_bounds l.k l.known) l.literals ≡ l.bounds.items
     ++ flat_map (unknown_bounds l.k l.known) (drop l.literal-index l.literals)

@@ -6,6 +6,7 @@ use Rattle.cpg_violation.proofs.SpaceLaws.{few_of}
 use Rattle.cpg_row_trees.proofs.TreeLaws.{tree_of_row}
 use Rattle.cpg_check_quick.proofs.course.course_of.Goals as goal
 
+-- the columns are those of the item's row, the first and last times bound theirs, and the span is as given
 pub returns : goal.returns
 returns c =
     let g = c.args.admitted.now.graph in

@@ -5,6 +5,7 @@ use Rattle.cpg_check_quick.specs.Order.{execution}
 use Rattle.cpg_check_quick.proofs.OrderLaws.{courses_more}
 use Rattle.cpg_check_quick.proofs.course.executions.Goals as goal
 
+-- the course of one more execution is pushed
 pub loop-process-preserved : goal.loop-process-preserved
 loop-process-preserved c = rw c.in_ok-push.ensures.items
     (courses_more (execution c.args.admitted.now.graph) c.args.admitted.now.graph c.args.tables.now.nodes
@@ -12,6 +13,7 @@ loop-process-preserved c = rw c.in_ok-push.ensures.items
     (c.course_of.ensures (execution c.args.admitted.now.graph c.loop-process.process)
     (rw c.problem-problem.ensures.problem at c.of_execution-span.ensures)))
 
+-- the space has all scenarios of the graph, and the loop made a course for each process
 pub returns-clause-courses : goal.returns-clause-courses
 returns-clause-courses c =
     let g = c.args.admitted.now.graph in

@@ -7,6 +7,7 @@ use Rattle.cpg_check_quick.specs.Order.{frame}
 use Rattle.cpg_check_quick.proofs.OrderLaws.{courses_more}
 use Rattle.cpg_check_quick.proofs.course.frames.Goals as goal
 
+-- the course of the next item, whose frames take its node's slot, is added to those before
 pub loop-item-preserved : goal.loop-item-preserved
 loop-item-preserved c =
     let g = c.args.admitted.now.graph in
@@ -18,6 +19,7 @@ loop-item-preserved c =
     (c.course_of.ensures (frame g c.loop-item.item)
     (subst (λ n. IsSpan g (λ _. n) c.fixed-span.result) length (c.fixed-span.ensures g))))
 
+-- the space has all scenarios of the graph, and the loop made a course for each item
 pub returns : goal.returns
 returns c =
     let g = c.args.admitted.now.graph in

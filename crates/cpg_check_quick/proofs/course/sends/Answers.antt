@@ -5,12 +5,14 @@ use Rattle.cpg_check_quick.specs.Order.{sending}
 use Rattle.cpg_check_quick.proofs.OrderLaws.{courses_more}
 use Rattle.cpg_check_quick.proofs.course.sends.Goals as goal
 
+-- the course of one more sending is pushed
 pub loop-item-preserved : goal.loop-item-preserved
 loop-item-preserved c = rw c.in_ok-push.ensures.items
     (courses_more (sending) c.args.admitted.now.graph c.args.tables.now.nodes c.loop-item.item c.loop-item.list.items
     c.course_of.result c.loop-item.invariant
     (c.course_of.ensures (sending c.loop-item.item) (c.one.ensures c.args.admitted.now.graph)))
 
+-- the space has all scenarios of the graph, and the loop made a course for each item
 pub returns-clause-courses : goal.returns-clause-courses
 returns-clause-courses c =
     let g = c.args.admitted.now.graph in

@@ -5,6 +5,7 @@ use Rattle.cpg_tree.proofs.Passes.{of_true}
 use Rattle.cpg_violation.proofs.SureLaws.{one_more}
 use Rattle.cpg_check_quick.proofs.heard.heard_marks.Goals as goal
 
+-- the mark of the next item is right: if it is set, the item keeps V4
 pub loop-item-preserved : goal.loop-item-preserved
 loop-item-preserved c =
     let below : c.loop-item.item < item_count c.args.admitted.now.graph =
@@ -16,5 +17,6 @@ loop-item-preserved c =
     (λ marked. c.requires.inputs c.loop-item.item below (sym c.is_marked-is_in_time.ensures ∙ marked))
     c.columns_of.ensures.columns)))
 
+-- the marks that are made are sure, as after each turn
 pub returns : goal.returns
 returns c = c.loop-item.invariant.sure

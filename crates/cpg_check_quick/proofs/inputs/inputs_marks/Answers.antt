@@ -3,6 +3,7 @@ use Rattle.cpg_tree.proofs.Passes.{of_true}
 use Rattle.cpg_violation.proofs.SureLaws.{one_more}
 use Rattle.cpg_check_quick.proofs.inputs.inputs_marks.Goals as goal
 
+-- the mark of the next item is right: if it is set, the item keeps V5
 pub loop-item-preserved : goal.loop-item-preserved
 loop-item-preserved c = rw c.in_ok-push.ensures.items
     (one_more c.args.admitted.now.graph c.args.tables.now.nodes Rule.Inputs c.loop-item.item c.loop-item.marks.items
@@ -11,5 +12,6 @@ loop-item-preserved c = rw c.in_ok-push.ensures.items
     (record { links = rw c.problem.ensures.problem at c.in_ok-links.ensures; turns = c.requires.turns; frames = c.requires.frames })
     c.requires.rules c.columns_of.ensures.columns)))
 
+-- the marks that are made are sure, as after each turn
 pub returns : goal.returns
 returns c = c.loop-item.invariant.sure

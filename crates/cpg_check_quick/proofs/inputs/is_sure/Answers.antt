@@ -4,6 +4,7 @@ use Rattle.cpg_tree.proofs.Passes.{of_true}
 use Rattle.cpg_check_quick.proofs.InputLaws.{send_sure}
 use Rattle.cpg_check_quick.proofs.inputs.is_sure.Goals as goal
 
+-- the item is a send, and its producer is over before each column, so it keeps V5
 pub returns-then-item-processes : goal.returns-then-item-processes
 returns-then-item-processes c =
     of_true c.is_after_producer.result c.is_after_producer.ensures (λ before tables w rules is.

@@ -5,6 +5,7 @@ use Rattle.cpg_cube.specs.declared.literal.Literal.{Literal}
 use Rattle.cpg_cube.proofs.Above.{all_under}
 use Rattle.cpg_check_quick.proofs.listening.are_below.Goals as goal
 
+-- the last literal has the highest variable, so if that is below, all are
 pub returns-in-Some : goal.returns-in-Some
 returns-in-Some c = OnTrue_from (nat_lt c.in-Some.last.now.variable c.args.variable)
     (All (λ (l : Literal). l.variable < c.args.variable) c.args.literals.now)

@@ -5,6 +5,7 @@ use Rattle.cpg_cube.specs.declared.literal.Literal.{Literal}
 use Rattle.cpg_violation.proofs.SureLaws.{each_all}
 use Rattle.cpg_check_quick.proofs.listening.are_known.Goals as goal
 
+-- this turn's test shows it of one more
 pub loop-literal-preserved : goal.loop-literal-preserved
 loop-literal-preserved c both =
     let parts = and_parts _ _ both in
@@ -12,6 +13,7 @@ loop-literal-preserved c both =
     c.loop-literal.literal-index (record { variable = 0; low = 0; high = 0 }) c.loop-literal-test.true
     (c.loop-literal.invariant parts.0) parts.1
 
+-- the loop has gone over all of them, so what holds of those so far holds of all
 pub returns : goal.returns
 returns c = OnTrue_from _ _ (λ are. each_all (λ (m : Literal). get_or c.args.known.now m.variable false ≡ true)
     c.args.literals.now c.loop-literal.literal-index c.loop-literal-test.false

@@ -6,11 +6,13 @@ use Rattle.cpg_check_quick.specs.Order.{IsBefore, execution}
 use Rattle.cpg_check_quick.proofs.OwnLaws.{before_ended, earlier_ended, producer_ended}
 use Rattle.cpg_check_quick.proofs.listening.has_ended.Goals as goal
 
+-- the item is a start, so the process is over before it by the order of the executions
 pub returns-then-item-processes : goal.returns-then-item-processes
 returns-then-item-processes c = of_true c.is_before.result c.is_before.ensures (λ before tables turns rules sent.
     let g = c.args.admitted.now.graph in
     before_ended g tables rules c.args.item c.args.process c.requires.process (before g tables (execution g) turns))
 
+-- the process is the producer of the send, which keeps V5, so it has ended
 pub returns-then-process-producer : goal.returns-then-process-producer
 returns-then-process-producer c = λ tables turns rules sent.
     let g = c.args.admitted.now.graph in
@@ -25,6 +27,7 @@ returns-then-process-producer c = λ tables turns rules sent.
     subst (λ q. IsEndedBy g tables q c.args.item) (sym (c.if-process-producer.true ∙ from))
     (producer_ended g tables rules c.args.item c.requires.item send (sent c.if-not-is_sent_in_time.false))
 
+-- the process is always over before the producer, and so it has ended by the item's columns
 pub returns : goal.returns
 returns c = of_true c.is_before-2.result c.is_before-2.ensures (λ before tables turns rules sent.
     let g = c.args.admitted.now.graph in

@@ -3,6 +3,7 @@ use Rattle.cpg_base.specs.Graph.{home, node_of}
 use Rattle.cpg_tree.proofs.Passes.{of_true}
 use Rattle.cpg_check_quick.proofs.listening.is_own_ended.Goals as goal
 
+-- the variable's owner is on the item's node and has always ended by the item's columns
 pub returns : goal.returns
 returns c = of_true c.has_ended.result c.has_ended.ensures (λ ended tables turns rules sent. record {
   process = c.in-Some.process;

@@ -4,9 +4,11 @@ use Rattle.cpg_tree.proofs.Passes.{of_true}
 use Rattle.cpg_check_quick.proofs.OwnLaws.{none_marked, own_more}
 use Rattle.cpg_check_quick.proofs.listening.own_ended.Goals as goal
 
+-- no variable is marked yet
 pub loop-variable-init : goal.loop-variable-init
 loop-variable-init c = record { long = refl; ended = λ tables turns rules sent v t. absurd (none_marked 256 v t) }
 
+-- the next variable is marked only if its process has always ended
 pub loop-variable-preserved : goal.loop-variable-preserved
 loop-variable-preserved c = record {
   long =

@@ -8,6 +8,8 @@ use Rattle.cpg_check_quick.specs.Order.{execution}
 use Rattle.cpg_check_quick.specs.Turns.{AreTurns}
 use Rattle.cpg_check_quick.proofs.listening.own_ended.Given as goal
 
+-- there are 256 marks, and each variable that is marked is of a process on the item's node that has always ended by
+-- the item's columns
 abbrev pub invariant-loop-variable : goal.invariant-loop-variable
 invariant-loop-variable l = record {
   long : length l.known ≡ 256;

@@ -5,6 +5,7 @@ use Rattle.cpg_base.proofs.Lists.{filter_below_skips, filter_below_takes}
 use Rattle.cpg_check_quick.proofs.processor.lower_on_node.Goals as goal
 use Rattle.cpg_check_quick.proofs.processor.lower_on_node.Goals.{then-node_of-node+in_ok-push, else-node_of-node}
 
+-- the next process is added exactly if it is on the node of the given one
 pub loop-other-preserved : goal.loop-other-preserved
 loop-other-preserved c =
     let g = c.args.problem.now in

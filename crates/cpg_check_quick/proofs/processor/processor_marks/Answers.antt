@@ -5,6 +5,7 @@ use Rattle.cpg_tree.proofs.Passes.{of_true}
 use Rattle.cpg_violation.proofs.SureLaws.{one_more}
 use Rattle.cpg_check_quick.proofs.processor.processor_marks.Goals as goal
 
+-- the mark of the next item is right: if it is set, the item keeps V6
 pub loop-item-preserved : goal.loop-item-preserved
 loop-item-preserved c = rw c.in_ok-push.ensures.items (record {
   long =

@@ -6,6 +6,8 @@ use Rattle.cpg_check_quick.specs.Order.{execution}
 use Rattle.cpg_check_quick.specs.Turns.{AreTurns}
 use Rattle.cpg_check_quick.proofs.processor.processor_marks.Given as goal
 
+-- after each item, there is a mark for each item so far, and a mark that is set means that the rule Processor surely
+-- holds
 abbrev pub invariant-loop-item : goal.invariant-loop-item
 invariant-loop-item l = record {
   long : length l.marks.items ≡ l.item;

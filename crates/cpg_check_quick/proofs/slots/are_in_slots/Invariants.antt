@@ -5,6 +5,7 @@ use Rattle.cpg_cube.specs.Cube.{matches}
 use Rattle.cpg_cube.specs.declared.column.Column.{Column}
 use Rattle.cpg_check_quick.proofs.slots.are_in_slots.Given as goal
 
+-- in each scenario, each column so far that matches has the time of a slot of the node
 abbrev pub invariant-loop-column : goal.invariant-loop-column
 invariant-loop-column l = All (λ (c : Column). (s : Scenario) → IsScenario l.problem s → matches c.cube s ≡ true →
     next_slot l.problem l.node c.time ≡ c.time) (take l.column-index l.columns)

@@ -11,6 +11,7 @@ use Rattle.cpg_check_quick.specs.Order.{sending}
 use Rattle.cpg_check_quick.proofs.ClashLaws.{sure_own_slots}
 use Rattle.cpg_check_quick.proofs.slots.has_own_slots.Goals as goal
 
+-- each column starts a slot, and the sends are apart from those of lower numbers, so the item keeps V7
 pub returns : goal.returns
 returns c =
     let g = c.args.admitted.now.graph in

@@ -5,6 +5,7 @@ use Rattle.cpg_row_trees.specs.Trees.{IsRowTree}
 use Rattle.cpg_check_quick.proofs.OrderLaws.{course_at}
 use Rattle.cpg_check_quick.proofs.speakers.speaker_of.Goals as goal
 
+-- the node hears the item, and its columns and tree are those of the course that was looked up
 pub returns : goal.returns
 returns c = λ tables are.
     let g = c.args.problem.now in

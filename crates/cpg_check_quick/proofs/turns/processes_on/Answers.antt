@@ -3,6 +3,7 @@ use Rattle.cpg_base.specs.Graph.{process_count}
 use Rattle.cpg_violation.proofs.Violations.{long_order}
 use Rattle.cpg_check_quick.proofs.turns.processes_on.Goals as goal
 
+-- the process at a place of the order is one of the graph
 pub node_of-requires : goal.node_of-requires
 node_of-requires c = omega (
   arith,

@@ -13,6 +13,7 @@ use Rattle.cpg_violation.proofs.Marked.{marked_more}
 use Rattle.cpg_violation.proofs.Violations.{columns_known, none_more, first_violation}
 use Rattle.cpg_check_rows.proofs.activity.check_activity.Goals as goal
 
+-- the columns of tables of the graph are on its variables
 pub first_idle-requires-clause-columns : goal.first_idle-requires-clause-columns
 first_idle-requires-clause-columns c =
     let are : AreTablesOf (head_of c.args.admitted.now.graph) c.args.tables.now.nodes =
@@ -25,6 +26,7 @@ pub first_idle-requires-clause-few : goal.first_idle-requires-clause-few
 first_idle-requires-clause-few c = rw c.columns_of-columns.ensures.columns
     (columns_few c.args.tables.now.head c.args.tables.now.nodes c.columns_of-columns.ensures.lawful c.loop-item.item)
 
+-- no earlier item breaks V1, so the first idle column of this one is the first violation
 pub returns-in-Some-clause-first : goal.returns-in-Some-clause-first
 returns-in-Some-clause-first c =
     let g = c.args.admitted.now.graph in
@@ -39,6 +41,7 @@ returns-in-Some-clause-first c =
     (omega (arith, c.loop-item-test.true, c.item_count-item-end.ensures, ap item_count c.problem.ensures.problem))
     c.loop-item.invariant first
 
+-- no column of the next item is idle, so none of one item more breaks V1
 pub loop-item-preserved : goal.loop-item-preserved
 loop-item-preserved c =
     let g = c.args.admitted.now.graph in
@@ -47,6 +50,7 @@ loop-item-preserved c =
     rw (← c.columns_of-columns.ensures.columns) (rw c.in_default.is at c.in_ok-idle.ensures.none) in
     none_more Rule.Activity g c.args.tables.now.nodes c.loop-item.item (λ y s. refl) c.loop-item.invariant none
 
+-- the next item is marked as sure, so none of one item more breaks V1
 pub loop-item-preserved-then-is_marked : goal.loop-item-preserved-then-is_marked
 loop-item-preserved-then-is_marked c =
     let g = c.args.admitted.now.graph in

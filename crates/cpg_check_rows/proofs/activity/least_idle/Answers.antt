@@ -6,6 +6,7 @@ use Rattle.cpg_violation.specs.Activity.{comes_to}
 use Rattle.cpg_check_rows.proofs.ActivityLaws.{idle_found}
 use Rattle.cpg_check_rows.proofs.activity.least_idle.Goals as goal
 
+-- the process is active exactly if its guard comes to an activation
 pub returns : goal.returns
 returns c =
     let g = c.args.admitted.now.graph in

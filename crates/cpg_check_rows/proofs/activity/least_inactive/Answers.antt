@@ -3,6 +3,7 @@ use Rattle.cpg_violation.proofs.GuardLaws.{as_source}
 use Rattle.cpg_check_rows.proofs.ActivityLaws.{inactive_as, inactive_never}
 use Rattle.cpg_check_rows.proofs.activity.least_inactive.Goals as goal
 
+-- nothing makes the item active, so it is inactive wherever the cube matches
 pub returns-in-Nothing : goal.returns-in-Nothing
 returns-in-Nothing c =
     let g = c.args.admitted.now.graph in
@@ -12,6 +13,7 @@ returns-in-Nothing c =
     inactive_never g c.args.admitted.now.order c.args.cube.now x is c.least.result
     (rw c.problem-problem.ensures.problem at c.least.ensures.first)
 
+-- the item is active exactly if its process is
 pub returns-in-Process : goal.returns-in-Process
 returns-in-Process c =
     let g = c.args.admitted.now.graph in
@@ -21,6 +23,7 @@ returns-in-Process c =
     inactive_as g c.args.admitted.now.order c.args.cube.now x
     (ItemSource.Process c.in-Process.process) is c.least_idle.result c.least_idle.ensures
 
+-- the item is active exactly if its edge is live
 pub returns-in-Edge : goal.returns-in-Edge
 returns-in-Edge c =
     let g = c.args.admitted.now.graph in

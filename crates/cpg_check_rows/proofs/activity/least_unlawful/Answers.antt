@@ -11,6 +11,7 @@ pub earlier-requires-clause-order : goal.earlier-requires-clause-order
 earlier-requires-clause-order c =
     rw (c.order.ensures.order, c.problem.ensures.problem) (long_order c.order.ensures.admitted)
 
+-- the column is unlawful if its item is inactive or the process of a literal is, so the earlier of both is the least
 pub returns : goal.returns
 returns c =
     let g = c.args.admitted.now.graph in

@@ -10,6 +10,7 @@ use Rattle.cpg_violation.proofs.Violations.{long_order}
 use Rattle.cpg_check_rows.proofs.ActivityLaws.{unlive_idle, unlive_either}
 use Rattle.cpg_check_rows.proofs.activity.least_unlive.Goals as goal
 
+-- the edge asks for no value, so it isn't live exactly if its source isn't active
 pub returns-in_default : goal.returns-in_default
 returns-in_default c =
     let g = c.args.admitted.now.graph in
@@ -37,6 +38,7 @@ earlier-requires-clause-second c = lawful_if_some c.problem-problem.result.now c
     (λ s. matches c.args.cube.now s && holds s c.in-Some.literal) c.in_ok-other.other
     (c.in_ok-other.ensures c.order-order.result.now)
 
+-- the edge isn't live if its source isn't active or has the other value, so the earlier of both is the least
 pub returns : goal.returns
 returns c =
     let g = c.args.admitted.now.graph in

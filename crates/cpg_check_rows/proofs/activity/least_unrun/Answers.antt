@@ -11,6 +11,7 @@ pub earlier-found-requires-clause-order : goal.earlier-found-requires-clause-ord
 earlier-found-requires-clause-order c =
     rw (c.order-order.ensures.order, c.problem-problem.ensures.problem) (long_order c.order-order.ensures.admitted)
 
+-- the earlier of the answer so far and the next literal's is the first of one literal more
 pub loop-literal-preserved : goal.loop-literal-preserved
 loop-literal-preserved c =
     let g = c.args.admitted.now.graph in

@@ -6,6 +6,7 @@ use Rattle.cpg_cube.proofs.Narrow.{known-narrowed}
 use Rattle.cpg_check_rows.proofs.ActivityLaws.{with_part}
 use Rattle.cpg_check_rows.proofs.activity.least_with.Goals as goal
 
+-- the cube with the literal is known to the graph
 pub least-requires : goal.least-requires
 least-requires c =
     let g = c.args.problem.now in

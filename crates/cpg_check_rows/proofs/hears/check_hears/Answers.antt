@@ -15,6 +15,7 @@ pub first_hear-requires-clause-few : goal.first_hear-requires-clause-few
 first_hear-requires-clause-few c = rw c.columns_of-sent.ensures.columns
     (columns_few c.args.tables.now.head c.args.tables.now.nodes c.columns_of-sent.ensures.lawful c.loop-item.item)
 
+-- all earlier items are heard as they are due, so the difference found here is the first
 pub returns-in-Some-clause-first : goal.returns-in-Some-clause-first
 returns-in-Some-clause-first c =
     let g = c.args.admitted.now.graph in
@@ -43,6 +44,7 @@ returns-in-Some-clause-first c =
       column = first;
     }
 
+-- the next item is heard as it is due, too
 pub loop-item-preserved : goal.loop-item-preserved
 loop-item-preserved c =
     let g = c.args.admitted.now.graph in
@@ -56,6 +58,7 @@ loop-item-preserved c =
     let well : IsHeardWell g c.args.tables.now.nodes c.loop-item.item = rw (← due, ← nodes) c.in_default.ensures.same in
     heard_more g c.args.tables.now.nodes c.loop-item.item c.loop-item.invariant well
 
+-- all items are heard as they are due, so V10 holds
 pub returns-clause-none : goal.returns-clause-none
 returns-clause-none c =
     let g = c.args.admitted.now.graph in

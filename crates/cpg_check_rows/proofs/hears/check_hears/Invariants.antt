@@ -2,5 +2,6 @@ use Rattle.std.proofs.Common.{ℕ, ◌<◌}
 use Rattle.cpg_check_rows.specs.Hears.{IsHeardWell}
 use Rattle.cpg_check_rows.proofs.hears.check_hears.Given as goal
 
+-- each item so far is heard well
 abbrev pub invariant-loop-item : goal.invariant-loop-item
 invariant-loop-item l = (x : ℕ) → x < l.item → IsHeardWell l.admitted.graph l.tables.nodes x

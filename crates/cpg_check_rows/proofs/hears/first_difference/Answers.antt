@@ -4,6 +4,7 @@ use Rattle.cpg_table.specs.Valid.{later_by}
 use Rattle.cpg_violation.proofs.Differences.{same_more_mapped, ends_differ}
 use Rattle.cpg_check_rows.proofs.hears.first_difference.Goals as goal
 
+-- the columns at the next place are the same but for the delay, so one place more is
 pub loop-place-preserved : goal.loop-place-preserved
 loop-place-preserved c =
     let same : c.index-heard-place.result ≡ later_by c.args.delay c.index-sent-place.result = search rules in
@@ -12,6 +13,7 @@ loop-place-preserved c =
     (omega (arith, c.min-common.ensures))
     (omega (arith, c.min-common.ensures)) c.index-heard-place.is c.index-sent-place.is same c.loop-place.invariant
 
+-- all places that both rows have are the same, so the rows differ where the shorter one ends
 pub returns-clause-differ : goal.returns-clause-differ
 returns-clause-differ c =
     let due = map (later_by c.args.delay) c.args.sent.now in

@@ -12,6 +12,7 @@ use Rattle.cpg_violation.proofs.Violations.{columns_known}
 use Rattle.cpg_check_rows.proofs.PresentLaws.{present_more}
 use Rattle.cpg_check_rows.proofs.present.check_present.Goals as goal
 
+-- the columns of tables of the graph are on its variables
 pub least_absent-requires-clause-columns : goal.least_absent-requires-clause-columns
 least_absent-requires-clause-columns c =
     let are : AreTablesOf (head_of c.args.admitted.now.graph) c.args.tables.now.nodes =
@@ -20,6 +21,7 @@ least_absent-requires-clause-columns c =
     rw c.columns_of-columns.ensures.columns
     (columns_known c.problem-problem.ensures.admitted c.args.tables.now.nodes are c.loop-item.item)
 
+-- the next item is never active without a column, so none of one item more breaks V3
 pub loop-item-preserved : goal.loop-item-preserved
 loop-item-preserved c =
     let g = c.args.admitted.now.graph in
@@ -28,6 +30,7 @@ loop-item-preserved c =
     rw (← c.columns_of-columns.ensures.columns) (rw c.in_default.is at c.in_ok-absent.ensures) in
     present_more g c.args.tables.now.nodes c.loop-item.item c.loop-item.invariant none
 
+-- the next item is marked as sure, so none of one item more breaks V3
 pub loop-item-preserved-then-is_marked : goal.loop-item-preserved-then-is_marked
 loop-item-preserved-then-is_marked c =
     let g = c.args.admitted.now.graph in

@@ -4,6 +4,7 @@ use Rattle.cpg_table.specs.Valid.{breaks}
 use Rattle.cpg_table.specs.declared.rule.Rule.{Rule}
 use Rattle.cpg_check_rows.proofs.present.check_present.Given as goal
 
+-- no scenario breaks the rule on presence at an item so far, whatever the column
 abbrev pub invariant-loop-item : goal.invariant-loop-item
 invariant-loop-item l = (x : ℕ) (column : Option ℕ) (s : Scenario) → x < l.item → IsScenario l.admitted.graph s →
     breaks Rule.Present l.admitted.graph l.tables.nodes s x column ≡ false

@@ -3,6 +3,7 @@ use Rattle.cpg_violation.proofs.GuardLaws.{as_source}
 use Rattle.cpg_check_rows.proofs.PresentLaws.{absent_as, absent_never}
 use Rattle.cpg_check_rows.proofs.present.least_absent.Goals as goal
 
+-- nothing makes the item active, so it never lacks a column
 pub returns-in-Nothing : goal.returns-in-Nothing
 returns-in-Nothing c =
     let g = c.args.admitted.now.graph in
@@ -11,6 +12,7 @@ returns-in-Nothing c =
     (rw c.problem.ensures.problem at c.item_source.ensures.active) c.in-Nothing.is in
     absent_never g c.args.admitted.now.order c.args.columns.now x is
 
+-- the item is active exactly if its process is
 pub returns-in-Process : goal.returns-in-Process
 returns-in-Process c =
     let g = c.args.admitted.now.graph in
@@ -20,6 +22,7 @@ returns-in-Process c =
     absent_as g c.args.admitted.now.order c.args.columns.now x
     (ItemSource.Process c.in-Process.process) is c.least_unstarted.result c.least_unstarted.ensures
 
+-- the item is active exactly if its edge is live
 pub returns-in-Edge : goal.returns-in-Edge
 returns-in-Edge c =
     let g = c.args.admitted.now.graph in

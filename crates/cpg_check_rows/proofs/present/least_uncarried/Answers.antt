@@ -10,6 +10,7 @@ use Rattle.cpg_cube.specs.declared.column.Column.{Column}
 use Rattle.cpg_check_rows.proofs.PresentLaws.{absent_from, live_where}
 use Rattle.cpg_check_rows.proofs.present.least_uncarried.Goals as goal
 
+-- the edge is live exactly if its source is active and the cube of the value asked for matches
 pub returns : goal.returns
 returns c =
     let g = c.args.admitted.now.graph in

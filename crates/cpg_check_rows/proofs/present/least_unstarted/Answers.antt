@@ -4,6 +4,8 @@ use Rattle.cpg_violation.proofs.Tests.{with_true}
 use Rattle.cpg_check_rows.proofs.PresentLaws.{absent_from}
 use Rattle.cpg_check_rows.proofs.present.least_unstarted.Goals as goal
 
+-- the whole cube matches every scenario, so the process is active without a column exactly in those that were
+-- searched
 pub returns : goal.returns
 returns c =
     let g = c.args.admitted.now.graph in

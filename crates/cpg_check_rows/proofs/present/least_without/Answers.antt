@@ -21,6 +21,7 @@ least_at-requires-clause-list c =
     (all_mapped (IsKnown g) (λ (c : Column). c.cube) c.args.columns.now c.requires.columns) in
     rw (c.as_slice.ensures.value) (all_unmapped (IsKnown g) seen c.in_ok-by.by.items cubes)
 
+-- what the columns leave of the cube, where the guard comes to an activation, is what was searched
 pub returns : goal.returns
 returns c =
     let g = c.args.admitted.now.graph in

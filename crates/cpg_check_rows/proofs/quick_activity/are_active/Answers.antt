@@ -7,6 +7,7 @@ use Rattle.cpg_base.specs.Graph.{process_of_variable}
 use Rattle.cpg_cube.specs.declared.literal.Literal.{Literal}
 use Rattle.cpg_check_rows.proofs.quick_activity.are_active.Goals as goal
 
+-- the process of the next literal is active, too
 pub loop-literal-preserved : goal.loop-literal-preserved
 loop-literal-preserved c s law lies =
     let g = c.args.admitted.now.graph in

@@ -6,6 +6,7 @@ use Rattle.cpg_base.specs.Scenario.{Scenario, IsScenario}
 use Rattle.cpg_tree.specs.Space.{IsInSpace}
 use Rattle.cpg_check_rows.proofs.quick_activity.are_active.Given as goal
 
+-- in each scenario of the space the process of each literal so far is active
 abbrev pub invariant-loop-literal : goal.invariant-loop-literal
 invariant-loop-literal l = (s : Scenario) → IsScenario l.admitted.graph s → IsInSpace l.space s →
     list_any (λ l'. not (active l.admitted.graph s.values (process_of_variable l.admitted.graph l'.variable)))

@@ -4,6 +4,7 @@ use Rattle.cpg_cube.specs.Cube.{matches}
 use Rattle.cpg_table.specs.Valid.{breaks_activity}
 use Rattle.cpg_check_rows.proofs.quick_activity.are_lawful.Given as goal
 
+-- no column so far breaks the rule on activity in a scenario that matches it
 abbrev pub invariant-loop-column : goal.invariant-loop-column
 invariant-loop-column l = All (λ c. (s : Scenario) → IsScenario l.admitted.graph s → matches c.cube s ≡ true →
     breaks_activity l.admitted.graph s l.item c ≡ false) (take l.column-index l.columns)

@@ -16,6 +16,8 @@ returns-then-not-narrow_to c s law m =
     absurd (true≢false (sym (c.on_values.ensures s (ap (λ ls. matches ls s) c.literals-literals.ensures.literals ∙ m))
     ∙ none s (c.requires.everywhere s law)))
 
+-- a scenario that the column matches lies in the space of its literals on values, where the item and processes are
+-- active
 pub returns : goal.returns
 returns c =
     let g = c.args.admitted.now.graph in

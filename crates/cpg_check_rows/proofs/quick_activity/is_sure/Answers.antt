@@ -12,6 +12,7 @@ use Rattle.cpg_violation.proofs.Violations.{columns_known}
 use Rattle.cpg_check_rows.proofs.LawfulRows.{always_sure, lawful_sure}
 use Rattle.cpg_check_rows.proofs.quick_activity.is_sure.Goals as goal
 
+-- the columns of tables of the graph are on its variables
 pub are_lawful-requires-clause-columns : goal.are_lawful-requires-clause-columns
 are_lawful-requires-clause-columns c =
     let are : AreTablesOf (head_of c.args.admitted.now.graph) c.args.tables.now.nodes =
@@ -20,6 +21,7 @@ are_lawful-requires-clause-columns c =
     rw c.columns_of-columns.ensures.columns
     (columns_known c.problem-problem.ensures.admitted c.args.tables.now.nodes are c.args.item)
 
+-- all processes and the item are always active, so the item keeps V1
 pub returns-then-is_plain : goal.returns-then-is_plain
 returns-then-is_plain c =
     let g = c.args.admitted.now.graph in

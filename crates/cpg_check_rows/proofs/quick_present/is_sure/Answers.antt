@@ -5,6 +5,7 @@ use Rattle.cpg_check_rows.proofs.TreeRows.{present_sure, tree_at}
 use Rattle.cpg_violation.proofs.SpaceLaws.{few_of}
 use Rattle.cpg_check_rows.proofs.quick_present.is_sure.Goals as goal
 
+-- wherever the tree has no place, the item is inactive, so the item keeps V3
 pub returns : goal.returns
 returns c =
     let g = c.args.admitted.now.graph in

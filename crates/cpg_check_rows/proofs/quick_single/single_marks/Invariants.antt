@@ -6,6 +6,7 @@ use Rattle.cpg_row_trees.specs.Trees.{AreRowTrees}
 use Rattle.cpg_violation.proofs.SureLaws.{AreSoFar}
 use Rattle.cpg_check_rows.proofs.quick_single.single_marks.Given as goal
 
+-- after each tree, `marks` has a mark for each item so far, if the trees are those of the tables' rows
 abbrev pub invariant-loop-tree : goal.invariant-loop-tree
 invariant-loop-tree l = (g : Graph) (tables : List NodeTable) → AreRowTrees g tables l.trees →
     AreSoFar g tables Rule.Single l.tree-index l.marks.items

@@ -3,6 +3,7 @@ use Rattle.cpg_base.specs.Scenario.{Scenario, IsScenario}
 use Rattle.cpg_check_rows.specs.Single.{is_double}
 use Rattle.cpg_check_rows.proofs.single.first_with_tree.Given as goal
 
+-- `count` is at most `end`, which lies within the columns, and no column before `count` is double in a scenario
 abbrev pub invariant-loop-end : goal.invariant-loop-end
 invariant-loop-end l = record {
   order : l.count ≤ l.end;
@@ -10,5 +11,6 @@ invariant-loop-end l = record {
   none : (i : ℕ) (s : Scenario) → i < l.count → IsScenario l.problem s → is_double l.columns i s ≡ false;
 }
 
+-- each turn brings `count` and `end` nearer to each other
 abbrev pub decreases-loop-end : goal.decreases-loop-end
 decreases-loop-end l = l.end - l.count

@@ -7,6 +7,7 @@ use Rattle.cpg_violation.specs.Sieves.{is_at}
 use Rattle.cpg_violation.proofs.SieveLaws.{at_found}
 use Rattle.cpg_check_rows.proofs.single.met_at.Goals as goal
 
+-- the column was found at the place, so meeting it is meeting the one at the place
 pub returns-clause-first : goal.returns-clause-first
 returns-clause-first c = λ order.
     let found : slice_get c.args.columns.now c.args.place ≡ Some c.in-Some.column.now =

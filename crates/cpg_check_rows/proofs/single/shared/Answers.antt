@@ -10,6 +10,7 @@ earlier-found-requires-clause-second c = lawful_if_some c.args.problem.now c.arg
     (λ s. matches c.args.cube.now s && is_at c.args.columns.now s (get_or c.args.places.now c.loop-place.place-index 0))
     c.in_ok-next.next (c.in_ok-next.ensures.first c.args.order.now)
 
+-- the earlier of the answer so far and the next place's is the first of one place more
 pub loop-place-preserved : goal.loop-place-preserved
 loop-place-preserved c = record {
   first = rw c.earlier-found.ensures (first_any_more c.args.problem.now c.args.order.now (matches c.args.cube.now)

@@ -6,6 +6,8 @@ use Rattle.cpg_violation.specs.Room.{HasRoom}
 use Rattle.cpg_violation.specs.Sieves.{is_at}
 use Rattle.cpg_check_rows.proofs.single.shared.Given as goal
 
+-- After each place: `found` is the first scenario of the cube in which a column at one of the places so far matches
+-- (none if there is none), and the room to work in is large enough for the problem.
 abbrev pub invariant-loop-place : goal.invariant-loop-place
 invariant-loop-place l = record {
   first : IsFirst l.problem l.order

@@ -17,6 +17,7 @@ pub first_double-requires-clause-order : goal.first_double-requires-clause-order
 first_double-requires-clause-order c =
     rw (c.order-order.ensures.order, c.problem-problem.ensures.problem) (long_order c.order-order.ensures.admitted)
 
+-- the columns of tables of the graph are on its variables
 pub first_double-requires-clause-columns : goal.first_double-requires-clause-columns
 first_double-requires-clause-columns c =
     let are : AreTablesOf (head_of c.args.admitted.now.graph) c.args.tables.now.nodes =
@@ -29,6 +30,7 @@ pub first_double-requires-clause-few : goal.first_double-requires-clause-few
 first_double-requires-clause-few c = rw c.columns_of-columns.ensures.columns
     (columns_few c.args.tables.now.head c.args.tables.now.nodes c.columns_of-columns.ensures.lawful c.loop-item.item)
 
+-- no earlier item breaks V2, so the first double column of this one is the first violation
 pub returns-in-Some-clause-first : goal.returns-in-Some-clause-first
 returns-in-Some-clause-first c =
     let g = c.args.admitted.now.graph in
@@ -45,6 +47,7 @@ returns-in-Some-clause-first c =
       ap item_count c.problem-problem.ensures.problem,
     )) c.loop-item.invariant first
 
+-- no column of the next item is double, so none of one item more breaks V2
 pub loop-item-preserved : goal.loop-item-preserved
 loop-item-preserved c =
     let g = c.args.admitted.now.graph in
@@ -54,6 +57,7 @@ loop-item-preserved c =
     (rw c.in_default.is at c.in_ok-double.ensures.none) in
     none_more Rule.Single g c.args.tables.now.nodes c.loop-item.item (λ y s. refl) c.loop-item.invariant none
 
+-- the next item is marked as sure, so none of one item more breaks V2
 pub loop-item-preserved-then-is_marked : goal.loop-item-preserved-then-is_marked
 loop-item-preserved-then-is_marked c =
     let g = c.args.admitted.now.graph in

@@ -8,6 +8,7 @@ use Rattle.cpg_check_time.proofs.Judging.{columns_are}
 use Rattle.cpg_check_time.proofs.DelayLaws.{delays_both, first_delay, never_delays}
 use Rattle.cpg_check_time.proofs.delays.least_delay.Goals as goal
 
+-- even from the last column, the delay is over by the column's time, so none is late
 pub returns-then-saturating_add-time : goal.returns-then-saturating_add-time
 returns-then-saturating_add-time c =
     let g = c.args.admitted.now.graph in
@@ -34,6 +35,7 @@ pub least_near-requires-clause-near : goal.least_near-requires-clause-near
 least_near-requires-clause-near c =
     λ s d t. delays_both c.args.admitted.now.graph c.args.column.now.cube c.args.delay c.args.column.now.time s d t
 
+-- the least scenario of a late column near the cube is the least of all columns of the item
 pub returns : goal.returns
 returns c =
     let g = c.args.admitted.now.graph in

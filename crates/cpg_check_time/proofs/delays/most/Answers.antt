@@ -4,6 +4,7 @@ use Rattle.cpg_check_time.specs.Delays.{IsDelay, done_at}
 use Rattle.cpg_check_time.proofs.DelayLaws.{most_faults}
 use Rattle.cpg_check_time.proofs.delays.most.Goals as goal
 
+-- an execution takes longest with all faults of the graph
 pub returns-in-Execution-clause-most : goal.returns-in-Execution-clause-most
 returns-in-Execution-clause-most c = λ s time i.
     let g = c.args.problem.now in

@@ -5,6 +5,7 @@ use Rattle.cpg_cube.specs.Fit.{IsKnown}
 use Rattle.cpg_check_time.proofs.CommonCubes.{common_more, common_none, known_more}
 use Rattle.cpg_check_time.proofs.inputs.common.Goals as goal
 
+-- one literal of the other cube leaves no number, so no scenario matches both cubes
 pub returns-in_default-clause-none : goal.returns-in_default-clause-none
 returns-in_default-clause-none c =
     let none = rw c.in_default.is at c.in_ok-next.ensures.none in
@@ -13,6 +14,7 @@ returns-in_default-clause-none c =
     (common_none c.args.cube.now c.literals-literal-items.result.now c.loop-literal.part c.loop-literal.literal-index
     (record { variable = 0; low = 0; high = 0 }) c.loop-literal-test.true c.loop-literal.invariant.both none)
 
+-- the part narrowed by the next literal matches what the cube and one literal more match
 pub loop-literal-preserved : goal.loop-literal-preserved
 loop-literal-preserved c =
     let both = rw c.in-Some.is at c.in_ok-next.ensures.both in

@@ -6,6 +6,7 @@ use Rattle.cpg_check_time.specs.Inputs.{is_asked}
 use Rattle.cpg_check_time.proofs.InputLaws.{lacks_frame, lacks_source}
 use Rattle.cpg_check_time.proofs.inputs.least_lacking.Goals as goal
 
+-- the edge is a message, so its input is missing exactly if the frame is late
 pub returns-then-is_message : goal.returns-then-is_message
 returns-then-is_message c =
     let on : is_message c.args.admitted.now.graph c.args.edge ≡ true =
@@ -19,6 +20,7 @@ returns-then-is_message c =
     lacks_frame c.args.admitted.now.graph c.args.admitted.now.order c.args.tables.now.nodes c.args.column.now
     c.args.edge c.in_ok-found.found on found
 
+-- the edge is on one node, so its input is missing exactly if the source has the value and ends late
 pub returns : goal.returns
 returns c =
     let g = c.args.admitted.now.graph in

@@ -10,6 +10,7 @@ pub least-requires-clause-lawful : goal.least-requires-clause-lawful
 least-requires-clause-lawful g c = tables_of_graph c.args.admitted.now.graph c.args.tables.now.head
     c.args.tables.now.nodes c.requires.head c.columns_of-columns.ensures.lawful
 
+-- the tables have few columns, so a place is a small number
 pub overflow_cast-result : goal.overflow_cast-result
 overflow_cast-result g c = omega (
   arith,
@@ -18,6 +19,7 @@ overflow_cast-result g c = omega (
   columns_few c.args.tables.now.head c.args.tables.now.nodes c.columns_of-columns.ensures.lawful c.args.item,
 )
 
+-- the column is one of the item's, in tables of an admitted graph
 pub least-requires-clause-column : goal.least-requires-clause-column
 least-requires-clause-column g c =
     column_is c.requires.admitted c.args.tables.now.nodes
@@ -28,6 +30,7 @@ least-requires-clause-column g c =
     c.columns_of-columns.ensures.columns
     c.loop-column.column c.index-columns-column.result c.loop-column-test.true c.index-columns-column.is)
 
+-- no earlier column breaks the rule, so this is the first one that does
 pub returns-in-Some-clause-first : goal.returns-in-Some-clause-first
 returns-in-Some-clause-first g c =
     first_here g.J.TimeJudge.rule g.met.J.TimeJudge.alone c.args.admitted.now.graph c.args.tables.now.nodes c.args.item
@@ -39,6 +42,7 @@ returns-in-Some-clause-first g c =
     c.args.admitted.now.graph c.args.tables.now.nodes c.args.item c.index-columns-column.result))
     c.in-Some.is c.in_ok-least.ensures)
 
+-- this column doesn't break the rule, so none so far does
 pub loop-column-preserved : goal.loop-column-preserved
 loop-column-preserved g c =
     none_here g.J.TimeJudge.rule g.met.J.TimeJudge.alone c.args.admitted.now.graph c.args.tables.now.nodes c.args.item

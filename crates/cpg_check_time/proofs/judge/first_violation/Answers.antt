@@ -7,6 +7,7 @@ use Rattle.cpg_violation.proofs.Violations.{none_more}
 use Rattle.cpg_check_time.proofs.Judging.{never_missing}
 use Rattle.cpg_check_time.proofs.judge.first_violation.Goals as goal
 
+-- no column of the next item breaks the rule, so none of one item more does
 pub loop-item-preserved : goal.loop-item-preserved
 loop-item-preserved g c =
     let none : (i : ℕ) (s : Scenario) → IsScenario c.args.admitted.now.graph s → breaks g.J.TimeJudge.rule
@@ -17,6 +18,7 @@ loop-item-preserved g c =
     never_missing g.J.TimeJudge.rule g.met.J.TimeJudge.alone c.args.admitted.now.graph c.args.tables.now.nodes y s)
     c.loop-item.invariant none
 
+-- the next item is marked as sure, so none of one item more breaks the rule
 pub loop-item-preserved-then-is_marked : goal.loop-item-preserved-then-is_marked
 loop-item-preserved-then-is_marked g c =
     let problem = c.args.admitted.now.graph in

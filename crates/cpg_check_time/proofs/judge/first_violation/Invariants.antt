@@ -3,6 +3,7 @@ use Rattle.cpg_base.specs.Scenario.{Scenario, IsScenario}
 use Rattle.cpg_table.specs.Valid.{breaks}
 use Rattle.cpg_check_time.proofs.judge.first_violation.Given as goal
 
+-- no scenario breaks the rule at an item so far, whatever the column
 abbrev pub invariant-loop-item : goal.invariant-loop-item
 invariant-loop-item g l = (x : ℕ) (column : Option ℕ) (s : Scenario) → x < l.item → IsScenario l.admitted.graph s →
     breaks g.J.TimeJudge.rule l.admitted.graph l.tables.nodes s x column ≡ false

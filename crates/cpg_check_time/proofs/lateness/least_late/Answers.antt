@@ -20,6 +20,7 @@ met-requires-clause-room c =
     let lawful : IsScenario c.args.problem.now c.meets.new.least = (c.if-not-meets.ensures.least []).lawful in
     record { values = lawful.values; faults = lawful.faults }
 
+-- the part matches exactly if the column matches and the execution ends after the time
 pub returns-clause-first : goal.returns-clause-first
 returns-clause-first c =
     let g = c.args.problem.now in

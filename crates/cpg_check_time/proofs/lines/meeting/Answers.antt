@@ -13,6 +13,7 @@ use Rattle.cpg_check_time.proofs.lines.meeting.Goals as goal
 abbrev at : Bor Column → Column
 at b = b.now
 
+-- at first no column is found, and none has to be
 pub loop-place-init : goal.loop-place-init
 loop-place-init c =
     let empty = c.in_ok-reserve.ensures.items ∙ c.new-found.ensures.items in
@@ -22,6 +23,7 @@ loop-place-init c =
       all = λ i k. absurd (Contains-nil i k);
     }
 
+-- the column at the next place, if there is one, is found
 pub loop-place-preserved : goal.loop-place-preserved
 loop-place-preserved c =
     let columns = c.args.line.now.columns.now in
@@ -38,6 +40,7 @@ loop-place-preserved c =
           (map at c.push_column.new.found.items) c.in_ok-push_column.ensures.there none c.loop-place.invariant.all;
     }
 
+-- a column that matches together with the cube is at one of the places, so it is found
 pub returns-clause-same : goal.returns-clause-same
 returns-clause-same c =
     let columns = c.args.line.now.columns.now in

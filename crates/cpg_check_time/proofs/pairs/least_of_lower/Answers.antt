@@ -16,6 +16,7 @@ loop-other-preserved g c = rw (c.earlier-found.ensures, c.problem-problem.ensure
     c.args.tables.now.nodes c.args.item c.args.column.now) c.loop-other.other
     c.loop-other.found c.in_ok-next.next c.loop-other.invariant c.in_ok-next.ensures)
 
+-- the loop has seen all items of lower numbers
 pub returns : goal.returns
 returns g c =
     let same : c.loop-other.other ≡ c.args.item = omega (arith, c.loop-other.auto.other-end, c.loop-other-test.false) in

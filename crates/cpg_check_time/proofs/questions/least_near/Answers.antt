@@ -17,6 +17,7 @@ pub least_of-requires-clause-order : goal.least_of-requires-clause-order
 least_of-requires-clause-order g c =
     rw (c.order-order.ensures.order, c.problem-problem.ensures.problem) (long_order c.order-order.ensures.admitted)
 
+-- the columns near the cube are columns of the line
 pub least_of-requires-clause-columns : goal.least_of-requires-clause-columns
 least_of-requires-clause-columns g c =
     rw (c.problem-problem.ensures.problem, c.as_slice.ensures.value)
@@ -25,6 +26,7 @@ least_of-requires-clause-columns g c =
     (λ d k. All-contains (IsColumn c.args.admitted.now.graph) c.args.line.now.columns.now d c.requires.columns k)
     (map at c.in_ok-near.near.items) c.in_ok-near.ensures.among))
 
+-- only columns near the cube can be as asked, so the least scenario of these is the least of all
 pub returns : goal.returns
 returns g c =
     let graph = c.args.admitted.now.graph in

@@ -3,6 +3,7 @@ use Rattle.cpg_cluster.specs.Keeping.{AreIndexed}
 use Rattle.cpg_cluster.proofs.Arriving.{index_more}
 use Rattle.cpg_cluster.proofs.arrivals.arrivals_of.Goals as goal
 
+-- the sorted times of one more sender are indexed
 pub loop-other-preserved : goal.loop-other-preserved
 loop-other-preserved c =
     subst (AreIndexed c.args.rows.now c.args.senders.now (c.loop-other.other + 1)) (sym c.in_ok-push.ensures.items)

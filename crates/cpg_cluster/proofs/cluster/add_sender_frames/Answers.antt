@@ -9,6 +9,7 @@ use Rattle.cpg_cluster.specs.Taking.{frames_from}
 use Rattle.cpg_cluster.proofs.Noted.{sender_frames}
 use Rattle.cpg_cluster.proofs.cluster.add_sender_frames.Goals as goal
 
+-- the frame of what the sender has noted is the one that its acts give, so there is room for it
 pub add_noted_frame-requires : goal.add_noted_frame-requires
 add_noted_frame-requires c =
     let m = c.index-members-sender.result in
@@ -24,6 +25,7 @@ add_noted_frame-requires c =
           c.index-members-sender.is has c.as_slice-noted.ensures.value),
     )
 
+-- the frame of what the sender has noted is the one that its acts give
 pub returns-then-sender-members-clause-frames : goal.returns-then-sender-members-clause-frames
 returns-then-sender-members-clause-frames c =
     let m = c.index-members-sender.result in
@@ -34,6 +36,7 @@ returns-then-sender-members-clause-frames c =
     c.if-sender-members.true c.index-members-sender.is has
     c.as_slice-noted.ensures.value)
 
+-- a sender that there is not has no frames
 pub returns-else-sender-members-clause-frames : goal.returns-else-sender-members-clause-frames
 returns-else-sender-members-clause-frames c =
     sym (ap (λ (o : Option Member). c.args.frames.now.items

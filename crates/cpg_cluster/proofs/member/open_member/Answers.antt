@@ -4,6 +4,7 @@ use Rattle.cpg_table.specs.Table.{Row}
 use Rattle.cpg_cluster.specs.Keeping.{AreIndexed}
 use Rattle.cpg_cluster.proofs.member.open_member.Goals as goal
 
+-- the member has the table, nothing done, and room for all that its node does in a play
 pub returns : goal.returns
 returns c = record {
   node = search rules;

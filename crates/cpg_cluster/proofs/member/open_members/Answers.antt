@@ -6,6 +6,7 @@ use Rattle.cpg_cluster.specs.Keeping.{AreOpen}
 use Rattle.cpg_cluster.proofs.Opening.{open_next}
 use Rattle.cpg_cluster.proofs.member.open_members.Goals as goal
 
+-- the member of the next table is open too
 pub loop-number-preserved : goal.loop-number-preserved
 loop-number-preserved c =
     let l = c.loop-number.number-iterator in
@@ -23,6 +24,7 @@ loop-number-preserved c =
       end = range.0 ∙ invariant.end;
     }
 
+-- after the loop every table has its member
 pub returns-clause-members : goal.returns-clause-members
 returns-clause-members c =
     let nodes = c.args.tables.nodes in

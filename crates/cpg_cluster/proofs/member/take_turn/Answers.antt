@@ -22,6 +22,7 @@ ready-1 c =
     (c.own-own.ensures.own ∙ ap (λ (t : NodeTable). t.own) c.table.ensures) c.executions-running.ensures.executions))
     (omega arith))
 
+-- the acts of the node are those of its turn
 done-1 : (c : goal.After-acts) →
     c.acts.result.now ≡ acts_of_turn (ready c.args.problem.now c.args.scenario.now c.args.lengths.now c.args.time
     c.args.member.now.node.dispatcher) c.args.time []
@@ -31,11 +32,13 @@ done-1 c = c.acts.ensures ∙ at_some (next c.finish_all.new.node.dispatcher) c.
     (ap next (ready-1 c) ∙ c.requires.next) c.turn.ensures.acts
     ∙ ap (λ d. acts_of_turn d c.args.time [] c.args.frames.now) (ready-1 c)
 
+-- there is room for the acts of the turn
 pub append_acts-requires : goal.append_acts-requires
 append_acts-requires c =
     subst (λ (as' : List Act). length (c.args.member.now.acts.items ++ as') ≤ vec_capacity c.args.member.now.acts)
     (sym (done-1 c)) c.requires.acts_fit
 
+-- the node before its turn is the one after the reports
 ready-2 : (c : goal.After-note_acts) →
     c.finish_all.new.node.dispatcher
     ≡ ready c.args.problem.now c.args.scenario.now c.args.lengths.now c.args.time c.args.member.now.node.dispatcher
@@ -49,12 +52,14 @@ ready-2 c =
     (c.own-own.ensures.own ∙ ap (λ (t : NodeTable). t.own) c.table.ensures) c.executions-running.ensures.executions))
     (omega arith))
 
+-- the node takes its turn from the state after the reports
 pub returns-clause-node : goal.returns-clause-node
 returns-clause-node c = at_some (next c.finish_all.new.node.dispatcher) c.args.time
     (λ time. c.turn.new.self.dispatcher ≡ turn c.finish_all.new.node.dispatcher time [] c.args.frames.now)
     (ap next (ready-2 c) ∙ c.requires.next) c.turn.ensures.turn
     ∙ ap (λ d. turn d c.args.time [] c.args.frames.now) (ready-2 c)
 
+-- the acts of the turn are added to those before
 pub returns-clause-acts : goal.returns-clause-acts
 returns-clause-acts c = c.append_acts.ensures.acts ∙ ap (λ l. c.args.member.now.acts.items ++ l)
     (c.acts.ensures ∙ at_some (next c.finish_all.new.node.dispatcher) c.args.time
@@ -62,6 +67,7 @@ returns-clause-acts c = c.append_acts.ensures.acts ∙ ap (λ l. c.args.member.n
     (ap next (ready-2 c) ∙ c.requires.next) c.turn.ensures.acts
     ∙ ap (λ d. acts_of_turn d c.args.time [] c.args.frames.now) (ready-2 c))
 
+-- the acts of the turn are noted at their items
 pub returns-clause-noted : goal.returns-clause-noted
 returns-clause-noted c = c.note_acts.ensures ∙ ap (λ (as' : List Act). fold note c.args.member.now.noted.items as')
     (c.acts-2.ensures ∙ at_some (next c.finish_all.new.node.dispatcher) c.args.time

@@ -2,6 +2,8 @@ use Rattle.std.proofs.Common.{◌≡◌, drop}
 use Rattle.cpg_cluster.specs.Taking.{AllFinish, all_finished}
 use Rattle.cpg_cluster.proofs.told.finish_all.Given as goal
 
+-- `may`: the node may take the reports that are left. `is`: they lead it to where all reports lead it from the start.
+-- `acts`: a report doesn't change what the node did in its last turn.
 abbrev pub invariant-loop-report : goal.invariant-loop-report
 invariant-loop-report l = record {
   may : AllFinish l.node.dispatcher (drop l.report-index l.ended);

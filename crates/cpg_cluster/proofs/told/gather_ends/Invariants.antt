@@ -3,6 +3,8 @@ use Rattle.std.specs.Vec.{vec_capacity}
 use Rattle.cpg_cluster.specs.Taking.{ends_by}
 use Rattle.cpg_cluster.proofs.told.gather_ends.Given as goal
 
+-- the ends so far, followed by those of the processes that are left, are the old ends followed by those of all
+-- processes
 abbrev pub invariant-loop-place : goal.invariant-loop-place
 invariant-loop-place l = record {
   ends : l.ends.items ++ ends_by l.time (drop l.place l.own) (drop l.place l.running) ≡ l.fn.ends.items

@@ -3,6 +3,7 @@ use Rattle.std.specs.Vec.{vec_capacity}
 use Rattle.cpg_cluster.specs.Taking.{reports_by}
 use Rattle.cpg_cluster.proofs.told.gather_reports.Given as goal
 
+-- the reports so far, followed by those of the processes that are left, are the old reports followed by those of all
 abbrev pub invariant-loop-place : goal.invariant-loop-place
 invariant-loop-place l = record {
   reports : l.reports.items

@@ -7,6 +7,7 @@ use Rattle.cpg_cluster.specs.Cluster.{Waits}
 use Rattle.cpg_cluster.proofs.Asking.{first_waits, none_waits}
 use Rattle.cpg_cluster.proofs.waiting.waited_on.Goals as goal
 
+-- before the loop there is no sender yet
 pub loop-sender-init : goal.loop-sender-init
 loop-sender-init c = record { other = refl; none = λ j d h. absurd (omega arith) }
 
@@ -20,6 +21,7 @@ tested members member time other i item d r l o is e =
     ap (waits_between time member i) (get_or_default members i d item l ∙ sym is)
     ∙ sym (e ∙ ap (λ n. waits_between time member n item) o)
 
+-- the member waits on this one and on none before it, so this is the least
 pub returns-then-waits_between : goal.returns-then-waits_between
 returns-then-waits_between c d =
     let i = c.loop-sender.sender-index in
@@ -31,6 +33,7 @@ returns-then-waits_between c d =
     c.waits_between.result c.loop-sender-test.true c.loop-sender.invariant.other c.sender-item.is
     c.waits_between.ensures ∙ c.if-waits_between.true)
 
+-- the member waits on none of those seen so far
 pub loop-sender-preserved : goal.loop-sender-preserved
 loop-sender-preserved c = record {
   other = omega (arith, c.loop-sender.invariant.other);
@@ -43,6 +46,7 @@ loop-sender-preserved c = record {
   ];
 }
 
+-- the member waits on none, so a turn is taken
 pub returns : goal.returns
 returns c d = none_waits (λ b. waits_between c.args.time c.args.member.now b (get_or c.args.members.now b d))
     (length c.args.members.now) (λ j h. c.loop-sender.invariant.none j d (omega arith))

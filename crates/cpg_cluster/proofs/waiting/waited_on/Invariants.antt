@@ -3,6 +3,7 @@ use Rattle.cpg_cluster.specs.declared.member.Member.{Member}
 use Rattle.cpg_cluster.specs.Keeping.{waits_between}
 use Rattle.cpg_cluster.proofs.waiting.waited_on.Given as goal
 
+-- `other` is the number of the next sender, and the member waits on no sender before it
 abbrev pub invariant-loop-sender : goal.invariant-loop-sender
 invariant-loop-sender l = record {
   other : l.other ≡ l.sender-index;

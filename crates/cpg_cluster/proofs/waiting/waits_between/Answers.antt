@@ -5,12 +5,14 @@ use Rattle.cpg_cluster.specs.Keeping.{waits_by}
 use Rattle.cpg_cluster.proofs.Arriving.{any_index, index_at}
 use Rattle.cpg_cluster.proofs.waiting.waits_between.Goals as goal
 
+-- the arrival times of a sender are in order
 pub waits_on-requires : goal.waits_on-requires
 waits_on-requires c = (index_at c.args.member.now.node.dispatcher.table.hears c.args.member.now.senders.items
     (length c.args.member.now.arrivals.items) c.args.member.now.arrivals.items c.args.other
     c.index-times.result.now c.as_slice.result.now c.requires.indexed c.requires.other c.index-times.ensures
     c.as_slice.ensures.value).rises
 
+-- the arrival times of the other node say whether it is waited on, as the rows do
 pub returns : goal.returns
 returns c =
     let m = c.args.member.now in

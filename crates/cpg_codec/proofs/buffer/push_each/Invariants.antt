@@ -4,6 +4,7 @@ use Rattle.std.specs.List.{flat_map}
 use Rattle.cpg_codec.specs.Spelling.{literal_bytes}
 use Rattle.cpg_codec.proofs.buffer.push_each.Given as goal
 
+-- the bytes are the old ones followed by three for each literal so far; the capacity is unchanged
 abbrev pub invariant-loop-literal : goal.invariant-loop-literal
 invariant-loop-literal l = record {
   items : l.bytes.items ≡ l.fn.bytes.items ++ flat_map literal_bytes (take l.literal-index l.fn.literals);

@@ -2,6 +2,7 @@ use Rattle.std.proofs.Common.{◌≡◌, ◌∙◌, ◌++◌, true, is_ok, lengt
 use Rattle.cpg_codec.proofs.Blocks.{appended, eight_bytes}
 use Rattle.cpg_codec.proofs.buffer.push_eight.Goals as goal
 
+-- the added bytes are those of the eight literals
 pub returns-clause-items : goal.returns-clause-items
 returns-clause-items c =
     let old = c.args.bytes.now.items in

@@ -4,6 +4,8 @@ use Rattle.std.specs.List.{flat_map}
 use Rattle.cpg_codec.specs.Spelling.{literal_bytes}
 use Rattle.cpg_codec.proofs.buffer.push_literals.Given as goal
 
+-- the bytes so far, followed by those of the literals that are left, are the old bytes followed by those of all
+-- literals; `len` counts three bytes a literal, and the capacity doesn't shrink
 abbrev pub invariant-loop-block : goal.invariant-loop-block
 invariant-loop-block l = record {
   items : l.fn.bytes.items ++ flat_map literal_bytes l.fn.literals ≡ l.bytes.items ++ flat_map literal_bytes l.left;
@@ -11,5 +13,6 @@ invariant-loop-block l = record {
   capacity : vec_capacity l.fn.bytes ≤ vec_capacity l.bytes;
 }
 
+-- each turn takes eight of the literals that are left
 abbrev pub decreases-loop-block : goal.decreases-loop-block
 decreases-loop-block l = length l.left

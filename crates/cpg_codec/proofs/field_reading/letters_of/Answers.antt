@@ -4,6 +4,7 @@ use Rattle.cpg_base.specs.Name.{is_name_byte}
 use Rattle.cpg_codec.proofs.Loop.{times_on, times_end, times_done}
 use Rattle.cpg_codec.proofs.field_reading.letters_of.Goals as goal
 
+-- if a letter can't be read, the letters can't
 pub returns-in_err-letter : goal.returns-in_err-letter
 returns-in_err-letter c =
     let p = err_from_is_err_and c.from_residual.result c.from_residual.ensures.1 in
@@ -12,6 +13,7 @@ returns-in_err-letter c =
     (read_repeated (byte_by is_name_byte) c.args.count c.args.bytes.now) c.loop-test.true c.in_err-letter.ensures
     c.loop.invariant)
 
+-- one more letter is read
 pub loop-preserved : goal.loop-preserved
 loop-preserved c =
     rw c.in_ok-push.ensures.items (times_on (byte_by is_name_byte) c.loop.letters.items c.args.count c.loop.counter
@@ -19,6 +21,7 @@ loop-preserved c =
     (read_repeated (byte_by is_name_byte) c.args.count c.args.bytes.now) c.loop-test.true c.in_ok-letter.ensures
     c.loop.invariant)
 
+-- no letter is left at the end of the loop, so the letters so far are all
 pub returns : goal.returns
 returns c = times_done (byte_by is_name_byte) c.loop.letters.items c.args.count c.loop.counter c.loop.rest.now
     (read_repeated (byte_by is_name_byte) c.args.count c.args.bytes.now) c.loop-test.false c.loop.invariant

@@ -2,6 +2,7 @@ use Rattle.std.proofs.Common.{arith}
 use Rattle.cpg_codec.proofs.Records.{edge_found}
 use Rattle.cpg_codec.proofs.head_reading.edge_of.Goals as goal
 
+-- both bytes are numbers of processes, so they are what the grammar reads
 pub returns-then-are_ends : goal.returns-then-are_ends
 returns-then-are_ends c =
     let w = c.are_ends.ensures.0 c.if-are_ends.true in

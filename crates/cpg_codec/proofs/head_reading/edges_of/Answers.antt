@@ -4,6 +4,7 @@ use Rattle.cpg_codec.specs.Grammar.{read_edge}
 use Rattle.cpg_codec.proofs.Loop.{times_on, times_end, times_done}
 use Rattle.cpg_codec.proofs.head_reading.edges_of.Goals as goal
 
+-- if an edge can't be read, the edges can't
 pub returns-in_err-edge : goal.returns-in_err-edge
 returns-in_err-edge c =
     let p = err_from_is_err_and c.from_residual-in_err-edge.result c.from_residual-in_err-edge.ensures.1 in
@@ -12,6 +13,7 @@ returns-in_err-edge c =
     (read_repeated (read_edge c.args.processes) c.args.count c.args.bytes.now) c.loop-test.true c.in_err-edge.ensures
     c.loop.invariant)
 
+-- one more edge is read
 pub loop-preserved : goal.loop-preserved
 loop-preserved c =
     rw c.in_ok-push.ensures.items (times_on (read_edge c.args.processes) c.loop.edges.items c.args.count c.loop.counter
@@ -19,6 +21,7 @@ loop-preserved c =
     (read_repeated (read_edge c.args.processes) c.args.count c.args.bytes.now) c.loop-test.true c.in_ok-edge.ensures
     c.loop.invariant)
 
+-- no edge is left at the end of the loop, so the edges so far are all
 pub returns : goal.returns
 returns c = times_done (read_edge c.args.processes) c.loop.edges.items c.args.count c.loop.counter c.loop.rest.now
     (read_repeated (read_edge c.args.processes) c.args.count c.args.bytes.now) c.loop-test.false c.loop.invariant

@@ -2,18 +2,21 @@ use Rattle.std.proofs.Common.{◌∙◌}
 use Rattle.cpg_codec.proofs.WrittenHeads.{plain_head, made_extras, joined_one, joined_two}
 use Rattle.cpg_codec.proofs.head_reading.joined.Goals as goal
 
+-- a head without extras that is made of lawful parts is within its limits, so it isn't refused
 pub unreachable-requires : goal.unreachable-requires
 unreachable-requires c =
     let p = c.args.parts in
     c.in_default.ensures.refused
     (plain_head p.version p.faults p.nodes.items p.processes.items p.extras.items p.edges.items c.requires.lawful)
 
+-- in version 1 the head of the parts has no extras
 pub returns-then-parts-ne2 : goal.returns-then-parts-ne2
 returns-then-parts-ne2 c =
     let p = c.args.parts in
     c.in-Some.ensures.head
     ∙ joined_one p.version p.faults p.nodes.items p.processes.items p.extras.items p.edges.items c.if-parts-ne2.true
 
+-- in version 2 the extras of lawful parts are lawful, so they aren't refused
 pub unreachable-requires-in-None : goal.unreachable-requires-in-None
 unreachable-requires-in-None c =
     let p = c.args.parts in
@@ -21,6 +24,7 @@ unreachable-requires-in-None c =
     (made_extras p.version p.faults p.nodes.items p.processes.items p.extras.items p.edges.items c.if-parts-ne2.false
     c.requires.kept c.requires.lawful))
 
+-- in version 2 the head of the parts has their extras
 pub returns : goal.returns
 returns c =
     let p = c.args.parts in

@@ -2,6 +2,7 @@ use Rattle.std.proofs.Common.{arith}
 use Rattle.cpg_codec.proofs.Records.{place_found}
 use Rattle.cpg_codec.proofs.head_reading.node_and_flag.Goals as goal
 
+-- both bytes are in range, so they are what the grammar reads
 pub returns-then-are_within : goal.returns-then-are_within
 returns-then-are_within c =
     let w = c.are_within.ensures.0 c.if-are_within.true in

@@ -10,10 +10,12 @@ use Rattle.cpg_codec.proofs.head_reading.processes_of.Goals as goal
 abbrev step : ℕ → Written → ℕ
 step ones w = ones + bit w.process.condition
 
+-- before the loop there are no processes and no extras, in either version
 none_kept : (b : Bool) → ◌≡◌ {A = ℕ} 0 (cond b 0 0)
 none_kept true = refl
 none_kept false = refl
 
+-- at the start nothing is read, and all processes are left
 pub loop-init : goal.loop-init
 unfolding read_processes
 loop-init c = record {
@@ -23,6 +25,7 @@ loop-init c = record {
   kept = rw (c.in_ok-processes.ensures.items, c.new-extras.ensures.items) (none_kept (c.args.version == 2));
 }
 
+-- if a process can't be read, the processes can't
 pub returns-in_err-process-clause-gives : goal.returns-in_err-process-clause-gives
 returns-in_err-process-clause-gives c =
     let p = err_from_is_err_and c.from_residual-in_err-process.result c.from_residual-in_err-process.ensures.1 in
@@ -34,10 +37,12 @@ returns-in_err-process-clause-gives c =
     (down_more c.args.count c.loop.counter c.loop-test.true) c.in_err-process.ensures.gives
     c.loop.invariant.so_far)
 
+-- a process adds at most one condition, so the conditions are still no more than the processes
 few_more : (ones b counter : ℕ) (t : Bool) → b ≡ bit t → ones ≤ counter → ones + b ≤ counter + 1
 few_more ones b counter true e h = omega arith
 few_more ones b counter false e h = omega arith
 
+-- one more process is read, with its extras
 pub loop-preserved : goal.loop-preserved
 loop-preserved c =
     let q = c.in_ok-process.process in
@@ -61,6 +66,7 @@ loop-preserved c =
           c.loop.invariant.kept);
     }
 
+-- all processes are read
 pub returns-clause-gives : goal.returns-clause-gives
 returns-clause-gives c = is_done step (λ (left : ℕ) ones. read_process c.args.version c.args.faults c.args.nodes ones)
     (written_by c.loop.processes.items c.loop.extras.items)

@@ -5,6 +5,9 @@ use Rattle.cpg_codec.specs.Grammar.{read_process, read_processes}
 use Rattle.cpg_codec.proofs.Loop.{with_front}
 use Rattle.cpg_codec.proofs.head_reading.processes_of.Given as goal
 
+-- `so_far`: the processes so far, in front of what reading the others gives, are what reading all of them gives.
+-- `few`: at most each process so far has a condition. `kept`: version 2 has an extra for each process, and another
+-- version has none.
 abbrev pub invariant-loop : goal.invariant-loop
 invariant-loop l = record {
   so_far : with_front (written_by l.processes.items l.extras.items)

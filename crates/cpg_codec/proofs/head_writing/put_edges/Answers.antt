@@ -4,6 +4,7 @@ use Rattle.cpg_codec.specs.Spelling.{edge_bytes}
 use Rattle.cpg_codec.proofs.Puts.{puts_more, puts_fail, Puts-failed}
 use Rattle.cpg_codec.proofs.head_writing.put_edges.Goals as goal
 
+-- one more edge is put
 pub loop-from-preserved : goal.loop-from-preserved
 loop-from-preserved g c = record {
   put = puts_more edge_bytes _ _ _ _ _ _ (c.args.edges.now) (c.loop-from.from-index)
@@ -11,6 +12,7 @@ loop-from-preserved g c = record {
   kept = c.in_ok-put.ensures.cause.kept ∙ c.loop-from.invariant.kept;
 }
 
+-- if an edge can't be put, the edges can't
 pub returns-in_err-put-clause-put : goal.returns-in_err-put-clause-put
 returns-in_err-put-clause-put g c =
     let p = err_from_is_err_and c.from_residual.result c.from_residual.ensures.1 in

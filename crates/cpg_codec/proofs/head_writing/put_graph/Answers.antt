@@ -7,10 +7,12 @@ use Rattle.cpg_codec.proofs.Short.{short_edges}
 use Rattle.cpg_codec.proofs.Puts.{Puts-then, Puts-first, Puts-failed, fails_second, fails_first}
 use Rattle.cpg_codec.proofs.head_writing.put_graph.Goals as goal
 
+-- a lawful head has so few edges that two bytes hold their number
 pub put_counted_edges-requires-clause-short : goal.put_counted_edges-requires-clause-short
 put_counted_edges-requires-clause-short g c =
     rw c.edges.ensures.edges (short_edges c.args.head.now c.edges.ensures.within)
 
+-- if the count can't be put, the graph can't
 pub returns-in_err-put-clause-put : goal.returns-in_err-put-clause-put
 returns-in_err-put-clause-put g c =
     let p = err_from_is_err_and c.from_residual.result c.from_residual.ensures.1 in
@@ -19,6 +21,7 @@ returns-in_err-put-clause-put g c =
     ++ flat_map edge_bytes c.args.head.now.edges)) c.from_residual.result p.0 p.1
     (rw c.processes.ensures.processes at c.in_err-put.ensures.put))
 
+-- if the processes can't be put after the count, the graph can't
 pub returns-in_err-put_processes-clause-put : goal.returns-in_err-put_processes-clause-put
 returns-in_err-put_processes-clause-put g c =
     let p = err_from_is_err_and c.from_residual-in_err-put_processes.result
@@ -32,6 +35,7 @@ returns-in_err-put_processes-clause-put g c =
     (to_be_bytes w16 (length c.args.head.now.edges) ++ flat_map edge_bytes c.args.head.now.edges)
     c.in_err-put_processes.ensures.put)))
 
+-- the count, the processes and the edges are put one after another
 pub returns-clause-put : goal.returns-clause-put
 returns-clause-put g c =
     (Puts-then _ _ _ _ _ _ (byte (length c.args.head.now.processes))

@@ -7,6 +7,7 @@ use Rattle.cpg_codec.proofs.HeadParts.{process_parts}
 use Rattle.cpg_codec.proofs.Puts.{Puts-then, Puts-first, Puts-failed, fails_second, fails_first}
 use Rattle.cpg_codec.proofs.head_writing.put_process.Goals as goal
 
+-- if the name can't be put, the process can't
 pub returns-in_err-put_name-clause-put : goal.returns-in_err-put_name-clause-put
 returns-in_err-put_name-clause-put g c =
     let p = err_from_is_err_and c.from_residual.result c.from_residual.ensures.1 in
@@ -17,6 +18,7 @@ returns-in_err-put_name-clause-put g c =
     c.from_residual.result p.0 p.1
     c.in_err-put_name.ensures.put)
 
+-- if the node and the flag can't be put after the name, the process can't
 pub returns-in_err-put-clause-put : goal.returns-in_err-put-clause-put
 returns-in_err-put-clause-put g c =
     let p = err_from_is_err_and c.from_residual-in_err-put.result c.from_residual-in_err-put.ensures.1 in
@@ -30,6 +32,7 @@ returns-in_err-put-clause-put g c =
     (flat_map (to_be_bytes w64) c.args.process.now.times ++ extra_bytes c.args.extra)
     (rw c.bit_of.ensures at c.in_err-put.ensures.put))))
 
+-- the name, the node with the flag, and the timing are put one after another
 pub returns-clause-put : goal.returns-clause-put
 returns-clause-put g c =
     rw (process_parts (record { process = c.args.process.now; extra = c.args.extra }))

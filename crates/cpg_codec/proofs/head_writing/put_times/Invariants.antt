@@ -4,6 +4,7 @@ use Rattle.std.specs.Int.{w64, to_be_bytes}
 use Rattle.cpg_codec.specs.Writing.{IsPut}
 use Rattle.cpg_codec.proofs.head_writing.put_times.Given as goal
 
+-- the bytes of the times so far are put: the sink took some, the buffer holds the others, and no fault is new
 abbrev pub invariant-loop-time : goal.invariant-loop-time
 invariant-loop-time g l = record {
   put : IsPut (g.O.Sink.state l.fn.sink).taken (g.O.Sink.state l.sink).taken l.fn.buffer l.buffer

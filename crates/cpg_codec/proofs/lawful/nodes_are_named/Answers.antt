@@ -4,10 +4,12 @@ use Rattle.std.proofs.lemmas.List.Elements.{All-more}
 use Rattle.cpg_base.specs.Name.{IsName}
 use Rattle.cpg_codec.proofs.lawful.nodes_are_named.Goals as goal
 
+-- the name of this turn is lawful too
 pub loop-name-preserved : goal.loop-name-preserved
 loop-name-preserved c = All-more IsName c.args.names.now c.loop-name.name-index c.name-item.result c.loop-name-test.true
     c.loop-name.invariant (subst IsName c.name-item.is c.as_str-text.ensures.name)
 
+-- at the end of the loop the names so far are all names
 pub returns : goal.returns
 returns c =
     subst (All IsName) (take_all c.loop-name.name-index c.args.names.now c.loop-name-test.false) c.loop-name.invariant

@@ -8,11 +8,13 @@ use Rattle.cpg_codec.proofs.lawful.processes_are_named.Goals as goal
 abbrev HasName : HeadProcess → Type 0
 HasName p = IsName p.name
 
+-- the name of this turn's process is lawful too
 pub loop-process-preserved : goal.loop-process-preserved
 loop-process-preserved c = All-more HasName c.args.processes.now c.loop-process.process-index c.process-item.result
     c.loop-process-test.true c.loop-process.invariant
     (subst HasName c.process-item.is c.as_str-text.ensures.name)
 
+-- at the end of the loop the processes so far are all processes
 pub returns : goal.returns
 returns c = subst (All HasName)
     (take_all c.loop-process.process-index c.args.processes.now c.loop-process-test.false) c.loop-process.invariant

@@ -5,6 +5,7 @@ use Rattle.cpg_cube.specs.declared.literal.Literal.{Literal}
 use Rattle.cpg_cube.proofs.Above.{all_under}
 use Rattle.cpg_codec.proofs.lawful_literals.are_below.Goals as goal
 
+-- as the variables rise, all are below the end if the last one is
 pub returns-in-Some : goal.returns-in-Some
 returns-in-Some c = OnTrue_from (nat_lt c.in-Some.last.now.variable c.args.end)
     (All (λ (l : Literal). l.variable < c.args.end) c.args.literals.now)

@@ -10,6 +10,7 @@ use Rattle.cpg_codec.proofs.lawful_literals.are_parts.Goals as goal
 abbrev IsPartOf : VariableSpace → Literal → Type 0
 IsPartOf s l = l.variable < s.processes → IsCountLiteral s l
 
+-- the ranges up to this one are such parts, if the test says so
 pub loop-literal-preserved : goal.loop-literal-preserved
 loop-literal-preserved c e =
     let parts = and_parts c.loop-literal.are c.is_part-are.result e in
@@ -17,6 +18,7 @@ loop-literal-preserved c e =
     (sym (take_more c.args.literals.now c.loop-literal.literal-index _ (omega (arith, c.loop-literal-test.true))))
     (All-push (IsPartOf c.args.space.now) _ _ (c.loop-literal.invariant parts.0) (c.is_part-are.ensures parts.1))
 
+-- at the end of the loop the literals so far are all, so if the answer is true each of them is as it should be
 pub returns : goal.returns
 returns c = OnTrue_from c.loop-literal.are (All (IsPartOf c.args.space.now) c.args.literals.now)
     (λ e. subst (All (IsPartOf c.args.space.now)) (take_all c.loop-literal.literal-index c.args.literals.now

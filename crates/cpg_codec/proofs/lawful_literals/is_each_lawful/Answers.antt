@@ -4,6 +4,7 @@ use Rattle.std.proofs.lemmas.List.Elements.{All-push}
 use Rattle.cpg_table.specs.Lawful.{IsLawfulLiteral}
 use Rattle.cpg_codec.proofs.lawful_literals.is_each_lawful.Goals as goal
 
+-- one more literal is lawful
 pub loop-literal-preserved : goal.loop-literal-preserved
 loop-literal-preserved c =
     subst (All (IsLawfulLiteral c.args.space.now))
@@ -11,6 +12,7 @@ loop-literal-preserved c =
     (All-push (IsLawfulLiteral c.args.space.now) _ _ c.loop-literal.invariant
     (c.is_lawful.ensures c.if-not-is_lawful.false))
 
+-- at the end of the loop the literals so far are all literals
 pub returns : goal.returns
 returns c = subst (All (IsLawfulLiteral c.args.space.now)) (take_all c.loop-literal.literal-index c.args.literals.now
     (omega (arith, c.loop-literal-test.false))) c.loop-literal.invariant

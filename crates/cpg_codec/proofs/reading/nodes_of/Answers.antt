@@ -10,12 +10,14 @@ use Rattle.cpg_codec.proofs.reading.nodes_of.Goals as goal
 abbrev step : ℕ → NodeTable → ℕ
 step c t = c + column_count (rows_of t)
 
+-- at the start nothing is read, and all nodes are left
 pub loop-node-init : goal.loop-node-init
 unfolding read_nodes
 loop-node-init c =
     let z : length c.args.head.now.nodes - 0 ≡ length c.args.head.now.nodes = omega arith in
     record { so_far = rw (c.new-nodes.ensures.items, z) (nothing_in_front _); few = omega arith }
 
+-- if the table of a node can't be read, the tables can't
 pub returns-in_err-table : goal.returns-in_err-table
 returns-in_err-table c =
     let p = err_from_is_err_and c.from_residual-in_err-table.result c.from_residual-in_err-table.ensures.1 in
@@ -28,6 +30,7 @@ returns-in_err-table c =
     (read_nodes c.args.head.now c.args.unread.now) (numbers_more c.loop-node.node (length c.args.head.now.nodes) n)
     c.in_err-table.ensures.gives c.loop-node.invariant.so_far)
 
+-- the table of one more node is read
 pub loop-node-preserved : goal.loop-node-preserved
 loop-node-preserved c =
     let e = ap length c.nodes.ensures.nodes in
@@ -43,6 +46,7 @@ loop-node-preserved c =
       few = c.in_ok-table.ensures.total.1;
     }
 
+-- no node is left, so all tables are read
 pub returns : goal.returns
 returns c =
     let e = ap length c.nodes.ensures.nodes in

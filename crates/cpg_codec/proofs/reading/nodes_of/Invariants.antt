@@ -7,6 +7,8 @@ use Rattle.cpg_codec.specs.Grammar.{read_node_table, numbers_from, read_nodes}
 use Rattle.cpg_codec.proofs.Loop.{with_front}
 use Rattle.cpg_codec.proofs.reading.nodes_of.Given as goal
 
+-- `so_far`: the tables so far, in front of what reading the other nodes' tables gives, are what reading all of them
+-- gives; `total` counts their columns. `few`: these columns are within the limit.
 abbrev pub invariant-loop-node : goal.invariant-loop-node
 invariant-loop-node l = record {
   so_far : with_front l.nodes.items

@@ -1,11 +1,14 @@
 use Rattle.cpg_codec.proofs.WholePack.{found, only, bad}
 use Rattle.cpg_codec.proofs.reading.read_pack.Goals as goal
 
+-- tables that are returned are the ones that the bytes spell
 pub returns-clause-found : goal.returns-clause-found
 returns-clause-found c = found c.args.bytes.items c.answer_of.result c.answer_of.ensures
 
+-- bytes that spell tables are read as these
 pub returns-clause-only : goal.returns-clause-only
 returns-clause-only c = only c.args.bytes.items c.answer_of.result c.answer_of.ensures
 
+-- the length that comes with `BadPack` is that of the longest prefix that is one of some pack
 pub returns-clause-bad : goal.returns-clause-bad
 returns-clause-bad c = bad c.args.bytes.items c.answer_of.result c.answer_of.ensures

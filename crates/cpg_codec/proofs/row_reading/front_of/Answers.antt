@@ -2,6 +2,7 @@ use Rattle.std.proofs.Common.{arith}
 use Rattle.cpg_codec.proofs.Records.{front_found}
 use Rattle.cpg_codec.proofs.row_reading.front_of.Goals as goal
 
+-- both numbers of the nine bytes are in range, so they are what the grammar reads
 pub returns-then-is_front : goal.returns-then-is_front
 returns-then-is_front c =
     let w = c.is_front.ensures c.if-is_front.true in

@@ -1,6 +1,7 @@
 use Rattle.cpg_codec.proofs.Records.{literal_found}
 use Rattle.cpg_codec.proofs.row_reading.literal_of.Goals as goal
 
+-- the literal of the three bytes may stand here, so it is what the grammar reads
 pub returns-then-is_next : goal.returns-then-is_next
 returns-then-is_next c =
     let w = c.is_next.ensures c.if-is_next.true in

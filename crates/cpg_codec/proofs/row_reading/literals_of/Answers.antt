@@ -9,11 +9,13 @@ use Rattle.cpg_codec.proofs.row_reading.literals_of.Goals as goal
 abbrev step : ℕ → Literal → ℕ
 step least x = suc x.variable
 
+-- before the loop no literal is read, so all of them are left to read
 pub loop-done-init : goal.loop-done-init
 unfolding read_literals
 loop-done-init c = let z : c.args.count - 0 ≡ c.args.count = omega arith in
     rw (c.in_ok-literals.ensures.items, z) (nothing_in_front _)
 
+-- if a literal can't be read, the literals can't
 pub returns-in_err-literal : goal.returns-in_err-literal
 returns-in_err-literal c =
     let p = err_from_is_err_and c.from_residual-in_err-literal.result c.from_residual-in_err-literal.ensures.1 in
@@ -23,6 +25,7 @@ returns-in_err-literal c =
     (read_literals c.args.space.now c.args.count c.args.bytes.now)
     (down_more c.args.count c.loop-done.done c.loop-done-test.true) c.in_err-literal.ensures c.loop-done.invariant)
 
+-- one more literal is read, and the next variable is above it
 pub loop-done-preserved : goal.loop-done-preserved
 loop-done-preserved c =
     let q = c.in_ok-literal.literal in
@@ -35,6 +38,7 @@ loop-done-preserved c =
     let one : q.variable + 1 ≡ suc q.variable = omega arith in
     rw (c.in_ok-push.ensures.items, one) g
 
+-- all literals are read
 pub returns : goal.returns
 returns c = is_done step (read_literal c.args.space.now) c.loop-done.literals.items
     (down (c.args.count - c.loop-done.done)) c.loop-done.least c.loop-done.rest.now

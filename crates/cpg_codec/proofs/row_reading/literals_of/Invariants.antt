@@ -5,6 +5,8 @@ use Rattle.cpg_codec.specs.Grammar.{read_literal, read_literals}
 use Rattle.cpg_codec.proofs.Loop.{with_front}
 use Rattle.cpg_codec.proofs.row_reading.literals_of.Given as goal
 
+-- the literals so far, in front of what reading the others gives, are what reading all of them gives; `least` is the
+-- least variable that the next literal may have
 abbrev pub invariant-loop-done : goal.invariant-loop-done
 invariant-loop-done l =
     with_front l.literals.items (read_each (λ (least : ℕ) (x : Literal). suc x.variable) (read_literal l.fn.space)

@@ -4,6 +4,7 @@ use Rattle.cpg_codec.proofs.Rests.{left_is, left_within}
 use Rattle.cpg_codec.proofs.TableFields.{row_reads}
 use Rattle.cpg_codec.proofs.row_reading.next_row.Goals as goal
 
+-- the reader of a row leaves no more bytes than there were
 pub read_to-requires : goal.read_to-requires
 read_to-requires c =
     let read =
@@ -11,6 +12,7 @@ read_to-requires c =
     left_within (row_reads c.args.space.now c.args.item c.args.before c.requires.space c.requires.before)
     c.args.unread.now c.in_ok-row.row c.in_ok-row.rest.now read
 
+-- the bytes that are left unread are those that the reader of a row leaves
 pub returns-clause-gives : goal.returns-clause-gives
 returns-clause-gives c =
     let read =

@@ -10,12 +10,15 @@ use Rattle.cpg_codec.proofs.row_reading.rows_of.Goals as goal
 abbrev step : ℕ → Row → ℕ
 step c r = c + length r.columns
 
+-- the items from a place on are the one there and those from the next place on
 drop_more : (xs : List ℕ) (i : ℕ) → i < length xs → drop i xs ≡ get_or xs i 0 ∷ drop (i + 1) xs
 drop_more xs i h = rw (add-one, drop-cons xs i 0) refl
 
+-- one row more adds its columns
 columns_push : (rs : List Row) (r : Row) → column_count (rs ++ r ∷ []) ≡ column_count rs + length r.columns
 columns_push rs r = sum_by_push (λ (q : Row). length q.columns) rs r
 
+-- at the start nothing is read, and all items are left
 pub loop-item-init : goal.loop-item-init
 unfolding read_rows
 loop-item-init c = record {
@@ -24,6 +27,7 @@ loop-item-init c = record {
   few = c.requires.before;
 }
 
+-- the row of one more item is read
 pub loop-item-preserved : goal.loop-item-preserved
 loop-item-preserved c =
     let q = c.in_ok-row.row in

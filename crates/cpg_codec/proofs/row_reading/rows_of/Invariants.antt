@@ -7,6 +7,8 @@ use Rattle.cpg_codec.specs.Grammar.{read_row, read_rows}
 use Rattle.cpg_codec.proofs.Loop.{with_front}
 use Rattle.cpg_codec.proofs.row_reading.rows_of.Given as goal
 
+-- `so_far`: the rows so far, in front of what reading the others gives, are what reading all of them gives. `total`
+-- counts the columns before these rows and theirs. `few`: these columns are within the limit.
 abbrev pub invariant-loop-item : goal.invariant-loop-item
 invariant-loop-item l = record {
   so_far : with_front l.rows.items (read_each (λ (c : ℕ) (r : Row). c + length r.columns) (read_row l.fn.space)

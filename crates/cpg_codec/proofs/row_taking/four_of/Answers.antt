@@ -5,6 +5,7 @@ use Rattle.cpg_codec.specs.Spelling.{literal_bytes}
 use Rattle.cpg_codec.proofs.Blocks.{elements}
 use Rattle.cpg_codec.proofs.row_taking.four_of.Goals as goal
 
+-- the literals have the 12 bytes that they are made of
 pub returns : goal.returns
 returns c =
     let many : length c.args.bytes ≡ 12 = search rules in

@@ -3,6 +3,8 @@ use Rattle.std.specs.List.{flat_map}
 use Rattle.cpg_codec.specs.Spelling.{literal_bytes}
 use Rattle.cpg_codec.proofs.row_taking.take_each.Given as goal
 
+-- the literals held now and the rest spell what the literals held at first and all bytes spell; each turn adds a
+-- literal
 abbrev pub invariant-loop : goal.invariant-loop
 invariant-loop l = record {
   taken : flat_map literal_bytes l.fn.held.items ++ l.fn.bytes ≡ flat_map literal_bytes l.held.items ++ l.rest;

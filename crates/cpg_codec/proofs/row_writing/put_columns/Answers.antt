@@ -4,6 +4,7 @@ use Rattle.cpg_codec.specs.Spelling.{column_bytes}
 use Rattle.cpg_codec.proofs.Puts.{item_more, item_fails, Puts-failed}
 use Rattle.cpg_codec.proofs.row_writing.put_columns.Goals as goal
 
+-- one more column is put
 pub loop-column-preserved : goal.loop-column-preserved
 loop-column-preserved g c = record {
   put = item_more column_bytes _ _ _ _ _ _ c.args.columns.now c.loop-column.column-index c.column-item.result
@@ -12,6 +13,7 @@ loop-column-preserved g c = record {
   kept = c.in_ok-put_column.ensures.cause.kept ∙ c.loop-column.invariant.kept;
 }
 
+-- if a column can't be put, the columns can't
 pub returns-in_err-put_column-clause-put : goal.returns-in_err-put_column-clause-put
 returns-in_err-put_column-clause-put g c =
     let p = err_from_is_err_and c.from_residual.result c.from_residual.ensures.1 in

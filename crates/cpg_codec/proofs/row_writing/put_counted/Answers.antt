@@ -5,12 +5,14 @@ use Rattle.cpg_codec.specs.Spelling.{byte, literal_bytes}
 use Rattle.cpg_codec.proofs.Puts.{Puts-then, Puts-first}
 use Rattle.cpg_codec.proofs.row_writing.put_counted.Goals as goal
 
+-- if the count can't be put, the counted literals can't
 pub returns-in_err-put-clause-put : goal.returns-in_err-put-clause-put
 returns-in_err-put-clause-put g c =
     let p = err_from_is_err_and c.from_residual.result c.from_residual.ensures.1 in
     Puts-first _ _ _ _ (byte (length c.args.literals.now))
     (flat_map literal_bytes c.args.literals.now) c.from_residual.result p.0 p.1 c.in_err-put.ensures.put
 
+-- the byte of the count is put first, and then the literals
 pub returns-clause-put : goal.returns-clause-put
 returns-clause-put g c = Puts-then _ _ _ _ _ _ (byte (length c.args.literals.now))
     (flat_map literal_bytes c.args.literals.now) c.put_each.result c.in_ok-put.ensures.put c.put_each.ensures.put

@@ -4,6 +4,7 @@ use Rattle.cpg_codec.specs.Spelling.{row_bytes}
 use Rattle.cpg_codec.proofs.Puts.{item_more, item_fails, Puts-failed}
 use Rattle.cpg_codec.proofs.row_writing.put_rows.Goals as goal
 
+-- one more row is put
 pub loop-row-preserved : goal.loop-row-preserved
 loop-row-preserved g c = record {
   put = item_more row_bytes _ _ _ _ _ _ c.args.rows.now c.loop-row.row-index c.row-item.result c.row-item.is
@@ -11,6 +12,7 @@ loop-row-preserved g c = record {
   kept = c.in_ok-put_row.ensures.cause.kept ∙ c.loop-row.invariant.kept;
 }
 
+-- if a row can't be put, the rows can't
 pub returns-in_err-put_row-clause-put : goal.returns-in_err-put_row-clause-put
 returns-in_err-put_row-clause-put g c =
     let p = err_from_is_err_and c.from_residual.result c.from_residual.ensures.1 in

@@ -6,6 +6,7 @@ use Rattle.cpg_codec.specs.Spelling.{table_bytes}
 use Rattle.cpg_codec.proofs.Puts.{puts_more, puts_fail, Puts-failed}
 use Rattle.cpg_codec.proofs.writing.put_nodes.Goals as goal
 
+-- the table of one more node is put
 pub loop-node-preserved : goal.loop-node-preserved
 loop-node-preserved g c =
     let e = ap length c.nodes.ensures.nodes ∙ ap (λ (h : Head). length h.nodes) c.head.ensures.head in
@@ -16,6 +17,7 @@ loop-node-preserved g c =
       kept = c.in_ok-put_table.ensures.cause.kept ∙ c.loop-node.invariant.kept;
     }
 
+-- if the table of a node can't be put, the tables can't
 pub returns-in_err-put_table-clause-put : goal.returns-in_err-put_table-clause-put
 returns-in_err-put_table-clause-put g c =
     let p = err_from_is_err_and c.from_residual.result c.from_residual.ensures.1 in

@@ -6,6 +6,7 @@ use Rattle.cpg_core.proofs.CompiledLaws.{given_there}
 use Rattle.cpg_core.proofs.Figures.{first_given, first_many}
 use Rattle.cpg_core.proofs.choosing.choose.Goals as goal
 
+-- the graph gives an order, so the first order is taken
 pub returns-then-is_some : goal.returns-then-is_some
 returns-then-is_some c =
     let g = c.args.admitted.now.graph in
@@ -20,6 +21,7 @@ returns-then-is_some c =
     c.in_ok-first.first.worst first
     (given_there _ c.given.result _ c.given.ensures.given (search rules)))
 
+-- the graph has many tracks, so the first order is taken
 pub returns-in_default : goal.returns-in_default
 returns-in_default c =
     let g = c.args.admitted.now.graph in

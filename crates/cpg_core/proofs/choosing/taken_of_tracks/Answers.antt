@@ -6,6 +6,7 @@ use Rattle.cpg_core.specs.Accepted.{IsTaken}
 use Rattle.cpg_core.proofs.Figures.{first_better, first_same, first_wide, tracks_better}
 use Rattle.cpg_core.proofs.choosing.taken_of_tracks.Goals as goal
 
+-- the track order is the first order, so that is taken
 pub returns-then-are_same : goal.returns-then-are_same
 returns-then-are_same c =
     let g = c.args.admitted.now.graph in
@@ -18,6 +19,7 @@ returns-then-are_same c =
     c.requires.first c.args.order c.requires.track
     ((rw c.if-are_same.true at c.are_same.ensures) ∙ c.first_order-first_order.ensures.order))
 
+-- the track order is no better than the first, so the first order is taken
 pub returns-then-not-is_better : goal.returns-then-not-is_better
 returns-then-not-is_better c =
     let g = c.args.admitted.now.graph in
@@ -31,6 +33,7 @@ returns-then-not-is_better c =
     c.in_ok-figures.figures.excess c.in_ok-figures.figures.worst c.in_ok-figures.ensures
     (λ better. both_ways c.is_better.result c.if-not-is_better.true (c.is_better.ensures.1 better)))
 
+-- an item is too wide under the track order, so the first order is taken
 pub returns-in-Some : goal.returns-in-Some
 returns-in-Some c =
     let g = c.args.admitted.now.graph in
@@ -43,6 +46,7 @@ returns-in-Some c =
     (first_wide g a.well_formed urgency a.topological top c.requires.narrow c.args.first.excess c.args.first.worst
     c.requires.first c.args.order c.requires.track c.in-Some.field-0 least.wide)
 
+-- the track order is better and nothing is too wide under it, so it is taken
 pub returns : goal.returns
 returns c =
     let g = c.args.admitted.now.graph in

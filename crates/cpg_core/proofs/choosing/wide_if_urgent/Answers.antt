@@ -8,6 +8,7 @@ if_none : (r : Option ℕ) (P Q : Type 0) → (P → Q) → IfNone r P → IfNon
 if_none None P Q f h = f h
 if_none (Some x) P Q f h = h
 
+-- no item is found, so none is too wide under the first order if the graph gives none
 pub returns-clause-none : goal.returns-clause-none
 returns-clause-none c =
     let g = c.args.admitted.now.graph in

@@ -5,6 +5,7 @@ use Rattle.cpg_core.proofs.Figures.{grown_in_time}
 use Rattle.cpg_core.proofs.RowsCompiled.{compiled_rows}
 use Rattle.cpg_core.proofs.compiling.compile_first.Goals as goal
 
+-- nothing is late under the first order by its trees
 pub rows_of_first-requires-clause-in_time : goal.rows_of_first-requires-clause-in_time
 rows_of_first-requires-clause-in_time c =
     let g = c.args.admitted.now.graph in
@@ -15,6 +16,7 @@ rows_of_first-requires-clause-in_time c =
     grown_in_time g a.well_formed urgency a.topological top c.in_ok-first.first c.in_ok-first.ensures.grown 0
     c.requires.in_time.0 c.requires.in_time.1 refl
 
+-- the rows of the first order are those of its compilations, as it is the compile's order
 pub returns-clause-rows : goal.returns-clause-rows
 returns-clause-rows c =
     let g = c.args.admitted.now.graph in

@@ -10,6 +10,7 @@ shown_late-requires-clause-late c = (c.in_ok-taken.ensures.late c.if-taken-gt0.t
 pub shown_late-requires-clause-helpless : goal.shown_late-requires-clause-helpless
 shown_late-requires-clause-helpless c = (c.in_ok-taken.ensures.late c.if-taken-gt0.true).1
 
+-- the greatest excess is 0, so nothing is late under the order that is taken
 pub compile_taken-requires-clause-in_time : goal.compile_taken-requires-clause-in_time
 compile_taken-requires-clause-in_time c =
     let g = c.args.admitted.now.graph in

@@ -4,12 +4,14 @@ use Rattle.cpg_core.specs.Accepted.{order_taken}
 use Rattle.cpg_core.specs.Compiled.{IsCompileOrder}
 use Rattle.cpg_core.proofs.compiling.compile_taken.Goals as goal
 
+-- the track order is the one that is taken
 pub compile_tracks-requires-clause-taken : goal.compile_tracks-requires-clause-taken
 compile_tracks-requires-clause-taken c =
     let g = c.args.admitted.now.graph in
     let urgency = c.args.admitted.now.order in
     subst (λ o. IsCompileOrder g urgency (order_taken (first_order g urgency) o)) c.in-Some.is c.requires.taken
 
+-- the first order is the one that is taken
 pub compile_first-requires-clause-taken : goal.compile_first-requires-clause-taken
 compile_first-requires-clause-taken c =
     let g = c.args.admitted.now.graph in

@@ -20,6 +20,7 @@ build-requires-clause-grown c =
     subst (λ order. IsGrownFor c.args.admitted.now.graph c.args.admitted.now.order order c.in_ok-grown.grown)
     (sym c.in_ok-grown.ensures.same) c.in_ok-grown.ensures
 
+-- the rows of the track order are those of its compilations, as it is the compile's order
 pub returns : goal.returns
 returns c =
     let g = c.args.admitted.now.graph in

@@ -8,6 +8,7 @@ use Rattle.cpg_core.proofs.compiling.compile_untracked.Goals as goal
 pub late-requires-clause-helpless : goal.late-requires-clause-helpless
 late-requires-clause-helpless c = inr (inl c.requires)
 
+-- the graph has no track order, so the first order is the compile's, and its rows are those of its compilations
 pub returns-clause-rows : goal.returns-clause-rows
 returns-clause-rows c =
     let g = c.args.admitted.now.graph in

@@ -1,6 +1,7 @@
 use Rattle.cpg_reach.specs.Wide.{IsLeastWide}
 use Rattle.cpg_core.proofs.compiling.grow_tracks.Goals as goal
 
+-- no item is too wide under the track order, so the fault cannot come
 pub unreachable-requires : goal.unreachable-requires
 unreachable-requires c =
     let least : IsLeastWide c.args.admitted.now.graph c.args.order c.in-Err-TooWide.field-0-0 =

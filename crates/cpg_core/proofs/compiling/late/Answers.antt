@@ -12,6 +12,7 @@ unreachable-requires c = some_shown c.args.admitted.now.graph c.args.admitted.no
     (first_order c.args.admitted.now.graph c.args.admitted.now.order) c.args.first c.requires.grown c.requires.late
     c.in_default.is
 
+-- the process that is late is one of the graph
 pub due-requires : goal.due-requires
 due-requires c =
     let g = c.args.admitted.now.graph in
@@ -19,6 +20,7 @@ due-requires c =
     subst (λ h. c.in-Some.process < process_count h) (sym c.problem-problem.ensures.problem)
     (late_process g urgency (first_order g urgency) c.args.first c.requires.grown c.in-Some.process c.in-Some.is)
 
+-- the end is the due and the excess, which is no later than the greatest finish
 pub end_past-requires : goal.end_past-requires
 end_past-requires c =
     let g = c.args.admitted.now.graph in
@@ -31,6 +33,7 @@ end_past-requires c =
       late_small g urgency (first_order g urgency) c.args.first c.requires.grown c.in-Some.process c.in-Some.is,
     )
 
+-- the excess is above 0, so a process is late, and its end in the scenario of the excess is shown
 pub returns : goal.returns
 returns c =
     let g = c.args.admitted.now.graph in

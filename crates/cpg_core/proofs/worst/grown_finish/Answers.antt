@@ -6,6 +6,7 @@ use Rattle.cpg_core.proofs.worst.grown_finish.Goals as goal
 pub late_narrow-requires-clause-helpless : goal.late_narrow-requires-clause-helpless
 late_narrow-requires-clause-helpless c = inr (inl c.requires.many)
 
+-- the first order is the compile's and nothing is late under it, so the graph is accepted with its finish
 pub returns-clause-accepted : goal.returns-clause-accepted
 returns-clause-accepted c =
     let g = c.args.admitted.now.graph in

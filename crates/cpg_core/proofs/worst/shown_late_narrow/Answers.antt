@@ -2,6 +2,7 @@ use Rattle.cpg_order.specs.Urgency.{IsTopological, first_order}
 use Rattle.cpg_core.proofs.Figures.{grown_late}
 use Rattle.cpg_core.proofs.worst.shown_late_narrow.Goals as goal
 
+-- the graph is late, so something is late by the trees of the first order
 pub late_narrow-requires-clause-late : goal.late_narrow-requires-clause-late
 late_narrow-requires-clause-late c =
     let g = c.args.admitted.now.graph in

@@ -26,6 +26,7 @@ use Rattle.cpg_cover.proofs.cover.+along.Goals.{least_by_number-in_default-2}
 abbrev seen : Bor (List Literal) → List Literal
 seen b = b.now
 
+-- the cube matches nothing, so nothing is left of it
 pub least_along-returns-in_default : goal.least_along-returns-in_default
 least_along-returns-in_default t c =
     let g = c.args.problem.now in
@@ -34,6 +35,7 @@ least_along-returns-in_default t c =
     let none : IsFirst g order (matches cube) None = rw c.in_default.is at (c.in_ok-least.ensures.first order) in
     left_of_none g order (map seen c.args.by.items) cube none
 
+-- no cube of the list matches the least scenario of the cube, so that is the least that is left
 pub least_along-returns-in_default-place_of_match : goal.least_along-returns-in_default-place_of_match
 least_along-returns-in_default-place_of_match t c =
     let g = c.args.problem.now in
@@ -46,12 +48,14 @@ least_along-returns-in_default-place_of_match t c =
     rw c.as_slice.ensures.value at c.in_default-place_of_match.ensures.none in
     left_at_once g order (map seen c.args.by.items) cube least first none
 
+-- the list covers the cube, so no scenario is left
 pub least_along-returns-then-covered : goal.least_along-returns-then-covered
 least_along-returns-then-covered t c =
     none_from_covered c.args.problem.now c.args.order.now (map seen c.args.by.items) c.args.cube.now
     (λ s i m. any_map (λ b. matches b s) seen c.args.by.items
     ∙ rw c.as_slice-2.ensures.value at (OnTrue_at c.if-covered.true c.in_ok-covered.ensures s i m))
 
+-- the part has the cube's literals and one on a variable of the order, all known to the graph
 pub least_by_number-is_late-requires-clause-part : goal.least_by_number-is_late-requires-clause-part
 least_by_number-is_late-requires-clause-part t c =
     let g = c.args.problem.now in
@@ -63,6 +67,7 @@ least_by_number-is_late-requires-clause-part t c =
     subst (IsKnown g) (with-is l c.args.cube.now c.in-Some-2.part some)
     (known-narrowed g l c.args.cube.now known c.requires.cube)
 
+-- the part and the variables that are left are known to the graph
 pub least_by_number-least_of_part-requires : goal.least_by_number-least_of_part-requires
 least_by_number-least_of_part-requires t c =
     let g = c.args.problem.now in
@@ -80,6 +85,7 @@ least_by_number-least_of_part-requires t c =
       ),
     )
 
+-- the next number of the variable gives a part that is searched, late or empty: then one number more is done
 pub least_by_number-loop-number-preserved : goal.least_by_number-loop-number-preserved
 least_by_number-loop-number-preserved t c =
     let g = c.args.problem.now in

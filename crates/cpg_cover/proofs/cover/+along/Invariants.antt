@@ -5,6 +5,8 @@ use Rattle.cpg_base.specs.Scenario.{number_of}
 use Rattle.cpg_cover.specs.Cover.{is_left}
 use Rattle.cpg_cover.proofs.cover.+along.Given as goal
 
+-- The three functions call each other. The variables that are left count three each, so that a call with one variable
+-- less is smaller, and calls with the same variables go from `least_of_part` over `least_along` to `least_by_number`.
 abbrev pub decreases-least_along : goal.decreases-least_along
 decreases-least_along l = length l.variables.now * 3 + 1
 

@@ -25,6 +25,7 @@ use Rattle.cpg_cover.proofs.cover.+cover.Goals as goal
 abbrev seen : Bor (List Literal) → List Literal
 seen b = b.now
 
+-- the cube matches nothing, so nothing is left of it
 pub left_of-returns-in_default : goal.left_of-returns-in_default
 left_of-returns-in_default t c =
     let g = c.args.problem.now in
@@ -33,6 +34,7 @@ left_of-returns-in_default t c =
     let none : IsFirst g order (matches cube) None = rw c.in_default.is at (c.in_ok-least.ensures.first order) in
     left_of_none g order (map seen c.args.by.items) cube none
 
+-- no cube of the list matches the least scenario of the cube, so that is the least that is left
 pub left_of-returns-in_default-place_of_match : goal.left_of-returns-in_default-place_of_match
 left_of-returns-in_default-place_of_match t c =
     let g = c.args.problem.now in
@@ -45,6 +47,7 @@ left_of-returns-in_default-place_of_match t c =
     rw c.as_slice.ensures.value at c.in_default-place_of_match.ensures.none in
     left_at_once g order (map seen c.args.by.items) cube least first none
 
+-- the literals that cut, ranked in some order, and the cubes without the one taken are known to the graph
 pub left_of-left_outside-requires : goal.left_of-left_outside-requires
 left_of-left_outside-requires t c =
     let g = c.args.problem.now in
@@ -67,6 +70,7 @@ left_of-left_outside-requires t c =
     c.requires.list) in
     (search rules, (c.requires.order, (c.requires.cube, (known, (literals, list)))))
 
+-- what is outside the cube that was taken, by the literals that cut, is all that is left
 pub left_of-returns : goal.left_of-returns
 left_of-returns t c =
     let g = c.args.problem.now in
@@ -85,12 +89,14 @@ left_of-returns t c =
     ∙ cut s i t ∙ ap (λ b. matches b s) is_first)
     (rw (c.as_slice-5.ensures.value, c.remove-first.ensures.items, c.as_slice-4.ensures.value) at c.in_ok-found.ensures)
 
+-- the literal allows no number that the cube allows, so this part of the cube is empty
 pub left_of_part-returns-in_default-2-clause-part : goal.left_of_part-returns-in_default-2-clause-part
 left_of_part-returns-in_default-2-clause-part t c =
     let none : with_literal c.in-Some.literal c.args.cube.now ≡ None = search rules in
     rw c.in-Some.is
     (part_none c.args.problem.now c.args.order.now (map seen c.args.by.now) c.in-Some.literal c.args.cube.now none)
 
+-- the cube narrowed by a literal on a variable of the graph is known to it
 pub left_of_part-meeting-requires-clause-cube : goal.left_of_part-meeting-requires-clause-cube
 left_of_part-meeting-requires-clause-cube t c =
     let g = c.args.problem.now in
@@ -99,6 +105,7 @@ left_of_part-meeting-requires-clause-cube t c =
     subst (IsKnown g) (with-is c.in-Some.literal c.args.cube.now c.in-Some-2.part some)
     (known-narrowed g c.in-Some.literal c.args.cube.now known c.requires.cube)
 
+-- the part is known to the graph, and so are the cubes that were kept
 pub left_of_part-left_of-requires : goal.left_of_part-left_of-requires
 left_of_part-left_of-requires t c =
     let g = c.args.problem.now in
@@ -154,6 +161,7 @@ left_outside-returns-in_default-2 t c =
     (outside_one g few order by l ls cube c.in_ok-low.low c.in_ok-high.high None below above
     (within_none g order by l cube ls none))
 
+-- the cube narrowed by the first literal is known to the graph
 pub left_outside-meeting-requires-clause-cube : goal.left_outside-meeting-requires-clause-cube
 left_outside-meeting-requires-clause-cube t c =
     let g = c.args.problem.now in
@@ -166,6 +174,7 @@ left_outside-meeting-requires-clause-cube t c =
     subst (IsKnown g) (with-is l c.args.cube.now c.in-Some-2.within some)
     (known-narrowed g l c.args.cube.now known c.requires.cube)
 
+-- the part within the first literal, the other literals and the cubes kept are known to the graph
 pub left_outside-left_outside-requires : goal.left_outside-left_outside-requires
 left_outside-left_outside-requires t c =
     let g = c.args.problem.now in
@@ -191,6 +200,7 @@ left_outside-left_outside-requires t c =
       ),
     )
 
+-- the earliest of the answers below the first literal, above it and within it is the first of all
 pub left_outside-returns : goal.left_outside-returns
 left_outside-returns t c =
     let g = c.args.problem.now in

@@ -1,6 +1,8 @@
 use Rattle.std.proofs.Common.{◌+◌, ◌*◌, length}
 use Rattle.cpg_cover.proofs.cover.+cover.Given as goal
 
+-- The three functions call each other. The cubes that are left count 300 each, which is more than the literals of a
+-- cube, so a call with one cube less is smaller, and `left_outside` goes on with one literal less.
 abbrev pub decreases-left_of : goal.decreases-left_of
 decreases-left_of l = length l.by.items * 300
 

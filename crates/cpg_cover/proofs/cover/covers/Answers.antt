@@ -7,12 +7,14 @@ use Rattle.cpg_cover.proofs.Kept.{all_unmapped}
 use Rattle.cpg_cover.proofs.CoverLaws.{least_if_some}
 use Rattle.cpg_cover.proofs.cover.covers.Goals as goal
 
+-- the cubes of the list are of variables of the graph
 pub uncovered-requires-clause-list : goal.uncovered-requires-clause-list
 uncovered-requires-clause-list c =
     let g = c.args.problem.now in
     rw c.as_slice.ensures.value (all_unmapped (IsKnown g) (λ (b : Bor (List Literal)). b.now) c.in_ok-cubes.cubes.items
     (rw c.in_ok-cubes.ensures c.requires.list))
 
+-- the scenario that was found is the first that is left of the cube by the cubes of the list
 pub returns-clause-least : goal.returns-clause-least
 returns-clause-least c =
     let g = c.args.problem.now in

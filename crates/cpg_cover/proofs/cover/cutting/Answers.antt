@@ -12,6 +12,7 @@ use Rattle.cpg_cover.proofs.Kept.{all_push, all_skip, rising_short}
 use Rattle.cpg_cover.proofs.cover.cutting.Goals as goal
 use Rattle.cpg_cover.proofs.cover.cutting.Goals.{then-not-spans+in_ok-push, else-not-spans}
 
+-- the cube matches no scenario, so there is nothing to show
 pub returns-in_default-clause-same : goal.returns-in_default-clause-same
 returns-in_default-clause-same c s i t =
     let g = c.args.problem.now in
@@ -20,6 +21,7 @@ returns-in_default-clause-same c s i t =
     let none : budget_left (is_open g.faults) asked_of_literal g.faults a ≡ None = search rules in
     absurd (both_ways (matches a s) (unmatched g c.faults-k.ensures.within a is (met_from_none g.faults a none) s i) t)
 
+-- the next literal is kept, or it holds wherever the cube matches: the literals kept say as much as all so far
 pub loop-literal-preserved : goal.loop-literal-preserved
 loop-literal-preserved c =
     let g = c.args.problem.now in
@@ -54,10 +56,12 @@ loop-literal-preserved c =
           }
     ]
 
+-- at the end of the loop the literals so far are all literals
 pub returns-clause-same : goal.returns-clause-same
 returns-clause-same c s i t = c.loop-literal.invariant.same s i t
     ∙ ap (λ ls. matches ls s) (take_all c.loop-literal.literal-index c.args.literals.now (omega arith))
 
+-- the literals of a rising cube are at most 256, and no more than these are kept
 pub returns-clause-few : goal.returns-clause-few
 returns-clause-few c =
     let g = c.args.problem.now in

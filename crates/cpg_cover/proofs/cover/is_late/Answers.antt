@@ -6,12 +6,14 @@ use Rattle.cpg_cube.specs.Cube.{matches}
 use Rattle.cpg_cover.specs.Late.{IsLate}
 use Rattle.cpg_cover.proofs.cover.is_late.Goals as goal
 
+-- the least scenario of the part is one of the graph
 pub is_before-requires-clause-first : goal.is_before-requires-clause-first
 is_before-requires-clause-first c =
     let first : IsFirst c.args.problem.now c.args.order.now (matches c.args.part.now) (Some c.in-Some-2.least) =
     rw c.in-Some-2.is at (c.in_ok-least.ensures.first c.args.order.now) in
     first.lawful
 
+-- the least scenario of the part isn't before the one that is found, so none of the part is
 pub returns : goal.returns
 returns c =
     let g = c.args.problem.now in

@@ -14,6 +14,7 @@ use Rattle.cpg_cover.proofs.Kept.{left_same, kept_push, kept_skip}
 use Rattle.cpg_cover.proofs.cover.meeting.Goals as goal
 use Rattle.cpg_cover.proofs.cover.meeting.Goals.{then-fits+in_ok-push, else-fits}
 
+-- the cube matches no scenario, so each list leaves the same of it
 pub returns-in_default-clause-same : goal.returns-in_default-clause-same
 returns-in_default-clause-same c s i =
     let g = c.args.problem.now in
@@ -24,6 +25,7 @@ returns-in_default-clause-same c s i =
     (λ t. absurd
     (both_ways (matches a s) (unmatched g c.faults-k.ensures.within a is (met_from_none g.faults a none) s i) t))
 
+-- the next cube is kept, or it is apart from this one: the cubes kept leave the same as all so far
 pub loop-other-preserved : goal.loop-other-preserved
 loop-other-preserved c =
     let g = c.args.problem.now in
@@ -65,6 +67,7 @@ loop-other-preserved c =
           }
     ]
 
+-- at the end of the loop the cubes so far are all, so in the cube the kept ones leave the same scenarios
 pub returns-clause-same : goal.returns-clause-same
 returns-clause-same c s i =
     left_same (λ (b : Bor (List Literal)). b.now) c.loop-other.kept.items c.args.by.now c.args.cube.now s

@@ -6,6 +6,8 @@ use Rattle.cpg_cube.specs.Cube.{matches}
 use Rattle.cpg_cube.specs.Fit.{IsKnown}
 use Rattle.cpg_cover.proofs.cover.meeting.Given as goal
 
+-- `same`: a scenario of the cube is in a cube kept exactly when it is in a cube so far. `known`: the
+-- cubes kept are of the graph's variables. `few`: at most one is kept for each turn.
 abbrev pub invariant-loop-other : goal.invariant-loop-other
 invariant-loop-other l = record {
   same : (s : Scenario) → IsScenario l.problem s → matches l.cube s ≡ true →

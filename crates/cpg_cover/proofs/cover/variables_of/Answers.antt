@@ -6,6 +6,7 @@ use Rattle.cpg_cover.proofs.Known.{variables_known}
 use Rattle.cpg_cover.proofs.cover.variables_of.Goals as goal
 use Rattle.cpg_cover.proofs.cover.variables_of.Goals.{then-marks-variable+in_ok-push, else-marks-variable}
 
+-- the processes of the order are those of the graph
 pub variables_along-requires : goal.variables_along-requires
 variables_along-requires c =
     let n = process_count c.args.problem.now in
@@ -14,6 +15,7 @@ variables_along-requires c =
           (within_order n c.args.order.now (rw c.requires at c.processes.ensures.order.all));
     }
 
+-- the next variable along the order is one of the graph, whether it is marked or not
 pub loop-variable-preserved : goal.loop-variable-preserved
 loop-variable-preserved c =
     let g = c.args.problem.now in

@@ -9,6 +9,7 @@ use Rattle.cpg_cover.specs.Fewest.{Needs}
 use Rattle.cpg_cover.proofs.GroundLaws.{is_on, is_narrow, is_covered}
 use Rattle.cpg_cover.proofs.covering.is_surely_covered.Goals as goal
 
+-- if what the cubes leave takes more faults than the cube does, every scenario of the cube matches one of them
 pub returns : goal.returns
 returns c =
     let g = c.args.problem.now in

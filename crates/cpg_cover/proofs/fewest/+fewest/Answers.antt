@@ -3,6 +3,7 @@ use Rattle.cpg_cover.specs.Fewest.{Needs}
 use Rattle.cpg_cover.proofs.FewestLaws.{Steps, without_from, value_from, count_without, count_from, parts_from}
 use Rattle.cpg_cover.proofs.fewest.+fewest.Goals as goal
 
+-- what the cubes need after the step to 0 faults is what they need if the process has none
 pub fewest_by_count-fewest_with-requires : goal.fewest_by_count-fewest_with-requires
 fewest_by_count-fewest_with-requires t c =
     let cubes = c.args.cubes.now in
@@ -18,6 +19,7 @@ fewest_by_count-fewest_with-requires t c =
       ),
     )
 
+-- the two parts have no common variables, so the cubes need the sum of what they need
 pub fewest_by_parts-returns : goal.fewest_by_parts-returns
 fewest_by_parts-returns t c =
     let sum = c.saturating_add.ensures in
@@ -27,6 +29,7 @@ fewest_by_parts-returns t c =
     (rw c.as_slice.ensures.value at c.in_ok-few.ensures)
     (rw c.as_slice-2.ensures.value at c.in_ok-more.ensures) (omega arith)
 
+-- the cubes need the lesser of what they need with the value false and with it true
 pub fewest_by_value-returns : goal.fewest_by_value-returns
 fewest_by_value-returns t c =
     let cubes = c.args.cubes.now in
@@ -44,12 +47,14 @@ fewest_by_value-returns t c =
     off (rw c.as_slice.ensures.value at c.in_ok-without.ensures) on
     (rw c.as_slice-2.ensures.value at c.in_ok-with.ensures) (omega arith) (omega arith) (omega arith)
 
+-- with a fault of the variable there is one fault at least, so the lesser of `without` and 1 is a bound
 pub fewest_with-returns-then-most-eq0 : goal.fewest_with-returns-then-most-eq0
 fewest_with-returns-then-most-eq0 t c =
     let a = c.min.ensures in
     count_without c.args.cubes.now c.args.variable c.args.bound.budget c.args.without c.min.result c.requires.count
     c.requires.without (omega arith) (omega arith)
 
+-- the cubes need the lesser of what they need without a fault of the process and with one
 pub fewest_with-returns : goal.fewest_with-returns
 fewest_with-returns t c =
     let cubes = c.args.cubes.now in

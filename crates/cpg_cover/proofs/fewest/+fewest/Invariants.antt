@@ -1,6 +1,8 @@
 use Rattle.std.proofs.Common.{◌+◌, ◌*◌}
 use Rattle.cpg_cover.proofs.fewest.+fewest.Given as goal
 
+-- The functions call each other. Each step of depth counts eight, and calls of the same depth go from the greater of
+-- these numbers to the lesser.
 abbrev pub decreases-fewest : goal.decreases-fewest
 decreases-fewest l = l.bound.depth * 8
 

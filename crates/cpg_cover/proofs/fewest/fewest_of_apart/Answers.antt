@@ -4,6 +4,7 @@ use Rattle.cpg_cover.proofs.FewestLaws.{marked_all, marked_more, one_is_off}
 use Rattle.cpg_cover.proofs.fewest.fewest_of_apart.Goals as goal
 use Rattle.cpg_cover.proofs.fewest.fewest_of_apart.Goals.{then-few-gt0+then-are_all, else-few-gt0}
 
+-- the next cube shares no variable with those counted and adds what it needs, or is left out
 pub loop-cube-preserved : goal.loop-cube-preserved
 loop-cube-preserved c =
     let cubes = c.args.cubes.now in
@@ -24,5 +25,6 @@ loop-cube-preserved c =
       | else-few-gt0 w ↦ rw (w.marks-is, w.sum-is) inv
     ]
 
+-- the faults of the marked variables are at most all faults
 pub returns : goal.returns
 returns c = marked_all c.args.cubes.now c.loop-cube.marks c.loop-cube.sum c.loop-cube.invariant

@@ -1,5 +1,6 @@
 use Rattle.cpg_cover.proofs.FewestLaws.{NeedsOfMarked}
 use Rattle.cpg_cover.proofs.fewest.fewest_of_apart.Given as goal
 
+-- if no cube is matched, the faults of the variables marked so far are at least `sum`
 abbrev pub invariant-loop-cube : goal.invariant-loop-cube
 invariant-loop-cube l = NeedsOfMarked l.cubes l.marks l.sum

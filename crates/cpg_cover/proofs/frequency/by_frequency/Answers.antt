@@ -3,6 +3,7 @@ use Rattle.std.proofs.lemmas.List.Sorted.{IsPermutation-map}
 use Rattle.cpg_cover.specs.declared.frequency.LiteralRank.{LiteralRank}
 use Rattle.cpg_cover.proofs.frequency.by_frequency.Goals as goal
 
+-- the ranks are sorted, and their literals are those of the list, in another order
 pub returns : goal.returns
 returns c =
     let same : map (λ (r : LiteralRank). r.literal) c.in_ok-ranks.ranks.items ≡ c.args.literals.now = search rules in

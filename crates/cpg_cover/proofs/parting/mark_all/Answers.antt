@@ -4,6 +4,7 @@ use Rattle.cpg_cube.specs.declared.literal.Literal.{Literal}
 use Rattle.cpg_cover.proofs.FewestLaws.{all_one_more, all_still_marked, now_marked, still_marked}
 use Rattle.cpg_cover.proofs.parting.mark_all.Goals as goal
 
+-- with the next literal's variable marked, one literal more is on marked variables
 pub loop-literal-preserved : goal.loop-literal-preserved
 loop-literal-preserved c =
     let blank : Literal = record { variable = 0; low = 0; high = 0 } in

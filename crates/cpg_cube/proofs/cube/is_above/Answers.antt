@@ -5,6 +5,7 @@ use Rattle.cpg_cube.specs.Cube.{Literal}
 use Rattle.cpg_cube.proofs.Above.{all_under}
 use Rattle.cpg_cube.proofs.cube.is_above.Goals as goal
 
+-- the last literal has the highest variable, so if that is lower, all are
 pub returns-in-Some : goal.returns-in-Some
 returns-in-Some c = OnTrue_from (nat_lt c.in-Some.last.now.variable c.args.variable)
     (All (λ (l : Literal). l.variable < c.args.variable) c.args.literals.now)

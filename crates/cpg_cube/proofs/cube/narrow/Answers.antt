@@ -7,11 +7,13 @@ use Rattle.cpg_cube.proofs.NarrowSteps.{from_variable, place_found, narrowed-las
 use Rattle.cpg_cube.proofs.Undone.{undo_last, undo_in, undo_set, on_last, on_in, on_set}
 use Rattle.cpg_cube.proofs.cube.narrow.Goals as goal
 
+-- no literal is on this variable or above, so the literal is the last one
 pub returns-in_default-clause-narrowed : goal.returns-in_default-clause-narrowed
 returns-in_default-clause-narrowed c =
     let e : position (from_variable c.args.literal.variable) c.args.literals.now.items ≡ None = search rules in
     c.in_ok-push.ensures.ok ∙ sym (narrowed-last c.args.literal c.args.literals.now.items e)
 
+-- taking the last literal off gives the literals from before
 pub returns-in_default-clause-undo : goal.returns-in_default-clause-undo
 returns-in_default-clause-undo c =
     undo_last c.args.literal c.args.literals.now.items _ _ (search rules) c.in_ok-push.ensures.ok
@@ -20,6 +22,7 @@ returns-in_default-clause-undo c =
 abbrev blank : Literal
 blank = record { variable = 0; low = 0; high = 0 }
 
+-- the place found has a literal on the variable, and the met range set there is the narrowing
 pub returns-then-other-literal-clause-narrowed : goal.returns-then-other-literal-clause-narrowed
 returns-then-other-literal-clause-narrowed c =
     let e : position (from_variable c.args.literal.variable) c.args.literals.now.items ≡ Some c.in-Some.place =
@@ -33,6 +36,7 @@ returns-then-other-literal-clause-narrowed c =
     ∙ sym (narrowed-set c.args.literal xs c.in-Some.place blank
     (place_found c.args.literal.variable xs c.in-Some.place e) (rw c.as_slice-2.ensures at c.if-other-literal.true))
 
+-- setting back the literal that was at the place undoes the narrowing
 pub returns-then-other-literal-clause-undo : goal.returns-then-other-literal-clause-undo
 returns-then-other-literal-clause-undo c =
     let xs = c.args.literals.now.items in
@@ -44,6 +48,7 @@ returns-then-other-literal-clause-undo c =
     undo_set c.met.result xs _ c.in-Some.place _ blank within there
     (rw written (items-with_items c.args.literals.now _ (length-set xs c.in-Some.place _)))
 
+-- the place found has a literal on a higher variable, and the literal put in before it is the narrowing
 pub returns-clause-narrowed : goal.returns-clause-narrowed
 returns-clause-narrowed c =
     let e : position (from_variable c.args.literal.variable) c.args.literals.now.items ≡ Some c.in-Some.place =
@@ -53,15 +58,18 @@ returns-clause-narrowed c =
     (narrowed-in c.args.literal xs c.in-Some.place blank (place_found c.args.literal.variable xs c.in-Some.place e)
     (rw c.as_slice-2.ensures at c.if-other-literal.false))
 
+-- taking the inserted literal out gives the literals from before
 pub returns-clause-undo : goal.returns-clause-undo
 returns-clause-undo c =
     let within : c.in-Some.place < length c.args.literals.now.items = search rules in
     undo_in c.args.literal c.args.literals.now.items _ c.in-Some.place within c.in_ok-insert.ensures.ok
 
+-- the last place has the literal, and there was none on its variable
 pub returns-in_default-clause-on : goal.returns-in_default-clause-on
 returns-in_default-clause-on c =
     on_last c.args.literal c.args.literals.now.items _ _ (search rules) c.in_ok-push.ensures.ok
 
+-- both the literal that was at the place and the one set there are on the variable
 pub returns-then-other-literal-clause-on : goal.returns-then-other-literal-clause-on
 returns-then-other-literal-clause-on c =
     let xs = c.args.literals.now.items in
@@ -74,6 +82,7 @@ returns-then-other-literal-clause-on c =
     on_set c.met.result xs _ c.in-Some.place c.args.literal.variable _ within same met
     (rw written (items-with_items c.args.literals.now _ (length-set xs c.in-Some.place _)))
 
+-- the place has the inserted literal
 pub returns-clause-on : goal.returns-clause-on
 returns-clause-on c =
     let within : c.in-Some.place < length c.args.literals.now.items = search rules in

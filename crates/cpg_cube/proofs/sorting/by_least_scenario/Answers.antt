@@ -13,11 +13,13 @@ use Rattle.cpg_cube.proofs.KeyOrder.{is_key_below, is_total, by_lows, few_variab
 use Rattle.cpg_cube.proofs.KeyPlaces.{variables_apart}
 use Rattle.cpg_cube.proofs.sorting.by_least_scenario.Goals as goal
 
+-- the processes of the order are those of the graph
 pub variables_along-requires : goal.variables_along-requires
 variables_along-requires g c = let n = process_count c.args.problem.now in record {
   order = subst (All (λ p. p < n)) (sym c.processes.ensures.processes) (within_order n c.args.order.now c.requires);
 }
 
+-- the variables along the order are at most 256, and no two of them are the same
 pub with_keys-requires : goal.with_keys-requires
 with_keys-requires g c =
     let problem = c.args.problem.now in
@@ -35,6 +37,7 @@ with_keys-requires g c =
           (variables_apart problem c.processes-processes.ensures.within.few_processes order c.requires);
     }
 
+-- the sorted columns with their keys are a permutation, and so are the columns alone
 pub returns-clause-permutation : goal.returns-clause-permutation
 returns-clause-permutation g c =
     let column = λ (x : Ranked g.row.T.Denot). x.column in
@@ -47,6 +50,7 @@ returns-clause-permutation g c =
     (IsPermutation-map column before after c.sort_unstable_by.ensures.permutation)))
     (search rules)
 
+-- the columns are sorted by their keys, and so by their lows along the order
 pub returns-clause-by_lows : goal.returns-clause-by_lows
 returns-clause-by_lows g c =
     let column = λ (x : Ranked g.row.T.Denot). x.column in

@@ -5,6 +5,7 @@ use Rattle.cpg_cube.specs.Keys.{AreBytes, key_by}
 use Rattle.cpg_cube.proofs.KeyOrder.{first_alone, best_next}
 use Rattle.cpg_cube.proofs.sorting.first_by_key.Goals as goal
 
+-- the first column is the best of one column
 pub loop-place-init : goal.loop-place-init
 loop-place-init g c =
     let columns = c.args.columns.now in
@@ -19,6 +20,7 @@ loop-place-init g c =
       key = λ d. c.in_ok-key.ensures.key variables c.places_of-places.ensures ∙ ap (key_by variables) (of_first d);
     }
 
+-- the lesser of the best so far and the next column is the best of one column more
 pub loop-place-preserved : goal.loop-place-preserved
 loop-place-preserved g c =
     let columns = c.args.columns.now in
@@ -36,6 +38,7 @@ loop-place-preserved g c =
     })
     c.lesser-best.result c.lesser-best.ensures
 
+-- the loop has seen all columns, so the best of them is the first of all
 pub returns-clause-first : goal.returns-clause-first
 returns-clause-first g c =
     let h = c.loop-place.invariant.first in

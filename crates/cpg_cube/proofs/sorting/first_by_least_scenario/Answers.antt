@@ -8,11 +8,13 @@ use Rattle.cpg_cube.proofs.KeyOrder.{few_variables, first_by_lows, within_order}
 use Rattle.cpg_cube.proofs.KeyPlaces.{variables_apart}
 use Rattle.cpg_cube.proofs.sorting.first_by_least_scenario.Goals as goal
 
+-- the processes of the order are those of the graph
 pub variables_along-requires : goal.variables_along-requires
 variables_along-requires g c = let n = process_count c.args.problem.now in record {
   order = subst (All (λ p. p < n)) (sym c.processes.ensures.processes) (within_order n c.args.order.now c.requires);
 }
 
+-- the variables along the order are at most 256, and no two of them are the same
 pub first_by_key-requires : goal.first_by_key-requires
 first_by_key-requires g c =
     let problem = c.args.problem.now in
@@ -30,6 +32,7 @@ first_by_key-requires g c =
           (variables_apart problem c.processes-processes.ensures.within.few_processes order c.requires);
     }
 
+-- the first column by keys is the first by lows along the order
 pub returns-clause-first : goal.returns-clause-first
 returns-clause-first g c =
     let problem = c.args.problem.now in

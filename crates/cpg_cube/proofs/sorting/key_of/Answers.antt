@@ -5,6 +5,7 @@ use Rattle.cpg_cube.specs.Keys.{AreBytes, with_lows_of}
 use Rattle.cpg_cube.proofs.KeyPlaces.{key_made, lows_after}
 use Rattle.cpg_cube.proofs.sorting.key_of.Goals as goal
 
+-- with the lows of a block put, those of the rest are still to be put, and the whole key is the same
 pub loop-block-preserved : goal.loop-block-preserved
 loop-block-preserved c =
     let old = c.loop-block.invariant in
@@ -20,6 +21,7 @@ loop-block-preserved c =
           (All-append (λ (l : Literal). l.low < 256) block rest c.in_ok-put_block.ensures.bytes later));
     }
 
+-- the lows of all literals were put one by one, which makes the key of the cube
 pub returns-clause-key : goal.returns-clause-key
 returns-clause-key c variables are =
     let bytes : AreBytes c.args.cube.now = c.loop-block.invariant.bytes c.in_ok-put_lows_of.ensures.bytes in

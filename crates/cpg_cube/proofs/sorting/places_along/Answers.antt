@@ -7,11 +7,13 @@ use Rattle.cpg_cube.proofs.KeyOrder.{few_variables, within_order}
 use Rattle.cpg_cube.proofs.KeyPlaces.{variables_apart}
 use Rattle.cpg_cube.proofs.sorting.places_along.Goals as goal
 
+-- the processes of the order are those of the graph
 pub variables_along-requires : goal.variables_along-requires
 variables_along-requires c = let n = process_count c.args.problem.now in record {
   order = subst (All (λ p. p < n)) (sym c.processes.ensures.processes) (within_order n c.args.order.now c.requires);
 }
 
+-- the variables along the order are at most 256, and no two of them are the same
 pub places_of-requires : goal.places_of-requires
 places_of-requires c =
     let problem = c.args.problem.now in
@@ -29,6 +31,7 @@ places_of-requires c =
           (variables_apart problem c.processes-processes.ensures.within.few_processes order c.requires);
     }
 
+-- the list has the variables along the order, so the places are those of these variables
 pub returns : goal.returns
 returns c =
     let problem = c.args.problem.now in

@@ -6,6 +6,7 @@ use Rattle.cpg_cube.proofs.sorting.places_of.Goals as goal
 pub loop-variable-init : goal.loop-variable-init
 loop-variable-init c = record { left = refl; long = refl; places = places_none }
 
+-- with the next variable's place written, the places are those of one variable more
 pub loop-variable-preserved : goal.loop-variable-preserved
 loop-variable-preserved c =
     let i = c.loop-variable.invariant in

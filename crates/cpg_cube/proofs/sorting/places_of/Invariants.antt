@@ -2,6 +2,7 @@ use Rattle.std.proofs.Common.{ℕ, ◌≡◌, ◌+◌, get_or, length, take}
 use Rattle.cpg_cube.specs.Keys.{left_at}
 use Rattle.cpg_cube.proofs.sorting.places_of.Given as goal
 
+-- each variable so far has how many of 256 places were left at its turn, and the others have 0
 abbrev pub invariant-loop-variable : goal.invariant-loop-variable
 invariant-loop-variable l = record {
   left : l.left + l.variable-index ≡ 256;

@@ -6,6 +6,7 @@ use Rattle.cpg_cube.specs.Cube.{Literal}
 use Rattle.cpg_cube.specs.Keys.{AreBytes}
 use Rattle.cpg_cube.proofs.sorting.put_lows_of.Goals as goal
 
+-- the key has the low of one literal more, which is a byte
 pub loop-literal-preserved : goal.loop-literal-preserved
 loop-literal-preserved c =
     let literals = c.args.literals.now in

@@ -2,6 +2,7 @@ use Rattle.std.proofs.Common.{◌≡◌, drop, take}
 use Rattle.cpg_cube.specs.Keys.{AreBytes, with_lows_of}
 use Rattle.cpg_cube.proofs.sorting.put_lows_of.Given as goal
 
+-- the key with the lows of the literals still to come is the whole key; the lows so far are bytes
 abbrev pub invariant-loop-literal : goal.invariant-loop-literal
 invariant-loop-literal l = record {
   key : with_lows_of l.places l.literals l.fn.key.items

@@ -4,6 +4,7 @@ use Rattle.cpg_cube.specs.Keys.{place_in}
 use Rattle.cpg_cube.proofs.KeyPlaces.{insert_at}
 use Rattle.cpg_cube.proofs.sorting.put_number.Goals as goal
 
+-- the number is inserted before the first lesser one, which is its place
 pub returns : goal.returns
 returns c =
     let key = c.args.key.now.items in

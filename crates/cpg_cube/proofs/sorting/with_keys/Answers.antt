@@ -6,6 +6,7 @@ use Rattle.cpg_cube.specs.Keys.{AreBytes, IsKeyOf, key_by}
 use Rattle.cpg_cube.specs.declared.sorting.Ranked.{Ranked}
 use Rattle.cpg_cube.proofs.sorting.with_keys.Goals as goal
 
+-- the column that was added has the key of its cube, as those before have
 pub loop-column-preserved : goal.loop-column-preserved
 loop-column-preserved g c =
     let i = c.loop-column.invariant in
@@ -20,6 +21,7 @@ loop-column-preserved g c =
           }));
     }
 
+-- before the loop there are no columns
 pub loop-column-init : goal.loop-column-init
 loop-column-init g c =
     let none : c.reserve.new.self.items ≡ [] = c.in_ok-reserve.ensures.items ∙ c.new-ranked.ensures.items in
@@ -30,8 +32,10 @@ loop-column-init g c =
           (sym none) (λ k d l. absurd (omega (arith, l)));
     }
 
+-- no column is left, so the ranked columns are all of them
 pub returns-clause-columns : goal.returns-clause-columns
 returns-clause-columns g c = grind (arith, common_steps)
 
+-- each ranked column has the key of its cube, as the invariant says
 pub returns-clause-keys : goal.returns-clause-keys
 returns-clause-keys g c = c.loop-column.invariant.keys

@@ -2,6 +2,7 @@ use Rattle.std.proofs.Common.{◌≡◌, ◌++◌, map, All}
 use Rattle.cpg_cube.specs.Keys.{IsKeyOf}
 use Rattle.cpg_cube.proofs.sorting.with_keys.Given as goal
 
+-- the ranked columns and those still to come are all columns, and each ranked one has the key of its cube
 abbrev pub invariant-loop-column : goal.invariant-loop-column
 invariant-loop-column g l = record {
   columns : l.fn.columns.items ≡ map (λ x. x.column) l.ranked.items ++ l.column-iterator.rest.items;

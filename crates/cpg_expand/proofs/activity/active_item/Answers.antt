@@ -6,6 +6,7 @@ use Rattle.cpg_expand.specs.Sending.{IsGoesTree}
 use Rattle.cpg_expand.proofs.ActiveItems.{start_activity, sent_activity}
 use Rattle.cpg_expand.proofs.activity.active_item.Goals as goal
 
+-- the item is a start, so it is active where its process is, as the guard's tree says
 pub returns-then-item-processes-clause-active : goal.returns-then-item-processes-clause-active
 returns-then-item-processes-clause-active c =
     let same = c.problem-problem.ensures.problem in
@@ -22,6 +23,7 @@ returns-then-item-processes-clause-active c =
     (omega (arith, c.if-item-processes.true, ap length c.processes.ensures.processes, ap process_count same))
     (c.producer-process.ensures.producer ∙ ap (λ g. producer g c.args.item) same)
 
+-- the item is sent, so it is active where the tree of what its producer sends is true
 pub returns-clause-active : goal.returns-clause-active
 returns-clause-active c =
     let same = c.problem-problem.ensures.problem in

@@ -5,6 +5,7 @@ use Rattle.cpg_expand.specs.Large.{IsLargeBegun, IsLargeFrozen, IsLargeThawed}
 use Rattle.cpg_expand.proofs.LargeShown.{handed_as}
 use Rattle.cpg_expand.proofs.along.begin.Goals as goal
 
+-- the process is not frozen, so its start is the one in each scenario and no frozen time changes
 pub returns-clause-begun : goal.returns-clause-begun
 returns-clause-begun c =
     let b = c.in_ok-active-2.ensures.begun c.args.order.now in
@@ -26,6 +27,7 @@ returns-clause-begun c =
       is = b.is;
     }
 
+-- a fault on the way of a frozen process is one on the way to its start and end
 pub returns-in_err-active-clause-fault : goal.returns-in_err-active-clause-fault
 returns-in_err-active-clause-fault c =
     let g = c.args.admitted.now.graph in
@@ -38,6 +40,7 @@ returns-in_err-active-clause-fault c =
     c.from_residual.result c.in_err-active.field-0.0 c.from_residual.ensures.1
     (λ x. inr (frozen, x)) c.in_err-active.ensures.fault
 
+-- a fault on the way of a process that is not frozen is one on the way to its start and end
 pub returns-in_err-active-2-clause-fault : goal.returns-in_err-active-2-clause-fault
 returns-in_err-active-2-clause-fault c =
     let g = c.args.admitted.now.graph in

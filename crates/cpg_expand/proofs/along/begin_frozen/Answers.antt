@@ -13,6 +13,7 @@ use Rattle.cpg_expand.proofs.BegunMade.{few_here, tests_here, inputs_here, along
 use Rattle.cpg_expand.proofs.FrozenFound.{set_count}
 use Rattle.cpg_expand.proofs.along.begin_frozen.Goals as goal
 
+-- each process of the graph has a guard
 pub guard_of-requires : goal.guard_of-requires
 guard_of-requires c =
     let trees = c.guards-guards.ensures.admitted.guards.count in
@@ -20,17 +21,20 @@ guard_of-requires c =
     let within = c.requires.process in
     omega arith
 
+-- an admitted graph has at most 32 conditions
 pub active-requires-clause-few : goal.active-requires-clause-few
 active-requires-clause-few c = few_here c.args.admitted.now.graph c.args.admitted.now.order c.args.admitted.now.guards
     c.guards-guards.ensures.admitted c.problem-problem.result.now
     c.problem-problem.ensures.problem
 
+-- the guard tests conditions of the graph
 pub active-requires-clause-tests : goal.active-requires-clause-tests
 active-requires-clause-tests c = tests_here c.args.admitted.now.graph c.args.admitted.now.order
     c.args.admitted.now.guards c.guards-guards.ensures.admitted c.problem-problem.result.now
     c.problem-problem.ensures.problem
     c.guards-guards.result.now c.guards-guards.ensures.guards c.guard_of.result.now c.guard_of.ensures.below
 
+-- the span that is looked at has the graph, the guards and the order that are given
 pub latest_start-requires-clause-along : goal.latest_start-requires-clause-along
 latest_start-requires-clause-along c =
     let span = c.span_before-span.result in
@@ -44,24 +48,29 @@ latest_start-requires-clause-along c =
     c.guards-guards.ensures.admitted c.problem-problem.result.now c.problem-problem.ensures.problem
     found c.guards-guards.ensures.guards order c.requires.order)))
 
+-- the span is of the same graph, whose forest is given
 pub latest_start-requires-clause-forest : goal.latest_start-requires-clause-forest
 latest_start-requires-clause-forest c = subst (λ (g : Graph). HasTrees g c.args.forest.now)
     (sym (c.span_before-span.ensures.problem ∙ c.problem-problem.ensures.problem)) c.requires.forest
 
+-- the span is of the same graph, which the tree of the activity is one of
 pub latest_start-requires-clause-active : goal.latest_start-requires-clause-active
 latest_start-requires-clause-active c = subst (λ (g : Graph). IsTree g c.in_ok-active.active)
     (sym c.span_before-span.ensures.problem) c.in_ok-active.ensures.tree
 
+-- the inputs of the process are edges of the graph
 pub latest_start-requires-clause-edges : goal.latest_start-requires-clause-edges
 latest_start-requires-clause-edges c =
     inputs_here c.span_before-span.result.problem.now c.args.process c.inputs-inputs.result.now
     (subst (λ (g : Graph). c.inputs-inputs.result.now ≡ inputs g c.args.process)
     (sym c.span_before-span.ensures.problem) c.inputs-inputs.ensures)
 
+-- the span is of the same graph, which has the process
 pub latest_start-requires-clause-process : goal.latest_start-requires-clause-process
 latest_start-requires-clause-process c = subst (λ (g : Graph). c.args.process < process_count g)
     (sym (c.span_before-span.ensures.problem ∙ c.problem-problem.ensures.problem)) c.requires.process
 
+-- each tree that is put is one of the graph, so there is a tree for each still
 pub returns-clause-trees : goal.returns-clause-trees
 returns-clause-trees c =
     let same = c.problem-problem.ensures.problem in
@@ -74,10 +83,12 @@ returns-clause-trees c =
     (subst (λ (g : Graph). IsReadyAfter g c.args.process c.in_ok-ready.ready) (sym same) c.in_ok-ready.ensures.of)
     c.put_begun.ensures)
 
+-- setting the latest start of the process keeps the length of the list
 pub returns-clause-count : goal.returns-clause-count
 returns-clause-count c = ap length c.in_ok-start.ensures.frozen.set
     ∙ set_count c.args.frozen.now c.args.process c.in_ok-latest.latest ∙ c.requires.frozen
 
+-- the guards and the order are those of the graph
 pub span_before-span-requires : goal.span_before-span-requires
 span_before-span-requires c = record {
   along = along_here c.args.admitted.now.graph c.args.admitted.now.order c.args.admitted.now.guards
@@ -85,6 +96,7 @@ span_before-span-requires c = record {
       c.guards-guards.result.now c.guards-guards.ensures.guards c.args.order.now c.requires.order;
 }
 
+-- the start at the latest time of all, its end and the readiness behind it are put: so the process has begun
 pub returns-clause-begun : goal.returns-clause-begun
 returns-clause-begun c =
     let h = c.problem-problem.result.now in

@@ -12,6 +12,7 @@ use Rattle.cpg_expand.specs.Large.{IsLargeEnd, IsLargeStart, IsLargeThawed, IsLa
 use Rattle.cpg_expand.proofs.LargeShown.{handed_as, thawed_as}
 use Rattle.cpg_expand.proofs.along.begin_thawed.Goals as goal
 
+-- each process of the graph has a guard
 pub guard_of-guard-requires : goal.guard_of-guard-requires
 guard_of-guard-requires c =
     let trees = c.guards.ensures.admitted.guards.count in
@@ -19,21 +20,25 @@ guard_of-guard-requires c =
     let within = c.requires.process in
     omega arith
 
+-- an admitted graph has at most 32 conditions
 pub active-requires-clause-few : goal.active-requires-clause-few
 active-requires-clause-few c = few_here c.args.admitted.now.graph c.args.admitted.now.order c.args.admitted.now.guards
     c.guards.ensures.admitted c.problem-problem.result.now
     c.problem-problem.ensures.problem
 
+-- the guard tests conditions of the graph
 pub active-requires-clause-tests : goal.active-requires-clause-tests
 active-requires-clause-tests c = tests_here c.args.admitted.now.graph c.args.admitted.now.order
     c.args.admitted.now.guards c.guards.ensures.admitted c.problem-problem.result.now
     c.problem-problem.ensures.problem
     c.guards.result.now c.guards.ensures.guards c.guard_of-guard.result.now c.guard_of-guard.ensures.below
 
+-- the inputs of the process are edges of the graph
 pub unfrozen_start-requires-clause-inputs : goal.unfrozen_start-requires-clause-inputs
 unfrozen_start-requires-clause-inputs c =
     inputs_here c.problem-problem.result.now c.args.process c.inputs-inputs.result.now c.inputs-inputs.ensures
 
+-- the leaves of the guard lead to edges of the graph
 pub unfrozen_start-requires-clause-leaves : goal.unfrozen_start-requires-clause-leaves
 unfrozen_start-requires-clause-leaves c = leads_here c.args.admitted.now.graph c.args.admitted.now.order
     c.args.admitted.now.guards c.guards.ensures.admitted c.problem-problem.result.now
@@ -41,10 +46,12 @@ unfrozen_start-requires-clause-leaves c = leads_here c.args.admitted.now.graph c
     c.args.process c.requires.process c.guard_of-guard.result.now
     (c.guard_of-guard.ensures.tree ∙ ap (λ (x : Guards). tree_of x c.args.process) c.guards.ensures.guards)
 
+-- the wait is the one by what has been heard, which is one of the graph
 pub unfrozen_start-requires-clause-wait : goal.unfrozen_start-requires-clause-wait
 unfrozen_start-requires-clause-wait c =
     subst (IsWait c.problem-problem.result.now) (sym c.wait_for-wait.ensures) c.in_ok-heard.ensures.of
 
+-- each tree that is put is one of the graph, so there is a tree for each still
 pub returns-clause-trees : goal.returns-clause-trees
 returns-clause-trees c =
     let same = c.problem-problem.ensures.problem in
@@ -55,11 +62,14 @@ returns-clause-trees c =
     (subst (λ (g : Graph). HasTrees g c.args.forest.now) (sym same) c.requires.forest) c.in_ok-start.ensures.tree
     c.in_ok-next.ensures.tree c.in_ok-next.ensures.of c.put_begun.ensures)
 
+-- the start after all that the process waits for, its end and the readiness behind it are put: so the process has
+-- begun
 pub returns-clause-begun : goal.returns-clause-begun
 returns-clause-begun c order =
     let h = c.problem-problem.result.now in
     let f = c.args.forest.now in
     let wait = ready_by h f c.wait_for-wait.result.now in
+    -- what has been heard, or else the readiness, is what the process waits for
     let waits : IsWaitTree h f (node_of h c.args.process) c.guard_of-guard.result.now wait =
     subst (λ n. IsWaitTree h f n c.guard_of-guard.result.now wait) c.node_of-node.ensures.node
     (subst (λ (r : Ready). IsWaitTree h f c.node_of-node.result c.guard_of-guard.result.now (ready_by h f r))
@@ -79,10 +89,12 @@ returns-clause-begun c order =
     c.in_ok-next.next.end c.in_ok-next.ensures.end c.in_ok-next.next.ready c.in_ok-next.ensures.of
     (λ waited. record { wait = wait; waits = waits; is = c.in_ok-next.ensures.ready }) c.put_begun.ensures
 
+-- the wait is the one by what has been heard, which is one of the graph
 pub follow-requires-clause-wait : goal.follow-requires-clause-wait
 follow-requires-clause-wait c =
     subst (IsWait c.problem-problem.result.now) (sym c.wait_for-wait.ensures) c.in_ok-heard.ensures.of
 
+-- a tree that is too large while hearing what the guard tests is one on the way of the process
 pub returns-in_err-heard-clause-fault : goal.returns-in_err-heard-clause-fault
 returns-in_err-heard-clause-fault c =
     let h = c.problem-problem.result.now in
@@ -90,6 +102,7 @@ returns-in_err-heard-clause-fault c =
     let p = c.args.process in
     let found = c.guard_of-guard.result.now in
     let guard = tree_of c.args.admitted.now.guards p in
+    -- the guard that is found is the process's own
     let is : found ≡ guard = c.guard_of-guard.ensures.tree ∙ ap (λ (x : Guards). tree_of x p) c.guards.ensures.guards in
     handed_as (IsLargeWait h f c.node_of-node.result found) (IsLargeThawed c.args.admitted.now.graph p f guard) f.wide
     c.from_residual-in_err-heard.result c.in_err-heard.field-0.0
@@ -98,6 +111,7 @@ returns-in_err-heard-clause-fault c =
     (inl (subst (λ n. IsLargeWait h f n found) c.node_of-node.ensures.node x)))
     c.in_err-heard.ensures.fault
 
+-- a tree that is too large down to the start is one after what the process waits for
 pub returns-in_err-start-clause-fault : goal.returns-in_err-start-clause-fault
 returns-in_err-start-clause-fault c =
     let h = c.problem-problem.result.now in
@@ -105,8 +119,10 @@ returns-in_err-start-clause-fault c =
     let p = c.args.process in
     let found = c.guard_of-guard.result.now in
     let guard = tree_of c.args.admitted.now.guards p in
+    -- the guard that is found is the process's own
     let is : found ≡ guard = c.guard_of-guard.ensures.tree ∙ ap (λ (x : Guards). tree_of x p) c.guards.ensures.guards in
     let wait = ready_by h f c.wait_for-wait.result.now in
+    -- what has been heard, or else the readiness, is what the process waits for
     let waits : IsWaitTree h f (node_of h p) found wait =
     subst (λ n. IsWaitTree h f n found wait) c.node_of-node.ensures.node
     (subst (λ (r : Ready). IsWaitTree h f c.node_of-node.result found (ready_by h f r))
@@ -120,6 +136,7 @@ returns-in_err-start-clause-fault c =
       large = inl (subst (λ es. IsLargeStart h f wait (process_at h p).release es found) c.inputs-inputs.ensures x);
     }))) c.in_err-start.ensures.fault
 
+-- a tree of the starts or the ends that is too large is one after what the process waits for
 pub returns-in_err-next-clause-fault : goal.returns-in_err-next-clause-fault
 returns-in_err-next-clause-fault c =
     let h = c.problem-problem.result.now in
@@ -127,9 +144,11 @@ returns-in_err-next-clause-fault c =
     let p = c.args.process in
     let found = c.guard_of-guard.result.now in
     let guard = tree_of c.args.admitted.now.guards p in
+    -- the guard that is found is the process's own
     let is : found ≡ guard = c.guard_of-guard.ensures.tree ∙ ap (λ (x : Guards). tree_of x p) c.guards.ensures.guards in
     let start = c.in_ok-start.start in
     let wait = ready_by h f c.wait_for-wait.result.now in
+    -- what has been heard, or else the readiness, is what the process waits for
     let waits : IsWaitTree h f (node_of h p) found wait =
     subst (λ n. IsWaitTree h f n found wait) c.node_of-node.ensures.node
     (subst (λ (r : Ready). IsWaitTree h f c.node_of-node.result found (ready_by h f r))

@@ -4,6 +4,7 @@ use Rattle.cpg_expand.specs.Large.{IsLarge, IsLargeEnd}
 use Rattle.cpg_expand.proofs.LargeShown.{handed_as, named_as}
 use Rattle.cpg_expand.proofs.along.follow.Goals as goal
 
+-- a tree of the starts that is too large is one of the process's end
 pub returns-in_err-few-clause-fault : goal.returns-in_err-few-clause-fault
 returns-in_err-few-clause-fault c =
     handed_as (IsLarge c.args.start.now) (IsLargeEnd c.args.problem.now c.args.process c.args.start.now)
@@ -12,6 +13,7 @@ returns-in_err-few-clause-fault c =
     (named_as (IsLarge c.args.start.now) c.forest.inside.wide c.args.forest.now.wide c.in_err-few.field-0.0
     (ap (λ (x : ForestState). x.wide) c.forest.view_is) c.in_err-few.ensures)
 
+-- a tree of the ends that is too large is one of the process's end
 pub returns-in_err-few-2-clause-fault : goal.returns-in_err-few-2-clause-fault
 returns-in_err-few-2-clause-fault c =
     handed_as (IsLarge c.in_ok-end.end) (IsLargeEnd c.args.problem.now c.args.process c.args.start.now)

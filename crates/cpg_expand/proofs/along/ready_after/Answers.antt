@@ -14,11 +14,14 @@ use Rattle.cpg_expand.specs.Waited.{IsWaitedFor}
 use Rattle.cpg_expand.proofs.LargeShown.{handed_as}
 use Rattle.cpg_expand.proofs.along.ready_after.Goals as goal
 
+-- the process is active in each scenario, so the node is ready once it has ended, whatever it waited for
 pub returns-then-is_true-clause-ready : goal.returns-then-is_true-clause-ready
 returns-then-is_true-clause-ready c waited =
     ready_everywhere c.args.admitted.now.graph c.args.forest.now (node_of c.args.admitted.now.graph c.args.process)
     (tree_of c.args.admitted.now.guards c.args.process) c.args.active.now c.args.end.now c.if-is_true.ensures
 
+-- a later process waits for the node, so it is ready after the end or, if the process is inactive, after what it
+-- would have waited for
 pub returns-clause-ready : goal.returns-clause-ready
 returns-clause-ready c waited =
     let h = c.problem-problem.result.now in
@@ -29,6 +32,7 @@ returns-clause-ready c waited =
     let then = goes_on c.args.end.now c.in_ok-ready.ready in
     let is_found : found ≡ tree_of c.args.admitted.now.guards p =
     c.guard_of-guard.ensures.tree ∙ ap (λ (x : Guards). tree_of x p) c.guards.ensures.guards in
+    -- what has been heard, or else the readiness, is what the process waits for
     let waits : IsWaitTree h f (node_of h p) found wait =
     subst (λ n. IsWaitTree h f n found wait) c.node_of-node.ensures.node
     (subst (λ (r : Ready). IsWaitTree h f c.node_of-node.result found (ready_by h f r))
@@ -39,6 +43,7 @@ returns-clause-ready c waited =
     (tree_of c.args.admitted.now.guards p) c.args.active.now c.args.end.now then) c.problem-problem.ensures.problem
     (subst (λ (k : Guard). IsReadyOnce h f (node_of h p) k c.args.active.now c.args.end.now then) is_found made)
 
+-- a later process waits for the node, so a tree that is too large here is one of what a frozen process would wait for
 pub returns-in_err-heard-clause-fault : goal.returns-in_err-heard-clause-fault
 returns-in_err-heard-clause-fault c =
     let g = c.args.admitted.now.graph in
@@ -48,6 +53,7 @@ returns-in_err-heard-clause-fault c =
     let order = c.args.order.now in
     let found = c.guard_of-guard.result.now in
     let guard = tree_of c.args.admitted.now.guards p in
+    -- the guard that is found is the process's own
     let is : found ≡ guard = c.guard_of-guard.ensures.tree ∙ ap (λ (x : Guards). tree_of x p) c.guards.ensures.guards in
     let same = c.problem-problem.ensures.problem in
     let waited : IsWaitedFor g order (place order p + 1) (node_of g p) =

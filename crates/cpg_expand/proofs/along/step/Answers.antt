@@ -6,6 +6,7 @@ use Rattle.cpg_expand.proofs.LargeShown.{added_wide, begun_wide}
 use Rattle.cpg_expand.proofs.Stepped.{stepped}
 use Rattle.cpg_expand.proofs.along.step.Goals as goal
 
+-- the process has begun, and all that it sends is added, so the trees are grown up to the next place
 pub returns-clause-grown : goal.returns-clause-grown
 returns-clause-grown c =
     let a = c.args.admitted.now in
@@ -17,6 +18,7 @@ returns-clause-grown c =
     (queue_of g c.args.process) c.begin.new.forest c.send.new.forest c.begin.new.frozen c.send.new.frozen)
     c.problem-problem.ensures.problem c.in_ok-send.ensures.added)
 
+-- neither the beginning nor what is sent changes the item to name
 pub returns-clause-wide : goal.returns-clause-wide
 returns-clause-wide c =
     added_wide c.problem-problem.result.now c.args.order.now c.in_ok-active.active

@@ -6,6 +6,7 @@ use Rattle.cpg_expand.proofs.LargeShown.{handed_on, named_as}
 use Rattle.cpg_expand.proofs.PartsKnown.{added_found, added_kept, added_known, kept_still, still_has_value, still_there}
 use Rattle.cpg_expand.proofs.descent.+found.Goals as goal
 
+-- the tree of the side for false is still among those kept after that for true is found
 pub tree_of-requires : goal.tree_of-requires
 tree_of-requires g t c =
     still_there (g.D.Descent.made c.args.descent.now) (g.D.Descent.fits c.args.descent.now) c.found.new.known.items
@@ -13,6 +14,7 @@ tree_of-requires g t c =
     c.in_ok-yes-in-Test.ensures.kept c.as_slice-kept.ensures.value c.in-Test.no.now c.in_ok-no-in-Test.no
     c.in_ok-no-in-Test.ensures.found
 
+-- the tree of the side for false is still among those kept, so it is made
 pub test-requires-clause-no : goal.test-requires-clause-no
 test-requires-clause-no g t c =
     let fits = still_has_value (g.D.Descent.made c.args.descent.now) (g.D.Descent.fits c.args.descent.now)
@@ -22,6 +24,7 @@ test-requires-clause-no g t c =
     c.tree_of.ensures in
     fits.0
 
+-- the tree of the side for true is among those kept, so it is made
 pub test-requires-clause-yes : goal.test-requires-clause-yes
 test-requires-clause-yes g t c =
     let fits = still_has_value (g.D.Descent.made c.args.descent.now) (g.D.Descent.fits c.args.descent.now)
@@ -31,6 +34,7 @@ test-requires-clause-yes g t c =
     c.tree_of-in-Test.ensures in
     fits.0
 
+-- the tree of the test is made of those of its sides, so with it all trees that are kept fit their guards
 pub returns-in_ok-source-in-Test-clause-known : goal.returns-in_ok-source-in-Test-clause-known
 returns-in_ok-source-in-Test-clause-known g t c =
     let low = still_has_value (g.D.Descent.made c.args.descent.now) (g.D.Descent.fits c.args.descent.now)
@@ -50,6 +54,7 @@ returns-in_ok-source-in-Test-clause-known g t c =
     (subst (λ (h : Guard). g.D.Descent.fits c.args.descent.now h c.in_ok-tree-in-Test.tree) (sym c.in-Test.ensures)
     (c.in_ok-tree-in-Test.ensures.fits c.in-Test.no.now c.in-Test.yes.now low.1 high.1)) c.in_ok-source-in-Test.ensures
 
+-- neither side drops a tree that is kept, and neither does the test
 pub returns-in_ok-source-in-Test-clause-kept : goal.returns-in_ok-source-in-Test-clause-kept
 returns-in_ok-source-in-Test-clause-kept g t c =
     kept_still c.args.known.now.items c.found.new.known.items c.keep-in-Test.new.known.items
@@ -60,6 +65,7 @@ returns-in_ok-source-in-Test-clause-kept g t c =
     c.found-in-Test.new.known.items c.keep-in-Test.new.known.items c.args.guard.now c.in_ok-tree-in-Test.tree
     c.in_ok-source-in-Test.source c.in_ok-source-in-Test.ensures))
 
+-- the tree of the test is made of those of its sides, and it is the one that is added
 pub returns-in_ok-source-in-Test-clause-found : goal.returns-in_ok-source-in-Test-clause-found
 returns-in_ok-source-in-Test-clause-found g t c =
     let low = still_has_value (g.D.Descent.made c.args.descent.now) (g.D.Descent.fits c.args.descent.now)
@@ -79,6 +85,7 @@ returns-in_ok-source-in-Test-clause-found g t c =
     (subst (λ (h : Guard). g.D.Descent.fits c.args.descent.now h c.in_ok-tree-in-Test.tree) (sym c.in-Test.ensures)
     (c.in_ok-tree-in-Test.ensures.fits c.in-Test.no.now c.in-Test.yes.now low.1 high.1)) c.in_ok-source-in-Test.ensures
 
+-- a fault for the leaf is one for the guard
 pub returns-in_err-tree-in-Leaf-clause-fault : goal.returns-in_err-tree-in-Leaf-clause-fault
 returns-in_err-tree-in-Leaf-clause-fault g t c =
     handed_on _ c.from_residual.result c.in_err-tree-in-Leaf.field-0.0 c.from_residual.ensures.1
@@ -86,6 +93,7 @@ returns-in_err-tree-in-Leaf-clause-fault g t c =
     (g.D.Descent.wide c.args.descent.now) c.in_err-tree-in-Leaf.field-0.0 c.args.guard.now c.in-Leaf.activation
     c.in-Leaf.ensures c.in_err-tree-in-Leaf.ensures.fault)
 
+-- a fault for the side for false is one for the test
 pub returns-in_err-no-in-Test-clause-fault : goal.returns-in_err-no-in-Test-clause-fault
 returns-in_err-no-in-Test-clause-fault g t c =
     handed_on _ c.from_residual-in_err-no-in-Test.result c.in_err-no-in-Test.field-0.0
@@ -94,6 +102,7 @@ returns-in_err-no-in-Test-clause-fault g t c =
     (g.D.Descent.wide c.args.descent.now) c.in_err-no-in-Test.field-0.0 c.args.guard.now c.in-Test.condition
     c.in-Test.no.now c.in-Test.yes.now c.in-Test.ensures c.in_err-no-in-Test.ensures.fault)
 
+-- a fault for the side for true is one for the test
 pub returns-in_err-yes-in-Test-clause-fault : goal.returns-in_err-yes-in-Test-clause-fault
 returns-in_err-yes-in-Test-clause-fault g t c =
     handed_on _ c.from_residual-in_err-yes-in-Test.result c.in_err-yes-in-Test.field-0.0
@@ -102,6 +111,7 @@ returns-in_err-yes-in-Test-clause-fault g t c =
     (g.D.Descent.wide c.args.descent.now) c.in_err-yes-in-Test.field-0.0 c.args.guard.now c.in-Test.condition
     c.in-Test.no.now c.in-Test.yes.now c.in-Test.ensures c.in_err-yes-in-Test.ensures.fault)
 
+-- the tree of the test itself has too many leaves
 pub returns-in_err-few-in-Test-clause-fault : goal.returns-in_err-few-in-Test-clause-fault
 returns-in_err-few-in-Test-clause-fault g t c =
     let low = still_has_value (g.D.Descent.made c.args.descent.now) (g.D.Descent.fits c.args.descent.now)

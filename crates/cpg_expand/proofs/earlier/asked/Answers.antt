@@ -6,6 +6,7 @@ use Rattle.cpg_expand.specs.Earlier.{IsAskedTree}
 use Rattle.cpg_expand.proofs.EarlierFound.{asked_everywhere}
 use Rattle.cpg_expand.proofs.earlier.asked.Goals as goal
 
+-- the tree is true everywhere already, so it is right for all processes
 pub returns-then-is_true-clause-asked : goal.returns-then-is_true-clause-asked
 returns-then-is_true-clause-asked c =
     let g = c.args.span.now.problem.now in
@@ -21,6 +22,7 @@ returns-then-is_true-clause-asked c =
     (subst (λ b. OnTrue b (IsConstant true c.loop-other.asked.faults c.loop-other.asked)) c.if-is_true.true
     c.is_true.ensures) c.loop-other.invariant.1
 
+-- all processes have been gone over
 pub returns-clause-asked : goal.returns-clause-asked
 returns-clause-asked c =
     let g = c.args.span.now.problem.now in

@@ -2,6 +2,8 @@ use Rattle.cpg_expand.specs.Agreeing.{IsTree}
 use Rattle.cpg_expand.specs.Earlier.{IsAskedTree}
 use Rattle.cpg_expand.proofs.earlier.asked.Given as goal
 
+-- after each process gone over, `asked` is true exactly if one of the first `other` processes tests the condition
+-- between the two places of the span
 abbrev pub invariant-loop-other : goal.invariant-loop-other
 invariant-loop-other l = IsTree l.span.problem.now l.asked × IsAskedTree l.span.problem.now l.span.order.now
     l.span.guards.now l.span.node l.span.from l.to l.condition l.other l.asked

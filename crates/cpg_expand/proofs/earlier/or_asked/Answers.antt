@@ -7,6 +7,7 @@ use Rattle.cpg_expand.proofs.EarlierFound.{asked_same, asked_too, between_from, 
 use Rattle.cpg_expand.proofs.GuardTrees.{constant_tree, same_tree}
 use Rattle.cpg_expand.proofs.earlier.or_asked.Goals as goal
 
+-- the tree has the faults and variables of the graph, as those that it is picked from have
 pub returns-clause-tree : goal.returns-clause-tree
 returns-clause-tree c =
     let g = c.args.span.now.problem.now in
@@ -16,6 +17,7 @@ returns-clause-tree c =
     (c.in_ok-either.ensures.pass (is_variable g) of_tested.known
     (c.in_ok-always.ensures.pass (is_variable g)) c.requires.tree.known)
 
+-- the process stands between the places, so the tree is true where its guard tests the condition, too
 pub returns-clause-asked : goal.returns-clause-asked
 returns-clause-asked c =
     let g = c.args.span.now.problem.now in
@@ -32,6 +34,7 @@ returns-clause-asked c =
     (subst (λ n. IsConstant true n c.in_ok-always.always) c.faults.ensures.faults c.in_ok-always.ensures.is)
     c.in_ok-either.ensures.is c.requires.asked
 
+-- the process does not stand between the places, so the tree stays as it is
 pub returns-then-not-stands_between-clause-asked : goal.returns-then-not-stands_between-clause-asked
 returns-then-not-stands_between-clause-asked c =
     let g = c.args.span.now.problem.now in

@@ -2,6 +2,7 @@ use Rattle.cpg_base.proofs.Lists.{map_below_push}
 use Rattle.cpg_base.specs.Duration.{duration}
 use Rattle.cpg_expand.proofs.ending.durations.Goals as goal
 
+-- the duration with the next count of faults is pushed
 pub loop-faults-preserved : goal.loop-faults-preserved
 loop-faults-preserved c = map_below_push (duration c.args.problem.now c.args.process) c.loop-faults.durations.items
     c.push.new.self.items c.duration.result c.loop-faults.faults

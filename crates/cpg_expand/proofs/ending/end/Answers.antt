@@ -5,6 +5,7 @@ use Rattle.cpg_expand.specs.Values.{ended}
 use Rattle.cpg_expand.proofs.GuardTrees.{end_valued, same_tree, count_passes}
 use Rattle.cpg_expand.proofs.ending.end.Goals as goal
 
+-- the tree has the faults of the starts, and forks on the graph's variables alone
 pub returns-clause-tree : goal.returns-clause-tree
 returns-clause-tree c = same_tree c.args.problem.now c.args.start.now c.in_ok-end.end c.requires.start.faults
     c.in_ok-end.ensures.is.faults c.in_ok-end.ensures.each
@@ -12,6 +13,7 @@ returns-clause-tree c = same_tree c.args.problem.now c.args.start.now c.in_ok-en
     (c.in_ok-faults.ensures.pass (is_variable c.args.problem.now)
     (count_passes c.args.problem.now c.args.process c.requires.process)))
 
+-- the ends are found from the starts and the process's count, by how long each number of executions lasts
 pub returns-clause-end : goal.returns-clause-end
 returns-clause-end c =
     end_valued c.args.problem.now c.args.process c.args.start.now c.in_ok-end.end c.in_ok-faults.faults c.requires.start

@@ -4,12 +4,14 @@ use Rattle.cpg_tree.specs.Variables.{is_variable}
 use Rattle.cpg_expand.proofs.GuardTrees.{each_of, ready_valued, same_tree}
 use Rattle.cpg_expand.proofs.ending.end_or.Goals as goal
 
+-- the tree has the faults of the chooser, and forks on the graph's variables alone
 pub returns-clause-tree : goal.returns-clause-tree
 returns-clause-tree c = same_tree c.args.problem.now c.args.active.now c.in_ok-ready.ready c.requires.active.faults
     c.in_ok-ready.ensures.is.faults c.in_ok-ready.ensures.each
     (c.in_ok-ready.ensures.pass (is_variable c.args.problem.now) c.requires.active.known c.requires.end.known
     c.requires.wait.known)
 
+-- the chooser picks the ends, read as times, where the process is active, and what it waited for elsewhere
 pub returns-clause-ready : goal.returns-clause-ready
 returns-clause-ready c =
     let g = c.args.problem.now in

@@ -5,9 +5,11 @@ use Rattle.cpg_expand.specs.declared.forest.Ready.{Ready}
 use Rattle.cpg_expand.proofs.GuardTrees.{ready_after}
 use Rattle.cpg_expand.proofs.ending.ready_at.Goals as goal
 
+-- the node waits for a process, which is one of the graph
 pub end_there-requires-clause-process : goal.end_there-requires-clause-process
 end_there-requires-clause-process c = subst (IsWait c.args.problem.now) c.in-After.is c.requires.wait
 
+-- the node was ready after the ends of a process, so these are read as times before the tree is picked
 pub returns-in_ok-ready-in-After-clause-ready : goal.returns-in_ok-ready-in-After-clause-ready
 returns-in_ok-ready-in-After-clause-ready c =
     let g = c.args.problem.now in
@@ -18,9 +20,11 @@ returns-in_ok-ready-in-After-clause-ready c =
     (later_tree (ends_of g f c.in-After.process)) c.in_ok-before-in-After.before c.in_ok-ready-in-After.ready
     c.in_ok-before-in-After.ensures.later c.in_ok-ready-in-After.ensures.ready)
 
+-- the node waits by a tree, which is one of the graph
 pub end_or-requires-in-At-clause-wait : goal.end_or-requires-in-At-clause-wait
 end_or-requires-in-At-clause-wait c = subst (IsWait c.args.problem.now) c.in-At.is c.requires.wait
 
+-- the node was ready by a tree, which is taken as it is
 pub returns-in_ok-ready-in-At-clause-ready : goal.returns-in_ok-ready-in-At-clause-ready
 returns-in_ok-ready-in-At-clause-ready c =
     let g = c.args.problem.now in

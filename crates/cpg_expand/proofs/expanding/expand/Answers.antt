@@ -4,9 +4,11 @@ use Rattle.cpg_run.specs.Built.{IsBuiltFor}
 use Rattle.cpg_expand.proofs.RowsBuilt.{assembled, built_writable}
 use Rattle.cpg_expand.proofs.expanding.expand.Goals as goal
 
+-- the grown order is the one that was asked for, so the graph is narrow under it too
 pub build-requires-clause-narrow : goal.build-requires-clause-narrow
 build-requires-clause-narrow c = rw (sym c.in_ok-grown.ensures.grown.same) at c.in_ok-grown.ensures.narrow
 
+-- rows that are built under a topological order can be written
 pub assemble-requires : goal.assemble-requires
 assemble-requires c =
     let g = c.args.admitted.now.graph in
@@ -16,6 +18,7 @@ assemble-requires c =
     (subst (IsTopological g) (sym same) c.requires.topological)
     c.in_ok-rows.rows c.in_ok-rows.ensures.rows
 
+-- the tables that are assembled of the rows are those of the order that is given
 pub returns-clause-built : goal.returns-clause-built
 returns-clause-built c =
     let g = c.args.admitted.now.graph in
@@ -27,5 +30,6 @@ returns-clause-built c =
     (subst (IsTopological g) (sym same) c.requires.topological)
     c.in_ok-rows.rows c.in_ok-rows.ensures.rows c.in_ok-built.built c.in_ok-built.ensures)
 
+-- the copied order is the order given, so the graph is narrow under that one
 pub returns-clause-narrow : goal.returns-clause-narrow
 returns-clause-narrow c = rw c.in_ok-copy.ensures at c.in_ok-grown.ensures.narrow

@@ -2,6 +2,7 @@ use Rattle.cpg_expand.specs.Large.{HasLargeTree}
 use Rattle.cpg_expand.proofs.LargeShown.{none_named}
 use Rattle.cpg_expand.proofs.expanding.grow_narrow.Goals as goal
 
+-- no item is to be named, so the fault cannot come
 pub unreachable-requires : goal.unreachable-requires
 unreachable-requires c =
     rw c.in-Err-TooWide.field-0-is at

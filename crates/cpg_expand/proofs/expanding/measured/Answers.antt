@@ -8,6 +8,7 @@ use Rattle.cpg_expand.specs.Peaks.{GiveEnds, IsWorstOfTrees, IsExcessOfTrees}
 use Rattle.cpg_expand.proofs.GrownRows.{grown_frozen, grown_gives_ends, said_of}
 use Rattle.cpg_expand.proofs.expanding.measured.Goals as goal
 
+-- the trees give the ends of all runs, so their peaks are the greatest finish and the greatest excess of the order
 pub returns : goal.returns
 returns c =
     let g = c.args.admitted.now.graph in

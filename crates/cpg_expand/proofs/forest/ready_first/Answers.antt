@@ -5,6 +5,7 @@ use Rattle.cpg_expand.proofs.ForestMade.{nodes_pushed}
 use Rattle.cpg_expand.proofs.GuardTrees.{constant_tree}
 use Rattle.cpg_expand.proofs.forest.ready_first.Goals as goal
 
+-- one more node is ready at 0 in all scenarios
 pub loop-preserved : goal.loop-preserved
 loop-preserved c =
     nodes_pushed c.args.problem.now c.loop.nodes.items c.push.new.self.items c.in_ok-zero.zero c.loop.counter

@@ -5,6 +5,7 @@ use Rattle.cpg_expand.proofs.ForestMade.{trees_pushed, constants_pushed}
 use Rattle.cpg_expand.proofs.GuardTrees.{constant_tree}
 use Rattle.cpg_expand.proofs.forest.zeros.Goals as goal
 
+-- one more tree is 0 in all scenarios
 pub loop-preserved : goal.loop-preserved
 loop-preserved c =
     let pushed = trees_pushed c.args.problem.now c.loop.trees.items c.push.new.self.items c.in_ok-constant.field-0

@@ -5,12 +5,14 @@ use Rattle.cpg_expand.specs.Large.{HasLargeFree, HasLargeSend, IsLargeLeft}
 use Rattle.cpg_expand.proofs.LargeShown.{handed_as}
 use Rattle.cpg_expand.proofs.growing.few_left.Goals as goal
 
+-- the tree of an item that the process sends has too many leaves
 pub returns-in_err-few_sent : goal.returns-in_err-few_sent
 returns-in_err-few_sent c =
     handed_as (HasLargeSend c.args.problem.now c.args.process c.args.forest.now)
     (IsLargeLeft c.args.problem.now c.args.order.now c.args.process c.args.forest.now) c.args.forest.now.wide
     c.from_residual.result c.in_err-few_sent.field-0.0 c.from_residual.ensures.1 (λ x. inl x) c.in_err-few_sent.ensures
 
+-- the tree of when the slots of the process's node are free has too many leaves
 pub returns-in_err-few_free : goal.returns-in_err-few_free
 returns-in_err-few_free c =
     let g = c.args.problem.now in

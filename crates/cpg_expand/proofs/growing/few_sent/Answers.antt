@@ -13,6 +13,7 @@ use Rattle.cpg_expand.proofs.growing.few_sent.Goals as goal
 item_queued : (xs qs : List ℕ) (k : ℕ) → k < length xs → xs ≡ qs → Contains qs (get_or xs k 0)
 item_queued xs qs k l is = subst (λ ys. Contains ys (get_or xs k 0)) is (Contains-get_or xs k 0 l)
 
+-- the item at this place of the queue is one of the graph, so it has a tree
 pub index-requires : goal.index-requires
 index-requires c =
     let g = c.args.problem.now in
@@ -22,6 +23,7 @@ index-requires c =
     (queue_of g c.args.process) c.loop-item.item-index c.loop-item-test.true is)).within in
     omega (arith, within, c.requires.forest.times, ap (λ (f : ForestState). length f.times) c.forest.view_is)
 
+-- the tree of an item that the process sends has too many leaves
 pub returns-in_err-few : goal.returns-in_err-few
 returns-in_err-few c =
     let g = c.args.problem.now in
@@ -30,6 +32,7 @@ returns-in_err-few c =
     let item = get_or c.queue-item-items.result.now c.loop-item.item-index 0 in
     let queued = item_queued c.queue-item-items.result.now
     (queue_of g p) c.loop-item.item-index c.loop-item-test.true c.queue-item-items.ensures in
+    -- the forest as the code reads it, list by list
     let inside : ForestState = record {
       times = c.forest.inside.times.items;
       ends = c.forest.inside.ends.items;
@@ -39,6 +42,7 @@ returns-in_err-few c =
           c.forest.inside.wide;
     } in
     let tree : TreeState (Option ℕ) = c.index.result.now in
+    -- the tree that is read is that of the item in the forest
     let same : tree ≡ times_of g f item = times_read g f c.requires.forest inside c.forest.view_is tree item item
     c.index.ensures refl (in_queue g p item queued).within in
     handed_as (IsLarge tree)

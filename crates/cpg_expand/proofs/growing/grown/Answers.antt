@@ -9,6 +9,7 @@ use Rattle.cpg_expand.specs.Large.{HasLargeTree, IsLargeBegun, IsLargeLeft, Show
 use Rattle.cpg_expand.proofs.LargeShown.{handed_as, large_begun, large_left, named_as}
 use Rattle.cpg_expand.proofs.growing.grown.Goals as goal
 
+-- before the first process the bare trees are grown up to the place 0
 pub loop-process-init : goal.loop-process-init
 loop-process-init c =
     record {
@@ -21,6 +22,7 @@ loop-process-init c =
           c.in_ok-forest.ensures.bare));
     }
 
+-- what stands at a place of the order is a process
 pub step-requires-clause-process : goal.step-requires-clause-process
 step-requires-clause-process c =
     let same = c.processes-process-items.ensures.processes in
@@ -29,6 +31,7 @@ step-requires-clause-process c =
     (omega (arith, ap length same, c.loop-process-test.true)) in
     omega (arith, ap (λ xs. get_or xs c.loop-process.process-index 0) same)
 
+-- the process at this place is gone over, so the trees are grown up to the next place
 pub loop-process-preserved : goal.loop-process-preserved
 loop-process-preserved c =
     let same = c.processes-process-items.ensures.processes in
@@ -42,6 +45,7 @@ loop-process-preserved c =
           c.in_ok-step.ensures.grown;
     }
 
+-- all processes are gone over, so the trees are grown along the whole order
 pub returns-clause-grown : goal.returns-clause-grown
 returns-clause-grown c =
     all_grown c.args.admitted.now.graph c.args.order.now c.requires.topological c.loop-process.process-index
@@ -53,15 +57,18 @@ returns-clause-grown c =
     )) c.loop-process.frozen c.loop-process.forest
     c.loop-process.invariant.grown
 
+-- a topological order has each process once, so its length is the number of processes
 pub step-requires-clause-order : goal.step-requires-clause-order
 step-requires-clause-order c =
     length_order (process_count c.args.admitted.now.graph) c.args.order.now c.requires.topological.all
 
+-- a topological order has each process once, so its length is the number of processes
 pub few_left-requires-clause-order : goal.few_left-requires-clause-order
 few_left-requires-clause-order c =
     length_order (process_count c.args.admitted.now.graph) c.args.order.now c.requires.topological.all
     ∙ ap process_count (sym c.problem-problem.ensures.problem)
 
+-- what stands at a place of the order is a process
 pub few_left-requires-clause-process : goal.few_left-requires-clause-process
 few_left-requires-clause-process c =
     let k = c.loop-process.process-index in
@@ -71,6 +78,7 @@ few_left-requires-clause-process c =
     (omega (arith, ap length same, c.loop-process-test.true)) in
     omega (arith, ap (λ xs. get_or xs k 0) same, within, long, ap process_count c.problem-problem.ensures.problem)
 
+-- a fault on the way of this process shows a tree that is too large somewhere along the order
 pub returns-in_err-step-clause-fault : goal.returns-in_err-step-clause-fault
 returns-in_err-step-clause-fault c =
     let g = c.args.admitted.now.graph in
@@ -95,6 +103,7 @@ returns-in_err-step-clause-fault c =
     (named_as (IsLargeBegun g order guards p f) f.wide c.args.wide fault c.loop-process.invariant.wide
     c.in_err-step.ensures.fault)
 
+-- a fault in what this process leaves shows a tree that is too large somewhere along the order
 pub returns-in_err-few_left-clause-fault : goal.returns-in_err-few_left-clause-fault
 returns-in_err-few_left-clause-fault c =
     let g = c.args.admitted.now.graph in

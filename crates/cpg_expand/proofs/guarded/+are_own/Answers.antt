@@ -7,11 +7,13 @@ use Rattle.cpg_tree.proofs.Passes.{of_true}
 use Rattle.cpg_expand.proofs.GuardTrees.{all_parts}
 use Rattle.cpg_expand.proofs.guarded.+are_own.Goals as goal
 
+-- there is no input, so none is a message
 pub returns-in_default : goal.returns-in_default
 returns-in_default t c = subst (All (λ (e : ℕ). is_message c.args.problem.now e ≡ false))
     (sym (nil_from_length c.args.edges.now (MatchOption-at_none _ _ c.in_default.is c.split_first.ensures.cases)))
     (All-nil (λ (e : ℕ). is_message c.args.problem.now e ≡ false))
 
+-- the other inputs are fewer, and they are edges of the graph too
 pub are_own-requires : goal.are_own-requires
 are_own-requires t c =
     let below = all_parts (λ e. e < edge_count c.args.problem.now) c.args.edges.now c.in-Some.edge.now
@@ -20,6 +22,7 @@ are_own-requires t c =
     let at = c.decreases in
     (omega arith, below.1)
 
+-- the first input is from the node itself, so all are if the others are
 pub returns : goal.returns
 returns t c =
     let own : ℕ → Type 0 = λ e. is_message c.args.problem.now e ≡ false in

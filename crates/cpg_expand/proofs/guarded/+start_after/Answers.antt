@@ -12,6 +12,7 @@ use Rattle.cpg_expand.proofs.LargeParts.{large_both, large_later, large_own}
 use Rattle.cpg_expand.proofs.LargeShown.{handed_on, named_as}
 use Rattle.cpg_expand.proofs.guarded.+start_after.Goals as goal
 
+-- no inputs are left, so the starts are those after the wait and the release
 pub returns-in_default-clause-start : goal.returns-in_default-clause-start
 returns-in_default-clause-start t c = subst
     (λ (es : List ℕ). IsStartAfter c.args.problem.now c.args.forest.now
@@ -19,6 +20,8 @@ returns-in_default-clause-start t c = subst
     (sym (nil_from_length c.args.edges.now (MatchOption-at_none _ _ c.in_default.is c.split_first.ensures.cases)))
     c.in_ok-start.ensures.start
 
+-- the first input is from the node itself, so it is there once the node is ready, and the starts without it are those
+-- with it
 pub returns-then-not-is_message-clause-start : goal.returns-then-not-is_message-clause-start
 returns-then-not-is_message-clause-start t c =
     let g = c.args.problem.now in
@@ -30,6 +33,7 @@ returns-then-not-is_message-clause-start t c =
     (sym c.is_message.ensures ∙ c.if-not-is_message.true)
     (c.in_ok-start-2.ensures.start s few))
 
+-- all other inputs are from the node itself, so the first one is the last to wait for
 pub returns-then-are_own-clause-start : goal.returns-then-are_own-clause-start
 returns-then-are_own-clause-start t c =
     let g = c.args.problem.now in
@@ -41,6 +45,7 @@ returns-then-are_own-clause-start t c =
     (from_true c.are_own.result c.if-are_own.true c.are_own.ensures)
     (c.in_ok-start-3.ensures.start s few))
 
+-- the other inputs are fewer, and the wait that includes the first one is a tree of the graph
 pub start_after-requires-2 : goal.start_after-requires-2
 start_after-requires-2 t c =
     let below = all_parts (λ e. e < edge_count c.args.problem.now) c.args.edges.now c.in-Some.edge.now
@@ -49,6 +54,7 @@ start_after-requires-2 t c =
     let at = c.decreases in
     (omega arith, (c.requires.forest, (c.in_ok-there.ensures.tree, below.1)))
 
+-- the first input is from another node, so the others are waited for after the later of it and the wait
 pub returns-clause-start : goal.returns-clause-start
 returns-clause-start t c =
     let g = c.args.problem.now in
@@ -63,6 +69,7 @@ returns-clause-start t c =
     (later_is g (input_delay g c.in-Some.edge.now) (input_tree g f c.in-Some.edge.now)) c.in_ok-there.ensures.both
     (c.in_ok-start-4.ensures.start s few))
 
+-- the first input is from the node itself, so a fault for the others is one for all
 pub returns-in_err-start-2-clause-fault : goal.returns-in_err-start-2-clause-fault
 returns-in_err-start-2-clause-fault t c =
     handed_on _ c.from_residual-in_err-start-2.result c.in_err-start-2.field-0.0
@@ -72,6 +79,7 @@ returns-in_err-start-2-clause-fault t c =
     c.in-Some.edge.now c.in-Some.others.now c.in-Some.ensures.cases.0
     (sym c.is_message.ensures ∙ c.if-not-is_message.true) c.in_err-start-2.ensures.fault)
 
+-- the tree of the wait and the first input has too many leaves
 pub returns-in_err-few-clause-fault : goal.returns-in_err-few-clause-fault
 returns-in_err-few-clause-fault t c =
     handed_on _ c.from_residual-in_err-few.result c.in_err-few.field-0.0 c.from_residual-in_err-few.ensures.1
@@ -81,6 +89,7 @@ returns-in_err-few-clause-fault t c =
     (named_as (IsLarge c.in_ok-there.there) c.forest.inside.wide c.args.forest.now.wide c.in_err-few.field-0.0
     (ap (λ (x : ForestState). x.wide) c.forest.view_is) c.in_err-few.ensures))
 
+-- a fault for the others, after the first input, is one for all
 pub returns-in_err-start-4-clause-fault : goal.returns-in_err-start-4-clause-fault
 returns-in_err-start-4-clause-fault t c =
     handed_on _ c.from_residual-in_err-start-4.result c.in_err-start-4.field-0.0

@@ -5,6 +5,7 @@ use Rattle.cpg_expand.specs.Guarded.{IsTestedOn}
 use Rattle.cpg_expand.proofs.TestedTrees.{tested_first, tested_further}
 use Rattle.cpg_expand.proofs.guarded.+tested_on.Goals as goal
 
+-- the first test is of the condition that is asked for, so the guard tests it everywhere
 pub returns-then-condition-wanted-clause-tested : goal.returns-then-condition-wanted-clause-tested
 returns-then-condition-wanted-clause-tested t c =
     let k = c.args.problem.now.faults in
@@ -14,6 +15,7 @@ returns-then-condition-wanted-clause-tested t c =
     (subst (λ n. IsConstant true n c.in_ok-always-in-Test.always) c.faults-then-condition-wanted.ensures.faults
     c.in_ok-always-in-Test.ensures.is))
 
+-- the first test is of another condition, so the guard tests it where the side that is picked does
 pub returns-in_ok-picked-in-Test-clause-tested : goal.returns-in_ok-picked-in-Test-clause-tested
 returns-in_ok-picked-in-Test-clause-tested t c =
     let k = c.args.problem.now.faults in

@@ -8,6 +8,7 @@ use Rattle.cpg_expand.specs.Large.{IsLargeDown, IsLargeStart, IsLargeWith}
 use Rattle.cpg_expand.proofs.LargeShown.{handed_as}
 use Rattle.cpg_expand.proofs.guarded.start.Goals as goal
 
+-- each leaf waits for all inputs, so the starts are made only where the guard leads to an active leaf
 pub returns-then-is_by_activity-clause-start : goal.returns-then-is_by_activity-clause-start
 returns-then-is_by_activity-clause-start c =
     let g = c.args.problem.now in
@@ -17,6 +18,7 @@ returns-then-is_by_activity-clause-start c =
     (from_true c.is_by_activity.result c.if-is_by_activity.true c.is_by_activity.ensures) c.requires.actives
     c.in_ok-start.ensures.start
 
+-- a fault on the way of the inputs is one of the starts, as each leaf waits for all of them
 pub returns-in_err-start-clause-fault : goal.returns-in_err-start-clause-fault
 returns-in_err-start-clause-fault c =
     let g = c.args.problem.now in
@@ -29,6 +31,7 @@ returns-in_err-start-clause-fault c =
     c.from_residual.result c.in_err-start.field-0.0 c.from_residual.ensures.1
     (λ x. inl (for_all, x)) c.in_err-start.ensures.fault
 
+-- a fault down the guard is one of the starts
 pub returns-in_err-start-2-clause-fault : goal.returns-in_err-start-2-clause-fault
 returns-in_err-start-2-clause-fault c =
     let g = c.args.problem.now in

@@ -8,6 +8,7 @@ use Rattle.cpg_expand.specs.Guarded.{IsStartBy}
 use Rattle.cpg_expand.proofs.GuardTrees.{start_active, no_start, constant_tree}
 use Rattle.cpg_expand.proofs.guarded.start_by.Goals as goal
 
+-- a plain activation waits for all inputs
 pub returns-in_ok-start-in-Plain-clause-start : goal.returns-in_ok-start-in-Plain-clause-start
 returns-in_ok-start-in-Plain-clause-start c =
     subst (λ (a : Activation). IsStartBy c.args.problem.now c.args.forest.now
@@ -17,6 +18,7 @@ returns-in_ok-start-in-Plain-clause-start c =
     c.in_ok-start-in-Plain.start c.args.release c.args.inputs.now Plain refl
     c.in_ok-start-in-Plain.ensures.start)
 
+-- an activation by an input waits for that one alone
 pub returns-in_ok-start-in-By-clause-start : goal.returns-in_ok-start-in-By-clause-start
 returns-in_ok-start-in-By-clause-start c =
     subst (λ (a : Activation). IsStartBy c.args.problem.now c.args.forest.now
@@ -26,12 +28,14 @@ returns-in_ok-start-in-By-clause-start c =
     c.in_ok-start-in-By.start c.args.release c.args.inputs.now
     (By c.in-By.edge) refl c.in_ok-start-in-By.ensures.start)
 
+-- the tree without times is one of the graph
 pub returns-in_ok-constant-in-Inactive-clause-tree : goal.returns-in_ok-constant-in-Inactive-clause-tree
 returns-in_ok-constant-in-Inactive-clause-tree c =
     constant_tree c.args.problem.now None c.faults.result c.in_ok-constant-in-Inactive.constant c.faults.ensures.faults
     c.in_ok-constant-in-Inactive.ensures.each c.in_ok-constant-in-Inactive.ensures.is
     (c.in_ok-constant-in-Inactive.ensures.pass (is_variable c.args.problem.now))
 
+-- an inactive process has no start
 pub returns-in_ok-constant-in-Inactive-clause-start : goal.returns-in_ok-constant-in-Inactive-clause-start
 returns-in_ok-constant-in-Inactive-clause-start c =
     subst (λ (a : Activation). IsStartBy c.args.problem.now c.args.forest.now

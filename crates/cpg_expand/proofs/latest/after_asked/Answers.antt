@@ -4,6 +4,7 @@ use Rattle.cpg_expand.specs.Latest.{HasLater, IsRaised}
 use Rattle.cpg_expand.proofs.LatestFound.{heard_no_later, heard_raised}
 use Rattle.cpg_expand.proofs.latest.after_asked.Goals as goal
 
+-- wherever the process is active, the condition is heard no later than the latest time so far, so nothing is raised
 pub returns-then-after_condition-latest : goal.returns-then-after_condition-latest
 returns-then-after_condition-latest c =
     let span = c.args.span.now in
@@ -17,6 +18,7 @@ returns-then-after_condition-latest c =
     (λ n. IsRaised g (HasLater (heard_tree g f span.node at) active (heard_delay g span.node at)) c.args.latest n)
     c.if-after_condition-latest.true c.after_condition.ensures)
 
+-- the latest time is raised to when the condition is heard where one of the guards tests it and the process is active
 pub returns : goal.returns
 returns c =
     let span = c.args.span.now in

@@ -6,6 +6,7 @@ use Rattle.cpg_expand.specs.Latest.{HasLater, IsRaised}
 use Rattle.cpg_expand.proofs.LatestFound.{heard_by_end, heard_by_frame}
 use Rattle.cpg_expand.proofs.latest.after_condition.Goals as goal
 
+-- the condition's process is on the node, so the node hears it by that process's end
 pub returns-then-node_of-node : goal.returns-then-node_of-node
 returns-then-node_of-node c =
     let g = c.args.problem.now in
@@ -15,6 +16,7 @@ returns-then-node_of-node c =
     (subst (λ q. IsRaised g (HasLater (ends_of g f q) c.args.wanted.now 0) c.args.latest c.after_end.result)
     c.process_of-process.ensures.process c.after_end.ensures)
 
+-- the condition's process is on another node, so the node hears it by the end of its broadcast frame
 pub returns : goal.returns
 returns c =
     let g = c.args.problem.now in

@@ -6,10 +6,12 @@ use Rattle.cpg_expand.proofs.GuardTrees.{ends_read}
 use Rattle.cpg_tree.specs.Tree.{TreeState}
 use Rattle.cpg_expand.proofs.latest.after_end.Goals as goal
 
+-- the forest's tree of the process's ends is read, and the latest time is raised to its greatest end
 pub returns : goal.returns
 returns c =
     let g = c.args.problem.now in
     let f = c.args.forest.now in
+    -- the forest as the code reads it, list by list
     let inside : ForestState = record {
       times = c.forest.inside.times.items;
       ends = c.forest.inside.ends.items;
@@ -18,6 +20,7 @@ returns c =
       wide =
           c.forest.inside.wide;
     } in
+    -- the tree that is read is that of the process in the forest
     let tree : c.index.result.now ≡ ends_of g f c.args.process = ends_read g f c.requires.forest inside c.forest.view_is
     c.index.result.now c.args.process c.args.process c.index.ensures refl
     c.requires.process in

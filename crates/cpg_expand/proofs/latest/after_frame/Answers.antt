@@ -8,10 +8,12 @@ use Rattle.cpg_expand.proofs.GuardTrees.{times_read}
 use Rattle.cpg_tree.specs.Tree.{TreeState}
 use Rattle.cpg_expand.proofs.latest.after_frame.Goals as goal
 
+-- the forest's tree of the frame's times is read, and the latest time is raised to the end of the latest frame
 pub returns : goal.returns
 returns c =
     let g = c.args.problem.now in
     let f = c.args.forest.now in
+    -- the forest as the code reads it, list by list
     let inside : ForestState = record {
       times = c.forest.inside.times.items;
       ends = c.forest.inside.ends.items;
@@ -20,6 +22,7 @@ returns c =
       wide =
           c.forest.inside.wide;
     } in
+    -- the tree that is read is that of the item in the forest
     let tree : c.index.result.now ≡ times_of g f c.args.item = times_read g f c.requires.forest inside c.forest.view_is
     c.index.result.now c.args.item c.args.item c.index.ensures refl
     c.requires.item in

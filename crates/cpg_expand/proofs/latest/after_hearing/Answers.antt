@@ -1,12 +1,14 @@
 use Rattle.cpg_expand.proofs.LatestFound.{next_heard, none_heard}
 use Rattle.cpg_expand.proofs.latest.after_hearing.Goals as goal
 
+-- before any condition is gone over, nothing is raised
 pub loop-condition-init : goal.loop-condition-init
 loop-condition-init c =
     let span = c.args.span.now in
     none_heard span.problem.now span.order.now span.guards.now c.args.forest.now c.args.active.now c.requires.active
     span.node span.from c.args.to c.args.first
 
+-- this condition raises the time by when it is heard
 pub loop-condition-preserved : goal.loop-condition-preserved
 loop-condition-preserved c =
     let span = c.args.span.now in

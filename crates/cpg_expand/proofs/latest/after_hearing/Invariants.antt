@@ -1,6 +1,8 @@
 use Rattle.cpg_expand.specs.Latest.{HasHeardOf, IsRaised}
 use Rattle.cpg_expand.proofs.latest.after_hearing.Given as goal
 
+-- after each condition gone over, `latest` is `first` raised to the latest time at which the node has heard one of
+-- the first `condition` conditions that a guard of the span tests
 abbrev pub invariant-loop-condition : goal.invariant-loop-condition
 invariant-loop-condition l = IsRaised l.span.problem.now (HasHeardOf l.span.problem.now l.span.order.now
     l.span.guards.now l.forest l.active l.span.node l.span.from l.to l.condition) l.first l.latest

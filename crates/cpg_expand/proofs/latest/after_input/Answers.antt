@@ -6,6 +6,7 @@ use Rattle.cpg_expand.specs.Latest.{HasLater, IsRaised}
 use Rattle.cpg_expand.proofs.LatestFound.{input_raised}
 use Rattle.cpg_expand.proofs.latest.after_input.Goals as goal
 
+-- the input is a message, so the latest time is raised to the end of its frame
 pub returns : goal.returns
 returns c =
     let g = c.args.problem.now in

@@ -2,6 +2,7 @@ use Rattle.std.proofs.Common.{get_or, refl}
 use Rattle.cpg_expand.proofs.LatestFound.{next_raised}
 use Rattle.cpg_expand.proofs.latest.after_inputs.Goals as goal
 
+-- this input raises the time by when it is there
 pub loop-edge-preserved : goal.loop-edge-preserved
 loop-edge-preserved c =
     next_raised c.args.problem.now c.args.forest.now c.args.active.now c.args.edges.now c.loop-edge.edge-index

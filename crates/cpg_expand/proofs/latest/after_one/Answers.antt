@@ -3,6 +3,7 @@ use Rattle.cpg_expand.proofs.EarlierFound.{between_from}
 use Rattle.cpg_expand.proofs.LatestFound.{one_ended}
 use Rattle.cpg_expand.proofs.latest.after_one.Goals as goal
 
+-- the process stands between the places, so the latest time is raised to its end
 pub returns : goal.returns
 returns c =
     let span = c.args.span.now in

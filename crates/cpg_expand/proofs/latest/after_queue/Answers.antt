@@ -1,11 +1,13 @@
 use Rattle.cpg_expand.proofs.LatestFound.{next_queued, none_queued}
 use Rattle.cpg_expand.proofs.latest.after_queue.Goals as goal
 
+-- no item is gone over yet, so the latest time is the first one
 pub loop-other-init : goal.loop-other-init
 loop-other-init c =
     let sent = c.args.sent.now in
     none_queued c.args.problem.now c.args.order.now c.args.forest.now sent.goes.now sent.item c.args.first
 
+-- this item raises the time by a round after it, if it stands before the one that is sent
 pub loop-other-preserved : goal.loop-other-preserved
 loop-other-preserved c =
     let sent = c.args.sent.now in

@@ -7,6 +7,7 @@ use Rattle.cpg_expand.proofs.LatestFound.{later_raised, one_queued}
 use Rattle.cpg_expand.proofs.GuardTrees.{times_read}
 use Rattle.cpg_expand.proofs.latest.after_queued.Goals as goal
 
+-- the item stands before this one in the queue, so the latest time is raised to a round after it
 pub returns : goal.returns
 returns c =
     let g = c.args.problem.now in
@@ -14,6 +15,7 @@ returns c =
     let sent = c.args.sent.now in
     let goes = sent.goes.now in
     let y = c.args.other in
+    -- the forest as the code reads it, list by list
     let inside : ForestState = record {
       times = c.forest.inside.times.items;
       ends = c.forest.inside.ends.items;
@@ -22,6 +24,7 @@ returns c =
       wide =
           c.forest.inside.wide;
     } in
+    -- the tree that is read is that of the item in the forest
     let tree : c.index.result.now ≡ times_of g f y = times_read g f c.requires.forest inside c.forest.view_is
     c.index.result.now y y c.index.ensures refl c.requires.other in
     one_queued g c.args.order.now f goes sent.item y c.args.latest c.or_later.result

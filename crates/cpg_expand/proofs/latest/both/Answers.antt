@@ -5,6 +5,7 @@ use Rattle.cpg_expand.proofs.EarlierFound.{both_true}
 use Rattle.cpg_expand.proofs.GuardTrees.{constant_tree, same_tree}
 use Rattle.cpg_expand.proofs.latest.both.Goals as goal
 
+-- the tree that is picked has the faults and variables of the graph, as its parts have
 pub returns-clause-tree : goal.returns-clause-tree
 returns-clause-tree c =
     let g = c.args.problem.now in
@@ -13,6 +14,7 @@ returns-clause-tree c =
     (c.in_ok-both.ensures.pass (is_variable g) c.requires.first.known c.requires.second.known
     (c.in_ok-never.ensures.pass (is_variable g)))
 
+-- the first tree picks the second or nothing, so the result is true where both are
 pub returns-clause-both : goal.returns-clause-both
 returns-clause-both c =
     let g = c.args.problem.now in

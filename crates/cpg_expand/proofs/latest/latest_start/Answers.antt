@@ -4,6 +4,7 @@ use Rattle.cpg_tree.specs.Tree.{HasOnePathEach, IsConstant}
 use Rattle.cpg_expand.specs.Latest.{HasEndedOf, HasHeardOf, IsRaised}
 use Rattle.cpg_expand.proofs.latest.latest_start.Goals as goal
 
+-- the process is never active, so it has no latest start
 pub returns-in_default : goal.returns-in_default
 returns-in_default c =
     let span = c.args.span.now in
@@ -18,6 +19,7 @@ returns-in_default c =
       is = c.in_default.ensures;
     }
 
+-- the release, the ends, what is heard and the inputs raise the latest time one after another
 pub returns : goal.returns
 returns c =
     let span = c.args.span.now in

@@ -12,6 +12,7 @@ use Rattle.cpg_expand.proofs.PeaksTop.{ends_tops, past_count, past_tops_are, pea
 use Rattle.cpg_expand.proofs.measuring.excess.Goals as goal
 use Rattle.cpg_expand.proofs.measuring.excess.Goals.{then-reaches+in_ok-peak-2, else-reaches}
 
+-- there is a top for each process
 pub index-requires : goal.index-requires
 index-requires c =
     let g = c.args.problem.now in
@@ -23,6 +24,7 @@ index-requires c =
       ap length (sym made) ∙ past_count g c.args.tops.now,
     )
 
+-- the ends of this process are past its due above the bar or not: the peak goes on to one process more either way
 pub loop-process-preserved : goal.loop-process-preserved
 loop-process-preserved c =
     let g = c.args.problem.now in
@@ -34,16 +36,19 @@ loop-process-preserved c =
     let top : Option ℕ = c.index.result.now in
     let below : n < process_count g =
     omega (arith, c.loop-process-test.true, ap length c.processes.ensures.processes) in
+    -- the tops are the greatest ends of the processes in any scenario
     let ends_top : HasTops g (process_count g) (EndsAt g ends) c.args.tops.now =
     ends_tops g c.processes.ensures.within.few_processes ends c.requires.trees c.args.tops.now c.requires.tops
     c.requires.count in
     let made : past_tops g c.args.tops.now ≡ tops = sym c.in_ok-past.ensures in
+    -- so how far they are past the dues is the greatest excess of each
     let are : HasTops g (process_count g) (EndsPast g ends) tops =
     subst (HasTops g (process_count g) (EndsPast g ends)) made (past_tops_are g ends c.args.tops.now ends_top) in
     let count : length tops ≡ process_count g = ap length (sym made) ∙ past_count g c.args.tops.now in
     let is_top : IsTop g (EndsPast g ends n) top = subst (IsTop g (EndsPast g ends n))
     (get_or_default tops n None top (omega (arith, below, count)) ∙ sym c.index.ensures) (are n below) in
     elim c.if-reaches.branch [
+      -- the process reaches the bar, so its tree may have a greater time than the peak
       | then-reaches+in_ok-peak-2 w ↦
           let tree = w.index-ends-process.result in
           let same : tree ≡ tree_at g ends n = w.index-ends-process.is
@@ -53,11 +58,14 @@ loop-process-preserved c =
           (subst (IsTree g) (sym same) (All-get_or (IsTree g) ends n (no_tree g.faults)
           (omega (arith, below, c.requires.count)) c.requires.trees)) w.in_ok-peak-2.ensures
           bar top (sym c.reaches.ensures ∙ w.if-reaches.true) is_top c.loop-process.invariant)
+      -- the process is under the bar, so the peak stays
       | else-reaches w ↦ subst (IsPeak g urgency (n + 1) (HasFrom bar (EndsPast g ends))) (sym w.peak-is)
           (next_under g urgency n (EndsPast g ends) bar top is_top
           (sym c.reaches.ensures ∙ w.if-reaches.false) c.loop-process.peak c.loop-process.invariant)
     ]
 
+-- all processes are gone over, so the peak is that of all ends past their due: those under the bar can't be the
+-- greatest
 peak_of : (c : goal.After-drop-past-2) →
     IsPeak c.args.problem.now c.args.urgency.now (process_count c.args.problem.now)
     (EndsPast c.args.problem.now c.args.ends.now) c.loop-process.peak
@@ -67,10 +75,12 @@ peak_of c =
     let ends = c.args.ends.now in
     let tops = c.in_ok-past.past.items in
     let peak = c.loop-process.peak in
+    -- the tops are the greatest ends of the processes in any scenario
     let ends_top : HasTops g (process_count g) (EndsAt g ends) c.args.tops.now =
     ends_tops g c.processes.ensures.within.few_processes ends c.requires.trees c.args.tops.now c.requires.tops
     c.requires.count in
     let made : past_tops g c.args.tops.now ≡ tops = sym c.in_ok-past.ensures in
+    -- so how far they are past the dues is the greatest excess of each
     let are : HasTops g (process_count g) (EndsPast g ends) tops =
     subst (HasTops g (process_count g) (EndsPast g ends)) made (past_tops_are g ends c.args.tops.now ends_top) in
     let count : length tops ≡ process_count g = ap length (sym made) ∙ past_count g c.args.tops.now in
@@ -81,9 +91,11 @@ peak_of c =
     (subst (λ (bar : ℕ). IsPeak g urgency (process_count g) (HasFrom bar (EndsPast g ends)) peak)
     (c.bar_of-bar.ensures ∙ ap bar_of c.as_slice.ensures.value) all)
 
+-- `peak_of` above shows it
 pub returns-clause-peak : goal.returns-clause-peak
 returns-clause-peak c = peak_of c
 
+-- the peak of the trees is the excess of the order, as the trees give the ends of its runs
 pub returns-clause-excess : goal.returns-clause-excess
 returns-clause-excess c = λ order frozen topological support. peak_is_excess c.args.problem.now order topological frozen
     c.args.ends.now c.requires.trees c.requires.count support c.args.urgency.now

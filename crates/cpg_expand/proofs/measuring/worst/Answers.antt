@@ -10,6 +10,7 @@ use Rattle.cpg_expand.proofs.PeaksTop.{ends_tops, peak_of_all}
 use Rattle.cpg_expand.proofs.measuring.worst.Goals as goal
 use Rattle.cpg_expand.proofs.measuring.worst.Goals.{then-reaches+in_ok-peak-2, else-reaches}
 
+-- the greatest end of this process reaches the bar or not: the peak goes on to one process more either way
 pub loop-process-preserved : goal.loop-process-preserved
 loop-process-preserved c =
     let g = c.args.problem.now in
@@ -22,11 +23,13 @@ loop-process-preserved c =
     let asked : c.reaches.result ≡ reaches bar top = search rules in
     let below : n < process_count g =
     omega (arith, c.loop-process-test.true, ap length c.processes.ensures.processes) in
+    -- the tops are the greatest ends of the processes in any scenario
     let are : HasTops g (process_count g) (EndsAt g ends) tops = ends_tops g c.processes.ensures.within.few_processes
     ends c.requires.trees tops c.requires.tops c.requires.count in
     let count : length tops ≡ process_count g = c.requires.tops.count ∙ c.requires.count in
     let is_top : IsTop g (EndsAt g ends n) top = are n below in
     elim c.if-reaches.branch [
+      -- the process reaches the bar, so its tree may have a greater time than the peak
       | then-reaches+in_ok-peak-2 w ↦
           let tree = w.index-ends-process.result in
           let same : tree ≡ tree_at g ends n = w.index-ends-process.is
@@ -34,11 +37,13 @@ loop-process-preserved c =
           subst (IsPeak g urgency (n + 1) (HasFrom bar (EndsAt g ends))) (sym w.peak-is)
           (next_end g urgency ends n tree same c.loop-process.peak w.in_ok-peak-2.peak
           bar top (sym asked ∙ w.if-reaches.true) is_top c.loop-process.invariant w.in_ok-peak-2.ensures)
+      -- the process is under the bar, so the peak stays
       | else-reaches w ↦ subst (IsPeak g urgency (n + 1) (HasFrom bar (EndsAt g ends))) (sym w.peak-is)
           (next_under g urgency n (EndsAt g ends) bar top is_top
           (sym asked ∙ w.if-reaches.false) c.loop-process.peak c.loop-process.invariant)
     ]
 
+-- all processes are gone over, so the peak is that of all ends: those under the bar can't be the greatest
 peak_of : (c : goal.After-loop-process) →
     IsPeak c.args.problem.now c.args.urgency.now (process_count c.args.problem.now)
     (EndsAt c.args.problem.now c.args.ends.now) c.loop-process.peak
@@ -48,6 +53,7 @@ peak_of c =
     let ends = c.args.ends.now in
     let tops = c.args.tops.now in
     let peak = c.loop-process.peak in
+    -- the tops are the greatest ends of the processes in any scenario
     let are : HasTops g (process_count g) (EndsAt g ends) tops = ends_tops g c.processes.ensures.within.few_processes
     ends c.requires.trees tops c.requires.tops c.requires.count in
     let count : length tops ≡ process_count g = c.requires.tops.count ∙ c.requires.count in
@@ -58,9 +64,11 @@ peak_of c =
     (subst (λ (bar : ℕ). IsPeak g urgency (process_count g) (HasFrom bar (EndsAt g ends)) peak)
     c.bar_of-bar.ensures all)
 
+-- `peak_of` above shows it
 pub returns-clause-peak : goal.returns-clause-peak
 returns-clause-peak c = peak_of c
 
+-- the peak of the trees is the worst end of the order, as the trees give the ends of its runs
 pub returns-clause-worst : goal.returns-clause-worst
 returns-clause-worst c = λ order frozen topological support. peak_is_worst c.args.problem.now order topological frozen
     c.args.ends.now c.requires.trees c.requires.count support c.args.urgency.now

@@ -3,6 +3,7 @@ use Rattle.cpg_base.specs.Graph.{process_count}
 use Rattle.cpg_expand.specs.MadeRows.{AreEntriesOf}
 use Rattle.cpg_expand.proofs.rows.row.Goals as goal
 
+-- the item is sent, so its row has the columns of its tree by their least scenarios
 pub returns : goal.returns
 returns c =
     let send : AreEntriesOf c.args.problem.now c.args.urgency.now c.args.tree.now c.in_ok-columns-2.columns.items =

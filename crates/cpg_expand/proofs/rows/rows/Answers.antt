@@ -9,6 +9,7 @@ use Rattle.cpg_expand.specs.WideRows.{HaveWideRows}
 use Rattle.cpg_expand.proofs.LargeShown.{handed_on}
 use Rattle.cpg_expand.proofs.rows.rows.Goals as goal
 
+-- the next tree is that of the item whose row is made
 pub row-requires-clause-tree : goal.row-requires-clause-tree
 row-requires-clause-tree c =
     let g = c.args.problem.now in
@@ -21,6 +22,7 @@ row-requires-clause-tree c =
     subst (IsTree g) (next_left times rest c.in-Some.tree (no_tree g.faults) n (sym is ∙ inv.left)).0
     (c.requires.trees n (no_tree g.faults) within)
 
+-- the row of this item is made, and the columns so far are counted with it
 pub loop-tree-preserved : goal.loop-tree-preserved
 loop-tree-preserved c =
     let g = c.args.problem.now in
@@ -43,6 +45,7 @@ loop-tree-preserved c =
       load = c.in_ok-load.ensures.few;
     }
 
+-- before the first item there is no row, and no column is counted
 pub loop-tree-init : goal.loop-tree-init
 loop-tree-init c = record {
   count = search rules;
@@ -52,12 +55,14 @@ loop-tree-init c = record {
   load = omega arith;
 }
 
+-- the rows of all items are made, and they are few
 pub returns-clause-few : goal.returns-clause-few
 returns-clause-few c =
     let inv = c.loop-tree.invariant in
     few_all c.args.wide c.args.problem.now c.loop-tree.rows.items c.loop-tree.item c.loop-tree.load
     (search rules) inv.few
 
+-- this row, or all rows up to it, have too many columns
 pub returns-in_err-load-clause-fault : goal.returns-in_err-load-clause-fault
 returns-in_err-load-clause-fault c =
     let g = c.args.problem.now in

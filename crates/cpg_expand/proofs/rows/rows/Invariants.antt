@@ -4,6 +4,8 @@ use Rattle.cpg_expand.specs.MadeRows.{AreFirstRows}
 use Rattle.cpg_expand.specs.WideRows.{AreFewIf}
 use Rattle.cpg_expand.proofs.rows.rows.Given as goal
 
+-- after each tree, the list has the rows of the first `item` items, the other trees are still in the iterator, and
+-- the load of the rows so far is counted and within its limit if `wide` names an item
 abbrev pub invariant-loop-tree : goal.invariant-loop-tree
 invariant-loop-tree l = record {
   count : l.item + length l.tree-iterator.rest.items ≡ length l.fn.times.items;

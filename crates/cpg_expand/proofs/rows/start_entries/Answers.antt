@@ -8,9 +8,11 @@ use Rattle.cpg_tree.proofs.Passing.{known_from}
 use Rattle.cpg_expand.proofs.TreeColumns.{listed_all, mergeable}
 use Rattle.cpg_expand.proofs.rows.start_entries.Goals as goal
 
+-- a tree of the graph tests variables of the graph alone
 pub listing_along-requires-clause-known : goal.listing_along-requires-clause-known
 listing_along-requires-clause-known c = known_from c.args.problem.now c.args.tree.now.paths c.requires.tree.known
 
+-- a tidy column has no literal of a whole range
 pub merged_tidy-requires-clause-tidy : goal.merged_tidy-requires-clause-tidy
 merged_tidy-requires-clause-tidy c =
     let k = c.args.problem.now.faults in
@@ -19,6 +21,7 @@ merged_tidy-requires-clause-tidy c =
     All-weaker (IsTidyColumn c.args.problem.now) has_no_whole
     (λ e tidy. tidy.not_whole) listed c.in_ok-listing.ensures.tidy
 
+-- the columns of a tree that each match a scenario, and no two of which match one, can be merged
 pub merged_tidy-requires-clause-entries : goal.merged_tidy-requires-clause-entries
 merged_tidy-requires-clause-entries c =
     let listed = c.in_ok-listing.listing.columns.items in
@@ -27,6 +30,7 @@ merged_tidy-requires-clause-entries c =
     (listed_all c.args.problem.now c.args.tree.now listed c.requires.tree.each c.in_ok-listing.ensures.all
     c.in_ok-listing.ensures.tidy)
 
+-- the columns listed are those of the tree, and merging gives those that are as few as can be
 pub returns : goal.returns
 returns c =
     let listed = c.in_ok-listing.listing.columns.items in

@@ -7,11 +7,13 @@ use Rattle.cpg_expand.proofs.FreeRead.{free_read}
 use Rattle.cpg_expand.proofs.SentTrees.{free_then_read}
 use Rattle.cpg_expand.proofs.sending.free_then.Goals as goal
 
+-- the forest's tree of the node's free slots is read, and the slots are free a round after what is sent
 pub returns-clause-free : goal.returns-clause-free
 returns-clause-free c queued =
     let g = c.args.problem.now in
     let f = c.args.forest.now in
     let x = c.args.item in
+    -- the forest as the code reads it, list by list
     let inside : ForestState = record {
       times = c.forest.inside.times.items;
       ends = c.forest.inside.ends.items;

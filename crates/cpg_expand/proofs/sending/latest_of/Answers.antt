@@ -6,11 +6,13 @@ use Rattle.cpg_expand.proofs.SentTrees.{latest_read}
 use Rattle.cpg_expand.proofs.GuardTrees.{ends_read}
 use Rattle.cpg_expand.proofs.sending.latest_of.Goals as goal
 
+-- the latest time by the trees that are read from the forest is that of the item
 pub returns : goal.returns
 returns c =
     let g = c.args.course.now.problem.now in
     let f = c.args.forest.now in
     let x = c.args.item in
+    -- the forest as the code reads it, list by list
     let inside : ForestState = record {
       times = c.forest.inside.times.items;
       ends = c.forest.inside.ends.items;

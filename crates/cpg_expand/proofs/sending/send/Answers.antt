@@ -10,6 +10,7 @@ use Rattle.cpg_expand.proofs.sending.send.Goals as goal
 item_queued : (xs qs : List ℕ) (k : ℕ) → k < length xs → xs ≡ qs → Contains qs (get_or xs k 0)
 item_queued xs qs k l is = subst (λ ys. Contains ys (get_or xs k 0)) is (Contains-get_or xs k 0 l)
 
+-- the item at this place of the queue is one of the graph
 pub add-requires-clause-item : goal.add-requires-clause-item
 add-requires-clause-item c =
     let g = c.args.course.now.problem.now in
@@ -18,6 +19,7 @@ add-requires-clause-item c =
     (item_queued c.queue-item-items.result.now
     (queue_of g c.args.process) c.loop-item.item-index c.loop-item-test.true is)).within
 
+-- the item at this place of the queue is one that the process sends
 pub add-requires-clause-sent : goal.add-requires-clause-sent
 add-requires-clause-sent c =
     let g = c.args.course.now.problem.now in
@@ -26,6 +28,7 @@ add-requires-clause-sent c =
     (item_queued c.queue-item-items.result.now
     (queue_of g c.args.process) c.loop-item.item-index c.loop-item-test.true is)).sent
 
+-- one item more of the queue is added
 pub loop-item-preserved : goal.loop-item-preserved
 loop-item-preserved c =
     let g = c.args.course.now.problem.now in

@@ -5,6 +5,8 @@ use Rattle.cpg_expand.specs.Forest.{HasTrees}
 use Rattle.cpg_expand.specs.Sent.{AreItemsAdded}
 use Rattle.cpg_expand.proofs.sending.send.Given as goal
 
+-- after each item of the process's queue, the forest has a tree for each item still, `frozen` has an entry for each,
+-- and the items so far are added to the forest and to `frozen` that the function began with
 abbrev pub invariant-loop-item : goal.invariant-loop-item
 invariant-loop-item l = record {
   trees : HasTrees l.course.problem.now l.forest;

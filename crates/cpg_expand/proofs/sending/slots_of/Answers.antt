@@ -8,11 +8,13 @@ use Rattle.cpg_expand.proofs.SentTrees.{slots_read}
 use Rattle.cpg_expand.proofs.GuardTrees.{ends_read}
 use Rattle.cpg_expand.proofs.sending.slots_of.Goals as goal
 
+-- the slots by the trees that are read from the forest are those of the item
 pub returns-clause-slots : goal.returns-clause-slots
 returns-clause-slots c =
     let g = c.args.problem.now in
     let f = c.args.forest.now in
     let x = c.args.item in
+    -- the forest as the code reads it, list by list
     let inside : ForestState = record {
       times = c.forest.inside.times.items;
       ends = c.forest.inside.ends.items;

@@ -5,6 +5,7 @@ use Rattle.cpg_tree.specs.Variables.{is_variable}
 use Rattle.cpg_expand.proofs.GuardTrees.{tested_valued, same_tree, value_passes}
 use Rattle.cpg_expand.proofs.sending.tested.Goals as goal
 
+-- the tree that is picked has the faults and variables of the graph, as its parts have
 pub returns-clause-tree : goal.returns-clause-tree
 returns-clause-tree c = same_tree c.args.problem.now c.args.active.now c.in_ok-both.both c.requires.active.faults
     c.in_ok-both.ensures.is.faults c.in_ok-both.ensures.each
@@ -14,6 +15,7 @@ returns-clause-tree c = same_tree c.args.problem.now c.args.active.now c.in_ok-b
     (value_passes c.args.problem.now c.args.condition c.requires.condition)))
     (c.in_ok-never.ensures.pass (is_variable c.args.problem.now)))
 
+-- the tree is true where the given one is true and the condition has the value that is wanted
 pub returns-clause-tested : goal.returns-clause-tested
 returns-clause-tested c = tested_valued c.args.problem.now c.args.condition c.args.wanted c.args.active.now
     c.in_ok-value.value c.in_ok-alike.alike c.in_ok-never.never c.in_ok-both.both

@@ -4,6 +4,7 @@ use Rattle.cpg_tree.specs.Variables.{is_variable}
 use Rattle.cpg_expand.proofs.GuardTrees.{sent_valued, sent_always, same_tree}
 use Rattle.cpg_expand.proofs.sending.unfrozen_sent.Goals as goal
 
+-- the tree has the faults of the chooser, and forks on the graph's variables alone
 pub returns-clause-tree : goal.returns-clause-tree
 returns-clause-tree c = same_tree c.args.problem.now c.args.goes.now c.in_ok-sent.sent c.requires.goes.faults
     c.in_ok-sent.ensures.is.faults c.in_ok-sent.ensures.each
@@ -11,6 +12,7 @@ returns-clause-tree c = same_tree c.args.problem.now c.args.goes.now c.in_ok-sen
     (c.in_ok-slots.ensures.pass (is_variable c.args.problem.now) c.requires.end.known c.requires.free.known)
     (c.in_ok-never.ensures.pass (is_variable c.args.problem.now)))
 
+-- the slots are picked where the item goes, and elsewhere there is no time
 pub returns-clause-sent : goal.returns-clause-sent
 returns-clause-sent c = sent_valued c.args.problem.now c.args.share c.args.goes.now c.args.end.now c.args.free.now
     c.in_ok-slots.slots c.in_ok-never.never c.in_ok-sent.sent c.requires.goes
@@ -21,11 +23,13 @@ returns-clause-sent c = sent_valued c.args.problem.now c.args.share c.args.goes.
     c.in_ok-never.ensures.each
     (c.in_ok-never.ensures.pass (is_variable c.args.problem.now)) c.in_ok-sent.ensures.is
 
+-- the tree has the faults of the graph and tests variables of the graph alone
 pub returns-then-is_true-clause-tree : goal.returns-then-is_true-clause-tree
 returns-then-is_true-clause-tree c = same_tree c.args.problem.now c.args.end.now c.in_ok-slots.slots
     c.requires.end.faults c.in_ok-slots.ensures.is.faults c.in_ok-slots.ensures.each
     (c.in_ok-slots.ensures.pass (is_variable c.args.problem.now) c.requires.end.known c.requires.free.known)
 
+-- the item goes in each scenario, so its times are those of the slots
 pub returns-then-is_true-clause-sent : goal.returns-then-is_true-clause-sent
 returns-then-is_true-clause-sent c = sent_always c.args.problem.now c.args.share c.args.goes.now c.args.end.now
     c.args.free.now c.in_ok-slots.slots c.if-is_true.ensures c.requires.end c.requires.free

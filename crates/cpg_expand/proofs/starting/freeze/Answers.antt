@@ -2,6 +2,7 @@ use Rattle.cpg_tree.specs.Variables.{is_variable}
 use Rattle.cpg_expand.proofs.GuardTrees.{same_tree}
 use Rattle.cpg_expand.proofs.starting.freeze.Goals as goal
 
+-- the tree has the faults of the graph and tests variables of the graph alone
 pub returns-clause-tree : goal.returns-clause-tree
 returns-clause-tree c = same_tree c.args.problem.now c.args.goes.now c.in_ok-one.one c.requires.goes.faults
     c.in_ok-one.ensures.is.faults c.in_ok-one.ensures.each

@@ -4,6 +4,7 @@ use Rattle.cpg_expand.specs.Forest.{ready_by}
 use Rattle.cpg_expand.specs.Large.{IsLargeStart, ShowsLarge}
 use Rattle.cpg_expand.proofs.starting.unfrozen_start.Goals as goal
 
+-- a fault down the guard is one of the starts
 pub returns-clause-fault : goal.returns-clause-fault
 returns-clause-fault c =
     let g = c.args.problem.now in

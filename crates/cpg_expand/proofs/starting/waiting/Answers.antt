@@ -8,6 +8,7 @@ use Rattle.cpg_expand.specs.Waiting.{ready_of}
 use Rattle.cpg_expand.proofs.LargeShown.{handed_as, named_as}
 use Rattle.cpg_expand.proofs.starting.waiting.Goals as goal
 
+-- the guard tests something, so the wait is over when the node is ready and has heard that
 pub returns-in_ok-few-in-Test-clause-wait : goal.returns-in_ok-few-in-Test-clause-wait
 returns-in_ok-few-in-Test-clause-wait c =
     let g = c.args.problem.now in
@@ -15,6 +16,7 @@ returns-in_ok-few-in-Test-clause-wait c =
     let node = c.args.node in
     let heard = c.in_ok-heard-in-Test.heard in
     let wait = c.in_ok-wait-in-Test.wait in
+    -- the forest as the code reads it, list by list
     let inside : ForestState = record {
       times = c.forest.inside.times.items;
       ends = c.forest.inside.ends.items;
@@ -28,6 +30,7 @@ returns-in_ok-few-in-Test-clause-wait c =
     wait_valued g f node c.args.guard.now heard wait c.in_ok-heard-in-Test.ensures.heard
     (subst (λ (r : Ready). IsLatest g.faults (ready_by g f r) heard wait) same c.in_ok-wait-in-Test.ensures.both)
 
+-- the tree of when the node is ready has too many leaves
 pub returns-in_err-few_ready-clause-fault : goal.returns-in_err-few_ready-clause-fault
 returns-in_err-few_ready-clause-fault c =
     handed_as (IsLarge (ready_of c.args.problem.now c.args.forest.now c.args.node))
@@ -35,6 +38,7 @@ returns-in_err-few_ready-clause-fault c =
     c.from_residual.result c.in_err-few_ready.field-0.0 c.from_residual.ensures.1
     (λ x. inl x) c.in_err-few_ready.ensures
 
+-- a tree that is too large while hearing what the guard tests is one of the wait
 pub returns-in_err-heard-in-Test-clause-fault : goal.returns-in_err-heard-in-Test-clause-fault
 returns-in_err-heard-in-Test-clause-fault c =
     handed_as (IsLargeHeard c.args.problem.now c.args.forest.now c.args.node c.args.guard.now)
@@ -42,6 +46,7 @@ returns-in_err-heard-in-Test-clause-fault c =
     c.from_residual-in_err-heard-in-Test.result c.in_err-heard-in-Test.field-0.0
     c.from_residual-in_err-heard-in-Test.ensures.1 (λ x. inr (inl x)) c.in_err-heard-in-Test.ensures.fault
 
+-- the tree of when the node is ready and has heard what the guard tests has too many leaves
 pub returns-in_err-few-in-Test-clause-fault : goal.returns-in_err-few-in-Test-clause-fault
 returns-in_err-few-in-Test-clause-fault c =
     let g = c.args.problem.now in
@@ -49,6 +54,7 @@ returns-in_err-few-in-Test-clause-fault c =
     let node = c.args.node in
     let heard = c.in_ok-heard-in-Test.heard in
     let wait = c.in_ok-wait-in-Test.wait in
+    -- the forest as the code reads it, list by list
     let inside : ForestState = record {
       times = c.forest.inside.times.items;
       ends = c.forest.inside.ends.items;

@@ -4,6 +4,7 @@ use Rattle.cpg_base.proofs.Lists.{map_below_push}
 use Rattle.cpg_expand.specs.Values.{time_past}
 use Rattle.cpg_expand.proofs.tops.past_tops.Goals as goal
 
+-- how far this process is past its due is added
 pub loop-process-preserved : goal.loop-process-preserved
 loop-process-preserved c = map_below_push (λ q. time_past (due c.args.problem.now q) (get_or c.args.tops.now q None))
     c.loop-process.past.items c.push.new.self.items c.time_past.result

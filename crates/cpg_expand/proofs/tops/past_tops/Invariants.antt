@@ -4,6 +4,7 @@ use Rattle.cpg_base.specs.Numbers.{numbers_below}
 use Rattle.cpg_expand.specs.Values.{time_past}
 use Rattle.cpg_expand.proofs.tops.past_tops.Given as goal
 
+-- after each process, the list has how far the top of each process so far is past the due of its process
 abbrev pub invariant-loop-process : goal.invariant-loop-process
 invariant-loop-process l =
     l.past.items ≡ map (λ q. time_past (due l.problem q) (get_or l.tops q None)) (numbers_below l.process)

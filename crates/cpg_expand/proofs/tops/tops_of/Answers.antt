@@ -4,6 +4,7 @@ use Rattle.cpg_tree.specs.Tree.{TreeState}
 use Rattle.cpg_expand.proofs.PeaksTop.{top_from, tops_more}
 use Rattle.cpg_expand.proofs.tops.tops_of.Goals as goal
 
+-- the greatest number of this tree makes the tops of one tree more
 pub loop-tree-preserved : goal.loop-tree-preserved
 loop-tree-preserved c =
     let trees = c.args.trees.now in

@@ -5,6 +5,8 @@ use Rattle.cpg_expand.specs.Values.{slot_if, slot_from}
 use Rattle.cpg_expand.proofs.SlotTrees.{slots_joined}
 use Rattle.cpg_expand.proofs.values.slots.Goals as goal
 
+-- the slots that are asked for, the later of these and the free ones, and then those where there is an end are the
+-- first free slots
 pub returns-clause-is : goal.returns-clause-is
 returns-clause-is c =
     of_answer c.asked.result (IsJoin (λ x y z. z ≡ slot_if y x) c.args.end.now c.in_ok-slots.slots)
@@ -13,6 +15,7 @@ returns-clause-is c =
     c.in_ok-next.ensures.each c.in_ok-slots.ensures.each r c.in_ok-next.ensures.is
     c.in_ok-slots.ensures.is third)
 
+-- the slots have forks of the ends and of the free slots only
 pub returns-clause-pass : goal.returns-clause-pass
 returns-clause-pass c =
     of_answer c.asked.result _ _ c.asked.ensures.pass

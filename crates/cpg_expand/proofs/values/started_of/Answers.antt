@@ -4,6 +4,7 @@ use Rattle.cpg_tree.proofs.Forks.{of_answer}
 use Rattle.cpg_expand.specs.Values.{time_later}
 use Rattle.cpg_expand.proofs.values.started_of.Goals as goal
 
+-- each start is the later of the two trees' times, or the release if that is later
 pub returns-clause-is : goal.returns-clause-is
 returns-clause-is c =
     of_answer c.greater.result _

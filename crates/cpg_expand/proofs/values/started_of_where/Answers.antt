@@ -4,6 +4,7 @@ use Rattle.cpg_tree.proofs.Forks.{of_answer}
 use Rattle.cpg_expand.specs.Values.{time_later}
 use Rattle.cpg_expand.proofs.values.started_of_where.Goals as goal
 
+-- where the tree is true, the starts are the later of the two trees' times or the release; elsewhere there are none
 pub returns-clause-is : goal.returns-clause-is
 returns-clause-is c =
     of_answer c.greater_where.result _

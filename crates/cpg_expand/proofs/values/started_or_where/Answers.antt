@@ -4,6 +4,8 @@ use Rattle.cpg_tree.proofs.Forks.{of_answer}
 use Rattle.cpg_expand.specs.Values.{time_later}
 use Rattle.cpg_expand.proofs.values.started_or_where.Goals as goal
 
+-- where the tree is true, the starts are the latest of one tree's numbers, the other's later times and the release;
+-- elsewhere there are none
 pub returns-clause-is : goal.returns-clause-is
 returns-clause-is c =
     of_answer c.greater_where.result _

@@ -10,6 +10,7 @@ use Rattle.cpg_gen.proofs.Advancing.{number_after-zero, number_after-suc}
 use Rattle.cpg_gen.proofs.Steps.{number_before_after, flat_map_below_push}
 use Rattle.cpg_gen.proofs.generation.draw_all.Goals as goal
 
+-- at the start nothing is drawn
 pub loop-process_number-init : goal.loop-process_number-init
 loop-process_number-init c = record {
   draws = sym (number_after-zero c.args.number);
@@ -17,6 +18,7 @@ loop-process_number-init c = record {
   edges = search rules;
 }
 
+-- one more process and its edges are drawn, and the next draws start where these end
 pub loop-process_number-preserved : goal.loop-process_number-preserved
 loop-process_number-preserved c =
     let i : ℕ = c.loop-process_number.process_number in

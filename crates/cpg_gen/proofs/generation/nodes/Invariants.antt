@@ -3,5 +3,6 @@ use Rattle.cpg_base.specs.Numbers.{numbers_below}
 use Rattle.cpg_gen.specs.Generated.{node_name}
 use Rattle.cpg_gen.proofs.generation.nodes.Given as goal
 
+-- after each node, `nodes` has the names of the nodes so far
 abbrev pub invariant-loop-node : goal.invariant-loop-node
 invariant-loop-node l = l.nodes.items ≡ map node_name (numbers_below l.node)

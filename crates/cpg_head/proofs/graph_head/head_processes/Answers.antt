@@ -2,6 +2,7 @@ use Rattle.cpg_base.proofs.Lists.{map_below_push}
 use Rattle.cpg_head.specs.GraphHead.{head_process}
 use Rattle.cpg_head.proofs.graph_head.head_processes.Goals as goal
 
+-- one more process is added
 pub loop-process-preserved : goal.loop-process-preserved
 loop-process-preserved c =
     map_below_push (head_process c.args.problem.now) c.loop-process.processes.items c.push.new.self.items

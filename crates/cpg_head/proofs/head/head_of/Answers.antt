@@ -4,6 +4,7 @@ use Rattle.cpg_head.specs.GraphHead.{head_of}
 use Rattle.cpg_head.proofs.HeadWithin.{head_within}
 use Rattle.cpg_head.proofs.head.head_of.Goals as goal
 
+-- the parts are those of the head for the graph, which is within its limits
 pub invariant_of-result : goal.invariant_of-result
 invariant_of-result c =
     let made : Head = record {

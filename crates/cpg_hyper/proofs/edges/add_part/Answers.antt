@@ -3,12 +3,14 @@ use Rattle.cpg_hyper.specs.Unrolled.{size_of, edges_in, copied_edge}
 use Rattle.cpg_hyper.proofs.Counted.{nothing_added, next_instance}
 use Rattle.cpg_hyper.proofs.edges.add_part.Goals as goal
 
+-- a part without processes has no edges
 pub returns-then-size-eq0 : goal.returns-then-size-eq0
 returns-then-size-eq0 c =
     let none : size_of c.args.part.now ≡ 0 =
     omega (arith, ap length c.processes.ensures.processes, c.if-size-eq0.true) in
     nothing_added c.args.out.now.items c.args.whole c.args.first c.args.part.now c.processes.ensures.within none
 
+-- the edges of one more instance are added
 pub loop-instance-preserved : goal.loop-instance-preserved
 loop-instance-preserved c =
     let count : length c.processes.result.now ≡ size_of c.args.part.now = ap length c.processes.ensures.processes in

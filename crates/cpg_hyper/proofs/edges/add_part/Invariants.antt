@@ -4,6 +4,7 @@ use Rattle.cpg_base.specs.Numbers.{numbers_below}
 use Rattle.cpg_hyper.specs.Unrolled.{edges_in}
 use Rattle.cpg_hyper.proofs.edges.add_part.Given as goal
 
+-- after each instance, the list has the edges of before and the edges of each instance so far
 abbrev pub invariant-loop-instance : goal.invariant-loop-instance
 invariant-loop-instance l =
     l.out.items ≡ l.fn.out.items ++ flat_map (edges_in l.first l.part) (numbers_below l.instance)

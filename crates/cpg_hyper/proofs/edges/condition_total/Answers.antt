@@ -4,6 +4,7 @@ use Rattle.cpg_hyper.proofs.Counted.{counted, passed}
 use Rattle.cpg_hyper.proofs.edges.condition_total.Goals as goal
 use Rattle.cpg_hyper.proofs.edges.condition_total.Goals.{then-is_conditional, else-is_conditional}
 
+-- a process with a conditional output is counted, and any other is passed over
 pub loop-process-preserved : goal.loop-process-preserved
 loop-process-preserved c = elim c.if-is_conditional.branch [
   | then-is_conditional w ↦ record {

@@ -2,6 +2,7 @@ use Rattle.std.proofs.Common.{◌≡◌, length, ap, sym, arith}
 use Rattle.cpg_hyper.proofs.Counted.{more_edges, part_le}
 use Rattle.cpg_hyper.proofs.edges.edge_total.Goals as goal
 
+-- the edges of one more part are counted
 pub loop-part-preserved : goal.loop-part-preserved
 loop-part-preserved c =
     let count : length c.part-item.result.problem.edges ≡ length c.edges.result.now =

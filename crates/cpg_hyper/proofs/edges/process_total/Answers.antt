@@ -3,6 +3,7 @@ use Rattle.cpg_hyper.specs.Unrolled.{size_of}
 use Rattle.cpg_hyper.proofs.Counted.{more_processes, part_le}
 use Rattle.cpg_hyper.proofs.edges.process_total.Goals as goal
 
+-- the processes of one more part are counted
 pub loop-part-preserved : goal.loop-part-preserved
 loop-part-preserved c =
     let count : size_of c.part-item.result ≡ length c.processes.result.now =

@@ -3,6 +3,7 @@ use Rattle.cpg_hyper.specs.Unrolled.{size_of}
 use Rattle.cpg_hyper.proofs.Counted.{more_processes, next_edges}
 use Rattle.cpg_hyper.proofs.edges.unrolled_edges.Goals as goal
 
+-- the processes of this part are among all the processes, which are few enough
 pub add_part-requires-clause-few : goal.add_part-requires-clause-few
 add_part-requires-clause-few c =
     omega (
@@ -13,6 +14,7 @@ add_part-requires-clause-few c =
           c.loop-part.invariant.first,
     )
 
+-- the processes of this part are few enough to be multiplied
 pub overflow_mul-first : goal.overflow_mul-first
 overflow_mul-first c =
     let count : size_of c.part-item.result ≡ length c.processes.result.now =
@@ -25,6 +27,7 @@ overflow_mul-first c =
           c.loop-part.invariant.first,
     ))
 
+-- the processes up to this part are few enough to be added
 pub overflow_add-first : goal.overflow_add-first
 overflow_add-first c =
     let count : size_of c.part-item.result ≡ length c.processes.result.now =
@@ -37,6 +40,7 @@ overflow_add-first c =
           c.loop-part.invariant.first,
     ))
 
+-- the edges of one more part are added
 pub loop-part-preserved : goal.loop-part-preserved
 loop-part-preserved c =
     let count : size_of c.part-item.result ≡ length c.processes.result.now =

@@ -1,5 +1,6 @@
 use Rattle.cpg_hyper.specs.Refusals.{HoldsBefore, IsAlike}
 use Rattle.cpg_hyper.proofs.fitting.first_different.Given as goal
 
+-- each part before the place is alike with the first part
 abbrev pub invariant-loop-place : goal.invariant-loop-place
 invariant-loop-place l = HoldsBefore (λ p part. IsAlike l.first part) l.parts l.place

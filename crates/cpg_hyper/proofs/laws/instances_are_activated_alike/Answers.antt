@@ -1,5 +1,6 @@
 use Rattle.cpg_hyper.proofs.Alike.{activated_alike}
 use Rattle.cpg_hyper.proofs.laws.instances_are_activated_alike.Goals as goal
 
+-- a process of an instance is activated as its part's process is, by proofs/Alike.antt
 pub returns : goal.returns
 returns c = activated_alike

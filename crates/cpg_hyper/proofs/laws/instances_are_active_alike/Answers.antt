@@ -1,5 +1,6 @@
 use Rattle.cpg_hyper.proofs.Alike.{active_alike}
 use Rattle.cpg_hyper.proofs.laws.instances_are_active_alike.Goals as goal
 
+-- a process of an instance is active exactly if its part's process is, by proofs/Alike.antt
 pub returns : goal.returns
 returns c = active_alike

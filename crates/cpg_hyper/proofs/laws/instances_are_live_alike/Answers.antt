@@ -1,5 +1,6 @@
 use Rattle.cpg_hyper.proofs.Alike.{live_alike}
 use Rattle.cpg_hyper.proofs.laws.instances_are_live_alike.Goals as goal
 
+-- an edge of an instance is live exactly if its part's edge is, by proofs/Alike.antt
 pub returns : goal.returns
 returns c = live_alike

@@ -1,5 +1,6 @@
 use Rattle.cpg_hyper.proofs.Keeping.{last_as_long}
 use Rattle.cpg_hyper.proofs.laws.instances_last_as_long.Goals as goal
 
+-- an execution in an instance lasts as long as its part's in that scenario, by proofs/Keeping.antt
 pub returns : goal.returns
 returns c = last_as_long

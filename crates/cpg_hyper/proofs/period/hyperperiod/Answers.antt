@@ -3,9 +3,11 @@ use Rattle.std.proofs.lemmas.List.{take_all}
 use Rattle.cpg_hyper.proofs.Multiples.{IsSoFar, none_so_far, more_so_far, least_below}
 use Rattle.cpg_hyper.proofs.period.hyperperiod.Goals as goal
 
+-- the hyperperiod of no part is 1
 pub loop-part-init : goal.loop-part-init
 loop-part-init c = record { some = omega arith; short = omega arith; whole = none_so_far c.args.parts.now }
 
+-- the hyperperiod is no less than the least common multiple so far, which is too long
 pub returns-then-whole-gt-LONGEST-clause-long : goal.returns-then-whole-gt-LONGEST-clause-long
 returns-then-whole-gt-LONGEST-clause-long c whole h =
     let next = more_so_far c.args.parts.now c.loop-part.part-index c.part-item.result c.loop-part.whole
@@ -13,6 +15,7 @@ returns-then-whole-gt-LONGEST-clause-long c whole h =
     c.least_common-whole.ensures.least in
     omega (arith, least_below c.args.parts.now _ whole c.least_common-whole.result next h, c.if-whole-gt-LONGEST.true)
 
+-- the least common multiple with one more period is found
 pub loop-part-preserved : goal.loop-part-preserved
 loop-part-preserved c = record {
   some = c.least_common-whole.ensures.some;
@@ -22,6 +25,7 @@ loop-part-preserved c = record {
       c.least_common-whole.ensures.least;
 }
 
+-- all periods have been visited, so this is their least common multiple
 pub returns-clause-whole : goal.returns-clause-whole
 returns-clause-whole c =
     let end : length c.args.parts.now ≤ c.loop-part.part-index = omega (arith, c.loop-part-test.false) in

@@ -5,6 +5,7 @@ use Rattle.cpg_hyper.proofs.Taken.{all_more}
 use Rattle.cpg_hyper.proofs.Added.{made_more}
 use Rattle.cpg_hyper.proofs.processes.add_instance.Goals as goal
 
+-- the copy of one more process is added, and its name is short enough
 pub loop-process-preserved : goal.loop-process-preserved
 loop-process-preserved c =
     let xs = c.processes-process-items.result.now in

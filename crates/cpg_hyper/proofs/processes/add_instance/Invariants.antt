@@ -3,6 +3,8 @@ use Rattle.std.specs.Prelude.{All}
 use Rattle.cpg_hyper.specs.Unrolled.{copied_process, name_in}
 use Rattle.cpg_hyper.proofs.processes.add_instance.Given as goal
 
+-- after each process, the list has the processes of before and a copy of each process so far, and each copy's name
+-- has at most 32 bytes
 abbrev pub invariant-loop-process : goal.invariant-loop-process
 invariant-loop-process l = record {
   added : l.out.items ≡ l.fn.out.items

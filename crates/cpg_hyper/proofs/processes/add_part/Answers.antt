@@ -5,12 +5,14 @@ use Rattle.cpg_hyper.proofs.Counted.{next_instance}
 use Rattle.cpg_hyper.proofs.Added.{added_true, nothing_added, below_more}
 use Rattle.cpg_hyper.proofs.processes.add_part.Goals as goal
 
+-- nothing is added of a part without processes
 pub returns-then-is_empty : goal.returns-then-is_empty
 returns-then-is_empty c =
     let none : length c.processes.result.now ≡ 0 = search rules in
     nothing_added c.args.out.now.items c.args.whole c.args.number c.args.part.now
     (ap length (sym c.processes.ensures.processes) ∙ none)
 
+-- the processes of one more instance are added, and their names are short enough
 pub loop-instance-preserved : goal.loop-instance-preserved
 loop-instance-preserved c =
     let here = added_true _ c.loop-instance.out.items c.add_instance.new.out.items

@@ -5,6 +5,7 @@ use Rattle.cpg_hyper.specs.Unrolled.{processes_in}
 use Rattle.cpg_hyper.specs.Refusals.{AreShort}
 use Rattle.cpg_hyper.proofs.processes.add_part.Given as goal
 
+-- after each instance, the list has the processes of before and those of each instance so far, whose names are short
 abbrev pub invariant-loop-instance : goal.invariant-loop-instance
 invariant-loop-instance l = record {
   added : l.out.items ≡ l.fn.out.items ++ flat_map (processes_in l.number l.part) (numbers_below l.instance);

@@ -3,6 +3,7 @@ use Rattle.cpg_hyper.specs.Refusals.{HasShortNames}
 use Rattle.cpg_hyper.proofs.Added.{added_false, fails_at}
 use Rattle.cpg_hyper.proofs.processes.unrolled_processes.Goals as goal
 
+-- this part is the first that has too long a name
 pub returns-then-not-branch : goal.returns-then-not-branch
 returns-then-not-branch c =
     fails_at (HasShortNames c.args.whole) c.args.parts.now c.loop-place.place c.index-parts-place.result

@@ -3,6 +3,7 @@ use Rattle.cpg_hyper.proofs.Whole.{first_there}
 use Rattle.cpg_hyper.proofs.Outcome.{made_within}
 use Rattle.cpg_hyper.proofs.unrolling.built.Goals as goal
 
+-- the graph of all instances is within the limits
 pub of-requires : goal.of-requires
 of-requires c =
     let first = (get_or c.args.parts.now 0 c.index-parts-0.result).problem in

@@ -6,6 +6,7 @@ use Rattle.cpg_hyper.specs.Refusals.{HasFewEnough}
 use Rattle.cpg_hyper.proofs.Outcome.{count_is, from_processes}
 use Rattle.cpg_hyper.proofs.unrolling.over.Goals as goal
 
+-- there are too many conditions, but few enough processes and edges
 pub returns-then-condition_total-gt-MOST_CONDITIONS : goal.returns-then-condition_total-gt-MOST_CONDITIONS
 returns-then-condition_total-gt-MOST_CONDITIONS c =
     let g = unrolled c.args.whole c.args.parts.now in
@@ -22,6 +23,7 @@ returns-then-condition_total-gt-MOST_CONDITIONS c =
       (processes, edges, omega (arith, count, c.if-condition_total-gt-MOST_CONDITIONS.true)),
     )
 
+-- the processes couldn't be made, though there are few enough of each
 pub returns-in-Err : goal.returns-in-Err
 returns-in-Err c =
     let g = unrolled c.args.whole c.args.parts.now in
@@ -36,6 +38,7 @@ returns-in-Err c =
     } in
     from_processes c.args.whole c.args.parts.now c.requires.over few c.in-Err.fault c.in-Err.ensures
 
+-- this part is the first that gives an order, and all checks before have passed
 pub returns-in-Some : goal.returns-in-Some
 returns-in-Some c =
     let g = unrolled c.args.whole c.args.parts.now in
@@ -50,6 +53,7 @@ returns-in-Some c =
     } in
     (c.args.whole, c.requires.over, few, c.in-Ok.ensures.1, c.in-Some.ensures.first)
 
+-- there are few enough processes, edges and conditions
 pub built-requires-clause-counts : goal.built-requires-clause-counts
 built-requires-clause-counts c =
     let g = unrolled c.args.whole c.args.parts.now in

@@ -8,6 +8,7 @@ use Rattle.cpg_inputs.proofs.Keeping.{keeps_on}
 use Rattle.cpg_inputs.proofs.Readings.{stops_after, stops_more, stops_one}
 use Rattle.cpg_inputs.proofs.reading.audit_inputs.Goals as goal
 
+-- the graph or the pack stops the run, and no log is fetched
 pub returns-in_err-judged-clause-inputs : goal.returns-in_err-judged-clause-inputs
 returns-in_err-judged-clause-inputs g c =
     let S = g.S.Shelf in
@@ -17,6 +18,7 @@ returns-in_err-judged-clause-inputs g c =
     rw (p.1, p.2) (stops_more None (file GraphFile c.args.graph.now ∷ file PackFile c.args.pack.now ∷ [])
     (file LogFile c.args.log.now ∷ []) past now c.in_err-judged.field-0.0 c.in_err-judged.ensures.halt)
 
+-- the graph and the pack were read, and the log stops the run
 pub returns-in_err-log-clause-inputs : goal.returns-in_err-log-clause-inputs
 returns-in_err-log-clause-inputs g c =
     let S = g.S.Shelf in
@@ -34,12 +36,14 @@ returns-in_err-log-clause-inputs g c =
     (last ∷ []) past mid now
     (graph_value a ∷ tables_value t ∷ []) halt c.in_ok-judged.ensures.read stops)
 
+-- both readings keep the shelf, one after the other
 pub returns-in_err-log-clause-keeps : goal.returns-in_err-log-clause-keeps
 returns-in_err-log-clause-keeps g c =
     let S = g.S.Shelf in
     keeps_on (S.state c.args.shelf.now) (S.state c.read_judged.new.shelf)
     (S.state c.read_acts.new.shelf) c.in_ok-judged.ensures.keeps c.in_err-log.ensures.keeps
 
+-- both readings keep the shelf, one after the other
 pub returns-clause-keeps : goal.returns-clause-keeps
 returns-clause-keeps g c =
     let S = g.S.Shelf in

@@ -7,6 +7,7 @@ use Rattle.cpg_inputs.specs.Says.{tables_value}
 use Rattle.cpg_inputs.proofs.Readings.{reads_one, stops_one}
 use Rattle.cpg_inputs.proofs.reading.node_inputs.Goals as goal
 
+-- the pack is the only file, and it stops the run
 pub returns-in_err-tables-clause-inputs : goal.returns-in_err-tables-clause-inputs
 returns-in_err-tables-clause-inputs g c =
     let S = g.S.Shelf in
@@ -16,6 +17,7 @@ returns-in_err-tables-clause-inputs g c =
     rw (p.1, p.2) (stops_one None (file PackFile c.args.pack.now) [] past now c.in_err-tables.field-0.0
     (c.in_err-tables.ensures.halt None))
 
+-- the pack was read, and the inputs are its tables with the node's name
 pub returns-clause-inputs : goal.returns-clause-inputs
 returns-clause-inputs g c =
     let S = g.S.Shelf in

@@ -8,6 +8,7 @@ use Rattle.cpg_inputs.proofs.Keeping.{keeps_on}
 use Rattle.cpg_inputs.proofs.Readings.{reads_more, reads_one, stops_after, stops_one}
 use Rattle.cpg_inputs.proofs.reading.read_judged.Goals as goal
 
+-- the graph was read, and the pack stops the run
 pub returns-in_err-tables-clause-halt : goal.returns-in_err-tables-clause-halt
 returns-in_err-tables-clause-halt g c =
     let S = g.S.Shelf in
@@ -23,6 +24,7 @@ returns-in_err-tables-clause-halt g c =
     let p = err_from_is_err_and c.from_residual-in_err-tables.result c.from_residual-in_err-tables.ensures.1 in
     rw (p.1, p.2) (stops_after None (graph ∷ []) (pack ∷ []) past mid now (graph_value a ∷ []) halt read stops)
 
+-- the graph and then the pack were read
 pub returns-clause-read : goal.returns-clause-read
 returns-clause-read g c =
     let S = g.S.Shelf in
@@ -37,12 +39,14 @@ returns-clause-read g c =
     (reads_one None graph past mid (graph_value a) c.in_ok-graph.ensures.graph)
     (reads_one (Some a.graph) pack mid now (tables_value t) (c.in_ok-tables.ensures.tables (Some a.graph)))
 
+-- both readings keep the shelf, one after the other
 pub returns-in_err-tables-clause-keeps : goal.returns-in_err-tables-clause-keeps
 returns-in_err-tables-clause-keeps g c =
     let S = g.S.Shelf in
     keeps_on (S.state c.args.shelf.now) (S.state c.read_graph.new.shelf)
     (S.state c.read_tables.new.shelf) c.in_ok-graph.ensures.keeps c.in_err-tables.ensures.keeps
 
+-- both readings keep the shelf, one after the other
 pub returns-clause-keeps : goal.returns-clause-keeps
 returns-clause-keeps g c =
     let S = g.S.Shelf in

@@ -5,6 +5,7 @@ use Rattle.cpg_inputs.proofs.Keeping.{keeps_on, keeps_same, access_on}
 use Rattle.cpg_inputs.proofs.PartsRead.{may_at, periods_next, read_next, stops_next, wants_next}
 use Rattle.cpg_inputs.proofs.reading.read_parts.Goals as goal
 
+-- the graph of each pair may be fetched at the start, and the same names may be fetched still
 pub read_part-requires : goal.read_part-requires
 read_part-requires g c =
     subst (g.S.Shelf.may_fetch c.loop-pair.shelf) (sym c.as_str.ensures)
@@ -12,6 +13,7 @@ read_part-requires g c =
     (may_at (g.S.Shelf.may_fetch c.args.shelf.now) c.args.pairs.now c.loop-pair.pair-index c.pair-item.result
     c.loop-pair-test.true c.pair-item.is c.requires))
 
+-- the parts before were read, and the file of this one stops the run
 pub returns-in_err-problem-clause-halt : goal.returns-in_err-problem-clause-halt
 returns-in_err-problem-clause-halt g c =
     let S = g.S.Shelf in
@@ -23,6 +25,7 @@ returns-in_err-problem-clause-halt g c =
     c.pair-item.is c.loop-pair.parts.items past mid now c.loop-pair.invariant.read
     c.in_err-problem.field-0.0 (rw c.as_str.ensures at c.in_err-problem.ensures.halt))
 
+-- the file of the next part was read, and the part is added with its period
 pub loop-pair-preserved : goal.loop-pair-preserved
 loop-pair-preserved g c =
     let S = g.S.Shelf in
@@ -44,6 +47,7 @@ loop-pair-preserved g c =
           c.add.new.parts.items before.periods c.in_ok-add.ensures.added;
     }
 
+-- the file of the part was read, but memory ran out for the part
 pub returns-in_err-add-clause-halt : goal.returns-in_err-add-clause-halt
 returns-in_err-add-clause-halt g c =
     let S = g.S.Shelf in
@@ -56,18 +60,21 @@ returns-in_err-add-clause-halt g c =
     c.in_ok-problem.problem c.in_err-add.field-0.0
     (rw c.as_str.ensures at c.in_ok-problem.ensures.graph) c.in_err-add.ensures.halt)
 
+-- the loop kept the shelf, and so does the reading that fails
 pub returns-in_err-problem-clause-keeps : goal.returns-in_err-problem-clause-keeps
 returns-in_err-problem-clause-keeps g c =
     let S = g.S.Shelf in
     keeps_on (S.state c.args.shelf.now) (S.state c.loop-pair.shelf)
     (S.state c.read_part.new.shelf) c.loop-pair.invariant.keeps c.in_err-problem.ensures.keeps
 
+-- the loop kept the shelf, and so does the reading of this part
 pub returns-in_err-add-clause-keeps : goal.returns-in_err-add-clause-keeps
 returns-in_err-add-clause-keeps g c =
     let S = g.S.Shelf in
     keeps_on (S.state c.args.shelf.now) (S.state c.loop-pair.shelf)
     (S.state c.read_part.new.shelf) c.loop-pair.invariant.keeps c.in_ok-problem.ensures.keeps
 
+-- nothing was read yet
 pub loop-pair-init : goal.loop-pair-init
 loop-pair-init g c = record {
   keeps = keeps_same (g.S.Shelf.state c.args.shelf.now);

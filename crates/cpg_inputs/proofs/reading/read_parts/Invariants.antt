@@ -5,6 +5,9 @@ use Rattle.cpg_inputs.specs.Reading.{Reads}
 use Rattle.cpg_inputs.specs.Shapes.{HavePeriods, part_values}
 use Rattle.cpg_inputs.proofs.reading.read_parts.Given as goal
 
+-- `keeps`, `access`: the shelf still has its files, and the same of them may be fetched. `read`: the files of the
+-- pairs so far were read in order, with the values of the parts. `periods`: the parts have the periods of their
+-- pairs.
 abbrev pub invariant-loop-pair : goal.invariant-loop-pair
 invariant-loop-pair g l = record {
   keeps : KeepsShelf (g.S.Shelf.state l.fn.shelf) (g.S.Shelf.state l.shelf);

@@ -8,6 +8,7 @@ pub returns-in_err-fetch-clause-fetched : goal.returns-in_err-fetch-clause-fetch
 returns-in_err-fetch-clause-fetched g c = fetched_none (g.S.Shelf.state c.args.shelf.now)
     (g.S.Shelf.state c.fetch.new.self) c.args.name.now c.in_err-fetch.ensures.history
 
+-- the name is one fetch more, which gave the first bytes of the name, though the last piece failed
 pub returns-in_err-read_piece-clause-fetched : goal.returns-in_err-read_piece-clause-fetched
 returns-in_err-read_piece-clause-fetched g c =
     let old = g.S.Shelf.state c.args.shelf.now in
@@ -18,6 +19,7 @@ returns-in_err-read_piece-clause-fetched g c =
     c.read_piece.new.bytes.items c.read_piece.result c.read_piece.ensures.history in
     fetched_one old new names one.0 one.1 (c.read_piece.ensures.rest before.rest)
 
+-- the name is one fetch more, which gave the first bytes of the name
 pub returns-clause-fetched : goal.returns-clause-fetched
 returns-clause-fetched g c =
     let old = g.S.Shelf.state c.args.shelf.now in

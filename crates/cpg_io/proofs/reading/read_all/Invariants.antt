@@ -4,6 +4,10 @@ use Rattle.cpg_io.specs.Agreement.{LeavesRest}
 use Rattle.cpg_io.specs.Shelf.{SameNames, SameAccess}
 use Rattle.cpg_io.proofs.reading.read_all.Given as goal
 
+-- After each piece. `names`, `access`: names and rights of the shelf have not changed. `rest`: what is left is the
+-- rest of what stands under the name fetched last. `came`: the bytes so far and what is left are the whole that
+-- stands there. `history`: the last fetch has given the bytes so far, has not ended and has not failed. `within`: no
+-- more bytes than the limit. `later`: the shelf has forgotten no fault.
 abbrev pub invariant-loop-bytes : goal.invariant-loop-bytes
 invariant-loop-bytes g l = record {
   names : SameNames (g.S.Shelf.state l.fn.shelf) (g.S.Shelf.state l.shelf);
@@ -21,5 +25,6 @@ invariant-loop-bytes g l = record {
   later : (g.S.Shelf.state l.fn.shelf).faults ≤ (g.S.Shelf.state l.shelf).faults;
 }
 
+-- each turn reads at least one byte, so the room up to the limit gets smaller
 abbrev pub decreases-loop-bytes : goal.decreases-loop-bytes
 decreases-loop-bytes g l = l.limit - vec_len l.bytes

@@ -2,6 +2,8 @@ use Rattle.std.proofs.Common.{length, ◌≡◌, ◌-◌, ◌≤◌, take}
 use Rattle.cpg_io.specs.Sink.{Took}
 use Rattle.cpg_io.proofs.writing.write_all.Given as goal
 
+-- After each write: `at` lies within the bytes, the sink has taken the bytes before it and no others, and its faults
+-- have not changed.
 abbrev pub invariant-loop-at : goal.invariant-loop-at
 invariant-loop-at g l = record {
   within : l.at ≤ length l.bytes;
@@ -9,5 +11,6 @@ invariant-loop-at g l = record {
   kept : (g.O.Sink.state l.sink).faults ≡ (g.O.Sink.state l.fn.sink).faults;
 }
 
+-- each turn writes at least one byte, so fewer are left
 abbrev pub decreases-loop-at : goal.decreases-loop-at
 decreases-loop-at g l = length l.bytes - l.at

@@ -3,6 +3,7 @@ use Rattle.cpg_base.specs.Graph.{process_at}
 use Rattle.cpg_label.proofs.Called.{condition_called}
 use Rattle.cpg_label.proofs.items.condition_name.Goals as goal
 
+-- a condition is called by the name of its process
 pub returns : goal.returns
 returns c =
     let g = c.args.problem.now in

@@ -3,6 +3,7 @@ use Rattle.std.proofs.lemmas.List.{drop-drop}
 use Rattle.cpg_label.proofs.Lines.{block_more}
 use Rattle.cpg_label.proofs.line.front_by_eights.Goals as goal
 
+-- the next eight literals of both lists are the same
 pub loop-block-preserved : goal.loop-block-preserved
 loop-block-preserved c =
     let was = c.loop-block.invariant in

@@ -2,6 +2,7 @@ use Rattle.std.proofs.Common.{◌≡◌, drop, length}
 use Rattle.cpg_label.specs.Lines.{AreAlike}
 use Rattle.cpg_label.proofs.line.front_by_eights.Given as goal
 
+-- both lists are the same up to `place`, and `left` and `right` are their rests from there on
 abbrev pub invariant-loop-block : goal.invariant-loop-block
 invariant-loop-block l = record {
   alike : AreAlike l.fn.first l.fn.second l.place;
@@ -9,5 +10,6 @@ invariant-loop-block l = record {
   right : l.right ≡ drop l.place l.fn.second;
 }
 
+-- each turn takes a block off both lists
 abbrev pub decreases-loop-block : goal.decreases-loop-block
 decreases-loop-block l = length l.left

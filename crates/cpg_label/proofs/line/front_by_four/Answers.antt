@@ -1,6 +1,7 @@
 use Rattle.cpg_label.proofs.Lines.{block_more, rest_of}
 use Rattle.cpg_label.proofs.line.front_by_four.Goals as goal
 
+-- the next four literals of both lists are the same
 pub returns-then-are_same : goal.returns-then-are_same
 returns-then-are_same c =
     let one = c.in-Some.ensures.cases in

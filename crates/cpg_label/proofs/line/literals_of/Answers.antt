@@ -2,6 +2,7 @@ use Rattle.std.proofs.Common.{◌+◌, ◌<◌, ◌≤◌, arith, length}
 use Rattle.cpg_label.proofs.Lines.{rising_short}
 use Rattle.cpg_label.proofs.line.literals_of.Goals as goal
 
+-- the variables rise, so there are no more literals than variables up to the last one
 pub returns-in-Some-clause-few : goal.returns-in-Some-clause-few
 returns-in-Some-clause-few c =
     let ls = c.literals-literals.result.now in

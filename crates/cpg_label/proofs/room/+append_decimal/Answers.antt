@@ -5,6 +5,7 @@ use Rattle.cpg_label.proofs.room.+append_decimal.Goals as goal
 pub push_reserved-requires : goal.push_reserved-requires
 push_reserved-requires t c = omega (arith, c.requires, one_long c.args.number c.if-number-lt10.true)
 
+-- a number below 10 is written as its one digit
 pub returns-then-number-lt10-clause-bytes : goal.returns-then-number-lt10-clause-bytes
 returns-then-number-lt10-clause-bytes t c = one_written c.args.number _ c.args.out.now.items
     c.push_reserved.new.self.items c.if-number-lt10.true c.push_reserved.ensures.items
@@ -14,12 +15,14 @@ pub returns-then-number-lt10-clause-len : goal.returns-then-number-lt10-clause-l
 returns-then-number-lt10-clause-len t c =
     omega (arith, c.push_reserved.ensures.len, one_long c.args.number c.if-number-lt10.true)
 
+-- the number without its last digit is less, and its text needs one byte less of the room
 pub append_decimal-requires : goal.append_decimal-requires
 append_decimal-requires t c = (
   omega (arith, c.decreases, c.if-number-lt10.false),
   omega (arith, c.requires, more_long c.args.number c.if-number-lt10.false c.ranges.number.fits),
 )
 
+-- there is room for the last digit behind the others
 pub push_reserved-requires-2 : goal.push_reserved-requires-2
 push_reserved-requires-2 t c = omega (
   arith,
@@ -29,11 +32,13 @@ push_reserved-requires-2 t c = omega (
   more_long c.args.number c.if-number-lt10.false c.ranges.number.fits,
 )
 
+-- the text of a number is that of the number without its last digit, and then this digit
 pub returns-clause-bytes : goal.returns-clause-bytes
 returns-clause-bytes t c = more_written c.args.number _ c.args.out.now.items c.append_decimal.new.out.items
     c.push_reserved-2.new.self.items c.if-number-lt10.false c.ranges.number.fits
     c.append_decimal.ensures.bytes c.push_reserved-2.ensures.items (omega arith)
 
+-- the length has grown by the digits
 pub returns-clause-len : goal.returns-clause-len
 returns-clause-len t c = omega (
   arith,

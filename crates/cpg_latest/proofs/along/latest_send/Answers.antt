@@ -13,12 +13,14 @@ use Rattle.cpg_latest.proofs.AskedTracks.{outcome_asked}
 use Rattle.cpg_latest.proofs.OverAll.{over_more, over_none}
 use Rattle.cpg_latest.proofs.along.latest_send.Goals as goal
 
+-- over no tracks there is no latest time
 pub loop-i-init : goal.loop-i-init
 loop-i-init c = over_none (λ i.
     AreSent c.args.setting.now.problem.now (track_at (outcomes_asked c.args.asked.now) i) c.args.process c.args.item)
     (λ i time. time ≡ unfrozen_send c.args.setting.now.problem.now c.args.process
     (last_course c.args.setting.now.problem.now (lane_at c.args.lanes.now i)))
 
+-- there are as many tracks that were asked as lanes
 pub bounds-asked-i : goal.bounds-asked-i
 bounds-asked-i c = omega (
   arith,
@@ -27,6 +29,7 @@ bounds-asked-i c = omega (
   length-map c.args.asked.now (λ (a : Asked). a.scenario.now.values),
 )
 
+-- what was asked of the process is what the track at this place says
 pub send_time-time-requires-clause-asked : goal.send_time-time-requires-clause-asked
 send_time-time-requires-clause-asked c =
     subst (IsAsked c.args.setting.now.problem.now c.args.setting.now.guards.now c.args.process) (sym c.index-asked-i.is)
@@ -37,6 +40,7 @@ send_time-time-requires-clause-asked c =
       length-map c.args.asked.now (λ (a : Asked). a.scenario.now.values),
     )))
 
+-- the lane of this track has a course for each number of faults
 pub send_time-time-requires-clause-count : goal.send_time-time-requires-clause-count
 send_time-time-requires-clause-count c =
     let t = subst (TellsSend c.args.setting.now.problem.now
@@ -45,6 +49,7 @@ send_time-time-requires-clause-count c =
     (omega (arith, c.loop-i-test.true, c.requires.lanes.count))) in
     t.count
 
+-- the last course of this lane has free slots for each node
 pub send_time-time-requires-clause-free : goal.send_time-time-requires-clause-free
 send_time-time-requires-clause-free c =
     let t = subst (TellsSend c.args.setting.now.problem.now
@@ -53,6 +58,7 @@ send_time-time-requires-clause-free c =
     (omega (arith, c.loop-i-test.true, c.requires.lanes.count))) in
     t.free
 
+-- if the process is active, its end in the last course is small
 pub send_time-time-requires-clause-early : goal.send_time-time-requires-clause-early
 send_time-time-requires-clause-early c on =
     let asked = c.args.asked.now in
@@ -67,6 +73,7 @@ send_time-time-requires-clause-early c on =
     (omega (arith, c.loop-i-test.true, c.requires.lanes.count))) in
     t.early (ap (λ v. active c.args.setting.now.problem.now v c.args.process) values ∙ on)
 
+-- the latest time so far takes in that of one more track
 pub loop-i-preserved : goal.loop-i-preserved
 loop-i-preserved c =
     let g = c.args.setting.now.problem.now in
@@ -100,6 +107,7 @@ loop-i-preserved c =
       )
     ])
 
+-- the loop has ended, so the latest of the first i lanes is that of all lanes
 pub returns : goal.returns
 returns c = subst (λ n. IsLatestSend c.args.setting.now.problem.now
     (outcomes_asked c.args.asked.now) c.args.process c.args.item c.args.lanes.now n c.loop-i.latest)

@@ -12,6 +12,7 @@ use Rattle.cpg_latest.proofs.AskedTracks.{outcome_asked}
 use Rattle.cpg_latest.proofs.OverAll.{over_more, over_none}
 use Rattle.cpg_latest.proofs.along.latest_start.Goals as goal
 
+-- over no tracks there is no latest time
 pub loop-i-init : goal.loop-i-init
 loop-i-init c = over_none
     (λ i. active c.args.setting.now.problem.now (track_at (outcomes_asked c.args.asked.now) i) c.args.process ≡ true)
@@ -19,6 +20,7 @@ loop-i-init c = over_none
     IsUnfrozenStart c.args.setting.now.problem.now (track_at (outcomes_asked c.args.asked.now) i) c.args.process
     (last_course c.args.setting.now.problem.now (lane_at c.args.lanes.now i)) time)
 
+-- there are as many tracks that were asked as lanes
 pub bounds-asked-i : goal.bounds-asked-i
 bounds-asked-i c = omega (
   arith,
@@ -27,6 +29,7 @@ bounds-asked-i c = omega (
   length-map c.args.asked.now (λ (a : Asked). a.scenario.now.values),
 )
 
+-- what was asked of the process is what the track at this place says
 pub start-requires-clause-asked : goal.start-requires-clause-asked
 start-requires-clause-asked c =
     subst (IsAsked c.args.setting.now.problem.now c.args.setting.now.guards.now c.args.process) (sym c.index-asked-i.is)
@@ -37,24 +40,28 @@ start-requires-clause-asked c =
       length-map c.args.asked.now (λ (a : Asked). a.scenario.now.values),
     )))
 
+-- the lane of this track has a course for each number of faults
 pub start-requires-clause-count : goal.start-requires-clause-count
 start-requires-clause-count c = let t = subst (TellsStart c.args.setting.now.problem.now) (sym c.index-lanes-i.is)
     (c.requires.lanes.each c.loop-i.i c.index-lanes-i.result
     (omega (arith, c.loop-i-test.true, c.requires.lanes.count))) in
     t.count
 
+-- the last course of this lane says when each node is ready
 pub start-requires-clause-ready : goal.start-requires-clause-ready
 start-requires-clause-ready c = let t = subst (TellsStart c.args.setting.now.problem.now) (sym c.index-lanes-i.is)
     (c.requires.lanes.each c.loop-i.i c.index-lanes-i.result
     (omega (arith, c.loop-i-test.true, c.requires.lanes.count))) in
     t.ready
 
+-- what the last course of this lane knows is small
 pub start-requires-clause-small : goal.start-requires-clause-small
 start-requires-clause-small c = let t = subst (TellsStart c.args.setting.now.problem.now) (sym c.index-lanes-i.is)
     (c.requires.lanes.each c.loop-i.i c.index-lanes-i.result
     (omega (arith, c.loop-i-test.true, c.requires.lanes.count))) in
     t.small
 
+-- the latest start so far takes in that of one more track
 pub loop-i-preserved : goal.loop-i-preserved
 loop-i-preserved c =
     let g = c.args.setting.now.problem.now in
@@ -90,6 +97,7 @@ loop-i-preserved c =
       )
     ])
 
+-- the loop has ended, so the latest of the first i lanes is that of all lanes
 pub returns : goal.returns
 returns c = subst (λ n. IsLatestStart c.args.setting.now.problem.now
     (outcomes_asked c.args.asked.now) c.args.process c.args.lanes.now n c.loop-i.latest)

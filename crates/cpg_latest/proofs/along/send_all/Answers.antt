@@ -8,6 +8,7 @@ use Rattle.cpg_latest.proofs.along.send_all.Goals as goal
 pub settle_send-requires-clause-at : goal.settle_send-requires-clause-at
 settle_send-requires-clause-at c = omega (arith, c.loop-at-test.true, ap length c.queue-at-end.ensures)
 
+-- the slice has the lanes of the invariant, which says how far they have sent
 pub settle_send-requires-clause-sending : goal.settle_send-requires-clause-sending
 settle_send-requires-clause-sending c =
     subst (AreSending c.args.setting.now (outcomes_asked c.args.asked.now) c.args.process c.loop-at.at c.loop-at.frozen)
@@ -16,6 +17,7 @@ settle_send-requires-clause-sending c =
 pub send_each-requires-clause-frozen : goal.send_each-requires-clause-frozen
 send_each-requires-clause-frozen c = c.settle_send.ensures.settled.count
 
+-- frozen times that are settled are early
 pub send_each-requires-clause-early : goal.send_each-requires-clause-early
 send_each-requires-clause-early c =
     let g = c.args.setting.now.problem.now in
@@ -26,6 +28,7 @@ send_each-requires-clause-early c =
 pub send_each-requires-clause-at : goal.send_each-requires-clause-at
 send_each-requires-clause-at c = omega (arith, c.loop-at-test.true, ap length c.queue-at-end.ensures)
 
+-- the frozen time of the next item is set, and nothing before it has changed, so it can be sent in each track
 pub send_each-requires-clause-lanes : goal.send_each-requires-clause-lanes
 send_each-requires-clause-lanes c =
     can_send c.args.setting.now c.requires.setting.topological c.args.process c.requires.process
@@ -37,6 +40,7 @@ send_each-requires-clause-lanes c =
 pub loop-at-preserved : goal.loop-at-preserved
 loop-at-preserved c = record { settled = c.settle_send.ensures.settled; known = c.send_each.ensures }
 
+-- all items of the queue are sent
 pub returns : goal.returns
 returns c =
     subst (λ n. AreSending c.args.setting.now

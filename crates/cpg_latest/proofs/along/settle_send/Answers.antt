@@ -12,6 +12,7 @@ use Rattle.cpg_latest.proofs.Settling.{early_of, here_within, not_yet, send_grow
 use Rattle.cpg_latest.proofs.Settling.{settled_idle, settled_more}
 use Rattle.cpg_latest.proofs.along.settle_send.Goals as goal
 
+-- the item at this place of the queue is one of the graph
 pub is_frozen-requires : goal.is_frozen-requires
 is_frozen-requires c =
     let g = c.args.setting.now.problem.now in
@@ -25,6 +26,7 @@ is_frozen-requires c =
     let here : get_or c.queue.result.now k 0 ≡ x = ap (λ xs. get_or xs k 0) c.queue.ensures in
     subst (λ y. y < item_count g) (sym here) (here_within g order top p c.requires.process k c.requires.at)
 
+-- the item is not frozen, so the frozen times stay settled with it
 pub returns-then-not-is_frozen-clause-settled : goal.returns-then-not-is_frozen-clause-settled
 returns-then-not-is_frozen-clause-settled c =
     let g = c.args.setting.now.problem.now in
@@ -47,6 +49,7 @@ returns-then-not-is_frozen-clause-settled c =
 pub returns-then-not-is_frozen-clause-others : goal.returns-then-not-is_frozen-clause-others
 returns-then-not-is_frozen-clause-others c = record { others = λ y other. refl; count = refl }
 
+-- the item at this place of the queue is one that the process sends
 pub latest_send-latest-requires-clause-item : goal.latest_send-latest-requires-clause-item
 latest_send-latest-requires-clause-item c =
     let g = c.args.setting.now.problem.now in
@@ -60,6 +63,7 @@ latest_send-latest-requires-clause-item c =
     let here : get_or c.queue.result.now k 0 ≡ x = ap (λ xs. get_or xs k 0) c.queue.ensures in
     subst (Contains (queue_of g p)) (sym here) (Contains-get_or (queue_of g p) k 0 c.requires.at)
 
+-- the last course of each lane says what a send needs
 pub latest_send-latest-requires-clause-lanes : goal.latest_send-latest-requires-clause-lanes
 latest_send-latest-requires-clause-lanes c =
     let g = c.args.setting.now.problem.now in
@@ -83,6 +87,7 @@ latest_send-latest-requires-clause-lanes c =
     (send_only g order top p c.requires.process k c.requires.at))
     c.args.lanes.now c.requires.sending.known
 
+-- the item at this place of the queue is one of the graph, so it has a place among the frozen times
 pub settle-requires-clause-item : goal.settle-requires-clause-item
 settle-requires-clause-item c =
     let g = c.args.setting.now.problem.now in
@@ -96,6 +101,7 @@ settle-requires-clause-item c =
     let here : get_or c.queue.result.now k 0 ≡ x = ap (λ xs. get_or xs k 0) c.queue.ensures in
     omega (arith, here, here_within g order top p c.requires.process k c.requires.at, c.requires.sending.settled.count)
 
+-- the item is not done yet, so no frozen time of it is set
 pub settle-requires-clause-unset : goal.settle-requires-clause-unset
 settle-requires-clause-unset c =
     let g = c.args.setting.now.problem.now in
@@ -115,6 +121,7 @@ settle-requires-clause-unset c =
     (send_one g order top p c.requires.process k c.requires.at)
     (send_only g order top p c.requires.process k c.requires.at))
 
+-- the latest time over all tracks is the item's unfrozen time, so what is set is its frozen time
 pub returns-clause-settled : goal.returns-clause-settled
 returns-clause-settled c =
     let g = c.args.setting.now.problem.now in
@@ -151,6 +158,7 @@ returns-clause-settled c =
     (length c.args.lanes.now) c.latest_send-latest.result) here c.latest_send-latest.ensures)))
     by.others by.count
 
+-- only the frozen time of this item has changed
 pub returns-clause-others : goal.returns-clause-others
 returns-clause-others c =
     let g = c.args.setting.now.problem.now in

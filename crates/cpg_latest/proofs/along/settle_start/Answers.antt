@@ -8,6 +8,7 @@ use Rattle.cpg_latest.proofs.Settling.{early_of, not_yet, settled_idle, settled_
 use Rattle.cpg_latest.proofs.Settling.{start_one, start_only}
 use Rattle.cpg_latest.proofs.along.settle_start.Goals as goal
 
+-- the process is not frozen, so the frozen times stay settled with its start
 pub returns-then-not-is_frozen-clause-settled : goal.returns-then-not-is_frozen-clause-settled
 returns-then-not-is_frozen-clause-settled c =
     let g = c.args.setting.now.problem.now in
@@ -25,6 +26,7 @@ returns-then-not-is_frozen-clause-settled c =
 pub returns-then-not-is_frozen-clause-others : goal.returns-then-not-is_frozen-clause-others
 returns-then-not-is_frozen-clause-others c = record { others = λ y other. refl; count = refl }
 
+-- the last course of each lane says what a start needs
 pub latest_start-latest-requires-clause-lanes : goal.latest_start-latest-requires-clause-lanes
 latest_start-latest-requires-clause-lanes c =
     let g = c.args.setting.now.problem.now in
@@ -46,6 +48,7 @@ latest_start-latest-requires-clause-lanes c =
 pub settle-requires-clause-item : goal.settle-requires-clause-item
 settle-requires-clause-item c = omega (arith, c.requires.process, c.requires.known.settled.count)
 
+-- the start is not done yet, so no frozen time of it is set
 pub settle-requires-clause-unset : goal.settle-requires-clause-unset
 settle-requires-clause-unset c =
     let g = c.args.setting.now.problem.now in
@@ -59,6 +62,7 @@ settle-requires-clause-unset c =
     (start_later g order top p c.requires.process) (start_grows g order top p c.requires.process)
     (start_one g order top p c.requires.process) (start_only g order top p c.requires.process)
 
+-- the latest start over all tracks is the process's unfrozen time, so what is set is its frozen time
 pub returns-clause-settled : goal.returns-clause-settled
 returns-clause-settled c =
     let g = c.args.setting.now.problem.now in

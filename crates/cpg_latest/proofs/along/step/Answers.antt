@@ -9,16 +9,19 @@ use Rattle.cpg_latest.proofs.NextStep.{can_begin, next_known}
 use Rattle.cpg_latest.proofs.Settling.{early_of}
 use Rattle.cpg_latest.proofs.along.step.Goals as goal
 
+-- the outcomes that were asked are those of the tracks, and these are all tracks
 pub settle_start-requires-clause-tracks : goal.settle_start-requires-clause-tracks
 settle_start-requires-clause-tracks c =
     subst (AreTracks c.args.setting.now.problem.now)
     (sym (ap outcomes_asked c.as_slice.ensures.value ∙ c.in_ok-asked.ensures.outcomes)) c.requires.tracks
 
+-- `ask_each` has asked right, and the slice has what it returned
 pub settle_start-requires-clause-asked : goal.settle_start-requires-clause-asked
 settle_start-requires-clause-asked c =
     subst (AreAsked c.args.setting.now.problem.now c.args.setting.now.guards.now c.args.process)
     (sym c.as_slice.ensures.value) c.in_ok-asked.ensures.asked
 
+-- what is known before the place of the process is known of the tracks that were asked
 pub settle_start-requires-clause-known : goal.settle_start-requires-clause-known
 settle_start-requires-clause-known c =
     subst (λ ts. AreKnown c.args.setting.now ts
@@ -31,6 +34,7 @@ settle_start-requires-clause-known c =
 pub begin_each-requires-clause-frozen : goal.begin_each-requires-clause-frozen
 begin_each-requires-clause-frozen c = c.settle_start.ensures.settled.count
 
+-- frozen times that are settled are early
 pub begin_each-requires-clause-early : goal.begin_each-requires-clause-early
 begin_each-requires-clause-early c =
     let g = c.args.setting.now.problem.now in
@@ -38,11 +42,13 @@ begin_each-requires-clause-early c =
     early_of g order c.requires.setting.topological c.requires.setting.admitted.1.limits
     (IsDone g order c.args.process 0) c.settle_start.new.frozen c.settle_start.ensures.settled
 
+-- `ask_each` has asked right, and the slice has what it returned
 pub begin_each-requires-clause-asked : goal.begin_each-requires-clause-asked
 begin_each-requires-clause-asked c =
     subst (AreAsked c.args.setting.now.problem.now c.args.setting.now.guards.now c.args.process)
     (sym c.as_slice-3.ensures.value) c.in_ok-asked.ensures.asked
 
+-- the frozen time of the start is set, and nothing before it has changed, so the process can begin in each track
 pub begin_each-requires-clause-lanes : goal.begin_each-requires-clause-lanes
 begin_each-requires-clause-lanes c =
     subst (λ ts. AreLanes c.args.setting.now.problem.now
@@ -52,16 +58,19 @@ begin_each-requires-clause-lanes c =
     (outcomes_of c.args.tracks.now) c.args.frozen.now c.settle_start.new.frozen c.args.lanes.now.items
     c.settle_start.ensures.others c.requires.known.known)
 
+-- the outcomes that were asked are those of the tracks, and these are all tracks
 pub send_all-requires-clause-tracks : goal.send_all-requires-clause-tracks
 send_all-requires-clause-tracks c =
     subst (AreTracks c.args.setting.now.problem.now)
     (sym (ap outcomes_asked c.as_slice-4.ensures.value ∙ c.in_ok-asked.ensures.outcomes)) c.requires.tracks
 
+-- `ask_each` has asked right, and the slice has what it returned
 pub send_all-requires-clause-asked : goal.send_all-requires-clause-asked
 send_all-requires-clause-asked c =
     subst (AreAsked c.args.setting.now.problem.now c.args.setting.now.guards.now c.args.process)
     (sym c.as_slice-4.ensures.value) c.in_ok-asked.ensures.asked
 
+-- the process has begun in each track, and the frozen times are settled with its start
 pub send_all-requires-clause-sending : goal.send_all-requires-clause-sending
 send_all-requires-clause-sending c = record {
   settled = c.settle_start.ensures.settled;
@@ -70,6 +79,7 @@ send_all-requires-clause-sending c = record {
       (ap outcomes_asked (c.as_slice-3.ensures.value ∙ sym c.as_slice-4.ensures.value)) c.begin_each.ensures;
 }
 
+-- all that the process sends is sent in each track, so all is known before the next place
 pub returns : goal.returns
 returns c =
     next_known c.args.setting.now c.requires.setting.topological c.args.process c.requires.process

@@ -3,11 +3,13 @@ use Rattle.cpg_base.specs.Activity.{live}
 use Rattle.cpg_run.proofs.Senders.{broadcast_active, message_active, queued_above}
 use Rattle.cpg_latest.proofs.asking.is_item_active.Goals as goal
 
+-- an item behind the processes and edges is a broadcast, which is active with its process
 pub returns-then-item-processes : goal.returns-then-item-processes
 returns-then-item-processes c = sym (broadcast_active c.args.problem.now c.args.scenario.now.values c.args.process
     c.args.item c.requires.item c.requires.active
     (omega (arith, ap length c.processes.ensures.processes, ap length c.edges.ensures.edges, c.if-item-processes.true)))
 
+-- the item is a message or a broadcast, so its number is not below the number of processes
 pub overflow_sub-item : goal.overflow_sub-item
 overflow_sub-item c = omega (
   arith,
@@ -15,6 +17,7 @@ overflow_sub-item c = omega (
   queued_above c.args.problem.now c.args.scenario.now.values c.args.process c.args.item c.requires.item,
 )
 
+-- the item is a message, so it is active if its edge is live
 pub returns : goal.returns
 returns c = c.is_live.ensures ∙ ap (λ n. live c.args.problem.now c.args.scenario.now.values (c.args.item - n))
     (ap length c.processes.ensures.processes)

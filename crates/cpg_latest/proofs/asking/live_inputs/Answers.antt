@@ -3,6 +3,7 @@ use Rattle.std.proofs.lemmas.List.Elements.{Contains-get_or}
 use Rattle.cpg_base.proofs.Inputs.{inputs_parts}
 use Rattle.cpg_latest.proofs.asking.live_inputs.Goals as goal
 
+-- an input of the process is an edge of the graph
 pub is_live-requires-clause-edge : goal.is_live-requires-clause-edge
 is_live-requires-clause-edge c =
     let e = get_or c.inputs-edge-items.result.now c.loop-edge.edge-index 0 in

@@ -16,6 +16,7 @@ use Rattle.cpg_latest.proofs.Found.{figures_found, lanes_first, settled_none}
 use Rattle.cpg_latest.proofs.OverAll.{long_track}
 use Rattle.cpg_latest.proofs.measuring.latest.Goals as goal
 
+-- before the first place no frozen time is set and nothing is known
 pub loop-place-init : goal.loop-place-init
 loop-place-init c =
     let g = c.of-setting.result.problem.now in
@@ -31,6 +32,7 @@ loop-place-init c =
           (c.in_ok-lanes.ensures ∙ ap (λ (h : Graph). replicate (length c.args.tracks.now) (no_lane h)) same);
     }
 
+-- there are as many places as processes
 pub at-requires : goal.at-requires
 at-requires c = omega (
   arith,
@@ -40,6 +42,7 @@ at-requires c = omega (
   length_order (process_count c.args.admitted.now.graph) c.args.order.now c.requires.topological.all,
 )
 
+-- the process at this place is one of the graph
 pub step-requires-clause-process : goal.step-requires-clause-process
 step-requires-clause-process c = omega (
   arith,
@@ -48,6 +51,7 @@ step-requires-clause-process c = omega (
   length_order (process_count c.args.admitted.now.graph) c.args.order.now c.requires.topological.all,
 )
 
+-- each track has a value for each condition
 pub step-requires-clause-values : goal.step-requires-clause-values
 step-requires-clause-values c i d l =
     let tracks = c.args.tracks.now in
@@ -59,6 +63,7 @@ step-requires-clause-values c i d l =
     (omega (arith, l, length-map tracks (λ (s : Scenario). s.values)))
     ∙ ap condition_count (sym c.of-setting.ensures.problem)
 
+-- behind the last place all is known, so the greatest of the last courses are the figures of the order
 pub returns : goal.returns
 returns c =
     let setting = c.of-setting.result in

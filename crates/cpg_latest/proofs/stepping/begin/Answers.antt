@@ -8,6 +8,7 @@ use Rattle.cpg_latest.proofs.CourseSteps.{begins, begun, end_is_latest, last_sma
 use Rattle.cpg_latest.proofs.LatestExists.{the_latest, latest_exist}
 use Rattle.cpg_latest.proofs.stepping.begin.Goals as goal
 
+-- what is known of small latest times is small
 pub ready-ready-requires-clause-small : goal.ready-ready-requires-clause-small
 ready-ready-requires-clause-small c =
     let g = c.args.setting.now.problem.now in
@@ -17,6 +18,7 @@ ready-ready-requires-clause-small c =
     c.requires.asked.long c.requires.early
     c.args.faults c.requires.faults (place order c.args.process) c.args.course.now c.requires.course
 
+-- what is known of small latest times is small
 pub start-unfrozen-requires-clause-small : goal.start-unfrozen-requires-clause-small
 start-unfrozen-requires-clause-small c =
     let g = c.args.setting.now.problem.now in
@@ -26,6 +28,7 @@ start-unfrozen-requires-clause-small c =
     c.requires.asked.long c.requires.early
     c.args.faults c.requires.faults (place order c.args.process) c.args.course.now c.requires.course
 
+-- the process is inactive, so all is known before the next place once its node has waited
 pub returns-then-not-asked-clause-sends : goal.returns-then-not-asked-clause-sends
 returns-then-not-asked-clause-sends c =
     let g = c.args.setting.now.problem.now in
@@ -40,6 +43,7 @@ returns-then-not-asked-clause-sends c =
     c.args.faults c.requires.faults c.args.course.now c.requires.course
     c.ready-ready.result c.ready-ready.ensures idle)
 
+-- the start that is found is a latest time, so it is small
 pub latest_end-end-requires-clause-start : goal.latest_end-end-requires-clause-start
 latest_end-end-requires-clause-start c =
     let g = c.args.setting.now.problem.now in
@@ -61,6 +65,7 @@ latest_end-end-requires-clause-start c =
     c.args.faults c.requires.faults in
     omega (arith, is, small.times p)
 
+-- the latest end with one fault less is small
 pub latest_end-end-requires-clause-last : goal.latest_end-end-requires-clause-last
 latest_end-end-requires-clause-last c =
     let g = c.args.setting.now.problem.now in
@@ -77,6 +82,7 @@ latest_end-end-requires-clause-last c =
     c.args.faults c.requires.faults in
     omega (arith, is, small)
 
+-- the process is active: its start and its end are the latest ones, so it has begun
 pub returns-clause-sends : goal.returns-clause-sends
 returns-clause-sends c =
     let g = c.args.setting.now.problem.now in
@@ -94,6 +100,7 @@ returns-clause-sends c =
     c.ready-ready.result c.ready-ready.ensures (inr (inl refl)) acts c.max-start.result is_start c.latest_end-end.result
     c.args.last c.latest_end-end.ensures (c.requires.last c.if-not-asked.false))
 
+-- the end that is found is the latest one of the process
 pub returns-clause-end : goal.returns-clause-end
 returns-clause-end c on_asked =
     let g = c.args.setting.now.problem.now in

@@ -9,6 +9,7 @@ use Rattle.cpg_run.specs.Run.{heard_there}
 use Rattle.cpg_run.proofs.Mosts.{most_deciding}
 use Rattle.cpg_latest.proofs.waiting.heard.Goals as goal
 
+-- each condition that was asked for is one of the graph
 pub latest_heard-requires-clause-conditions : goal.latest_heard-requires-clause-conditions
 latest_heard-requires-clause-conditions c d k =
     let a = c.requires.setting.admitted in
@@ -18,6 +19,7 @@ latest_heard-requires-clause-conditions c d k =
     (conditions_along c.args.setting.now.problem.now a.0) d
     (subst (λ ds. Contains ds d) is k)).0).0
 
+-- the latest of these conditions to be heard is the latest of all that decide the process
 pub returns : goal.returns
 returns c =
     let a = c.requires.setting.admitted in

@@ -3,5 +3,6 @@ use Rattle.cpg_base.specs.Numbers.{greatest}
 use Rattle.cpg_run.specs.Run.{input_there}
 use Rattle.cpg_latest.proofs.waiting.latest_there.Given as goal
 
+-- `latest` is the time when all inputs so far are there
 abbrev pub invariant-loop-edge : goal.invariant-loop-edge
 invariant-loop-edge l = l.latest ≡ greatest (map (input_there l.problem l.course.known) (take l.edge-index l.edges))

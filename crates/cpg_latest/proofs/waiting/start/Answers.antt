@@ -5,6 +5,7 @@ use Rattle.cpg_base.proofs.Inputs.{inputs_parts}
 use Rattle.cpg_base.proofs.Lists.{Contains-filter_parts}
 use Rattle.cpg_latest.proofs.waiting.start.Goals as goal
 
+-- each live input of the process is an edge of the graph
 pub latest_there-inputs-requires-clause-edges : goal.latest_there-inputs-requires-clause-edges
 latest_there-inputs-requires-clause-edges c e k =
     let g = c.args.setting.now.problem.now in

@@ -4,6 +4,7 @@ use Rattle.cpg_list.specs.Narrowing.{met}
 use Rattle.cpg_list.proofs.CodeCubes.{rising_met}
 use Rattle.cpg_list.proofs.cubes.narrow.Goals as goal
 
+-- two rising cubes met are rising, and the new cube is empty at first
 pub push_met-requires-clause-both : goal.push_met-requires-clause-both
 push_met-requires-clause-both c =
     subst IsRising (ap₂ (λ xs ys. xs ++ met ys c.args.literals.now) (sym c.whole-narrowed.ensures)

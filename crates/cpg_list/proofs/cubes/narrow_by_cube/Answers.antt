@@ -3,6 +3,7 @@ use Rattle.cpg_list.specs.Narrowing.{met, IsNarrowed}
 use Rattle.cpg_list.proofs.CodeCubes.{cube_narrowed}
 use Rattle.cpg_list.proofs.cubes.narrow_by_cube.Goals as goal
 
+-- to meet a cube of some literals narrows the cube by these
 pub returns : goal.returns
 returns c k literals is = subst (IsNarrowed k literals c.args.cube.now)
     (sym (c.in_ok-narrow.ensures ∙ ap (met c.args.cube.now) c.literals.ensures.literals))

@@ -5,6 +5,7 @@ use Rattle.cpg_cube.specs.declared.literal.Literal.{Literal}
 use Rattle.cpg_list.proofs.CodeCubes.{all_lower}
 use Rattle.cpg_list.proofs.cubes.push_all.Goals as goal
 
+-- the next literal is on a variable above all that were added
 pub push-requires : goal.push-requires
 push-requires c =
     let none : Literal = record { variable = 0; low = 0; high = 0 } in

@@ -5,10 +5,12 @@ use Rattle.cpg_list.proofs.CodeCubes.{lower_before, lower_after, lower_here, pus
 use Rattle.cpg_list.proofs.CodeCubes.{rising_left, nothing_left}
 use Rattle.cpg_list.proofs.cubes.push_met.Goals as goal
 
+-- a list of length 0 is empty
 nothing : (xs : List Literal) → length xs ≡ 0 → xs ≡ []
 nothing [] e = refl
 nothing (x ∷ xs) e = absurd (omega arith)
 
+-- the first cube's literal is on the lower variable, which is above all that were added
 pub push-requires : goal.push-requires
 push-requires c = record {
   last = lower_before c.args.cube.now c.loop-one.cube c.args.first.now c.args.second.now c.loop-one.ones.now
@@ -18,6 +20,7 @@ push-requires c = record {
       c.in-Some-split_first.ensures.cases.0 c.if-one-other.true;
 }
 
+-- it is added, and the rest of both cubes is still to be met
 pub loop-one-preserved-then-one-other : goal.loop-one-preserved-then-one-other
 loop-one-preserved-then-one-other c = record {
   first = rising_left c.loop-one.ones.now c.in-Some.one.now c.in-Some.ones_left.now c.loop-one.invariant.first
@@ -31,6 +34,7 @@ loop-one-preserved-then-one-other c = record {
       c.push.new.self c.if-one-other.true c.in_ok-push.ensures.pushed;
 }
 
+-- the second cube's literal is on the lower variable, which is above all that were added
 pub push-requires-then-other-one : goal.push-requires-then-other-one
 push-requires-then-other-one c = record {
   last = lower_after c.args.cube.now c.loop-one.cube c.args.first.now c.args.second.now c.loop-one.ones.now
@@ -40,6 +44,7 @@ push-requires-then-other-one c = record {
       c.in-Some-split_first.ensures.cases.0 c.if-other-one.true;
 }
 
+-- it is added, and the rest of both cubes is still to be met
 pub loop-one-preserved-then-other-one : goal.loop-one-preserved-then-other-one
 loop-one-preserved-then-other-one c = record {
   first = c.loop-one.invariant.first;
@@ -53,6 +58,7 @@ loop-one-preserved-then-other-one c = record {
       c.push-then-other-one.new.self c.if-other-one.true c.in_ok-push-2.ensures.pushed;
 }
 
+-- both literals are on one variable, which is above all that were added
 pub push-requires-else-other-one : goal.push-requires-else-other-one
 push-requires-else-other-one c =
     let e : c.in-Some.one.now.variable ≡ c.in-Some-split_first.other.now.variable =
@@ -71,6 +77,7 @@ push-requires-else-other-one c =
       );
     }
 
+-- both are met and added, and the rest of both cubes is still to be met
 pub loop-one-preserved : goal.loop-one-preserved
 loop-one-preserved c =
     let e : c.in-Some.one.now.variable ≡ c.in-Some-split_first.other.now.variable =
@@ -90,6 +97,7 @@ loop-one-preserved c =
           (c.in_ok-push-3.ensures.pushed ∙ ap (λ x. c.loop-one.cube ++ x ∷ []) c.both.ensures);
     }
 
+-- no literal of the first cube is left, so the rest of the second follows the cube so far, and rises with it
 pub push_all-requires : goal.push_all-requires
 push_all-requires c =
     let none = nothing c.loop-one.ones.now (omega (arith, c.in_default.ensures.cases)) in
@@ -97,6 +105,7 @@ push_all-requires c =
     (nothing_left c.loop-one.others.now c.loop-one.invariant.second c.loop-one.ones.now none) in
     subst IsRising e c.requires.both
 
+-- no literal of the first cube is left, so the rest of the second is what the two rests met are
 pub returns-in_default : goal.returns-in_default
 returns-in_default c =
     let none = nothing c.loop-one.ones.now (omega (arith, c.in_default.ensures.cases)) in

@@ -3,6 +3,7 @@ use Rattle.cpg_base.proofs.Lists.{map_below_push}
 use Rattle.cpg_table.specs.Table.{Row}
 use Rattle.cpg_list.proofs.items.empty_rows.Goals as goal
 
+-- the row that is added is that of the next item, without columns
 pub loop-item-preserved : goal.loop-item-preserved
 loop-item-preserved c = map_below_push (λ x. let r : Row = record { item = x; columns = [] } in r)
     c.loop-item.rows.items c.push.new.self.items c.in_ok-row.row c.loop-item.item c.loop-item.invariant

@@ -10,6 +10,7 @@ use Rattle.cpg_rules.specs.Guards.{AreGuardsOf}
 use Rattle.cpg_list.specs.Learning.{AreDeciding}
 use Rattle.cpg_list.proofs.learning.deciding.Goals as goal
 
+-- the conditions that pass the test along the order are those that decide the process
 pub returns : goal.returns
 returns c =
     let a = c.args.admitted.now in

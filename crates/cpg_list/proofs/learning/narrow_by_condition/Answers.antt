@@ -2,6 +2,7 @@ use Rattle.std.proofs.Common.{arith}
 use Rattle.cpg_base.proofs.Items.{process_of_below}
 use Rattle.cpg_list.proofs.learning.narrow_by_condition.Goals as goal
 
+-- the process of a condition is one of the graph's processes
 pub node_of-requires : goal.node_of-requires
 node_of-requires c = omega (
   arith,

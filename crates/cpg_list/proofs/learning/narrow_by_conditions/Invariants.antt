@@ -4,6 +4,7 @@ use Rattle.cpg_run.specs.Found.{columns_of_rows}
 use Rattle.cpg_list.specs.Narrowing.{IsNarrowed}
 use Rattle.cpg_list.proofs.learning.narrow_by_conditions.Given as goal
 
+-- the cube is the old one narrowed by what the node hears of the conditions so far
 abbrev pub invariant-loop-condition : goal.invariant-loop-condition
 invariant-loop-condition l = IsNarrowed l.frames.problem.now.faults
     (flat_map (heard_of l.frames.problem.now (columns_of_rows l.frames.rows.now) l.frames.scenario.now l.node)

@@ -9,12 +9,14 @@ use Rattle.cpg_list.proofs.CodeCubes.{narrowed_same}
 use Rattle.cpg_list.proofs.CodeTold.{within_map}
 use Rattle.cpg_list.proofs.learning.narrow_by_decided.Goals as goal
 
+-- the deciding conditions are chosen among the conditions of the graph
 pub narrow_by_values-requires-clause-conditions : goal.narrow_by_values-requires-clause-conditions
 narrow_by_values-requires-clause-conditions c d j =
     let g = c.args.problem.now in
     numbers-Contains (condition_count g) d (Contains-filter_parts (decides g c.args.scenario.now.values c.args.process)
     (numbers_below (condition_count g)) d (c.requires.conditions.each d j)).0
 
+-- the given conditions are those that decide the process, in any order
 pub returns : goal.returns
 returns c =
     let g = c.args.problem.now in

@@ -6,6 +6,7 @@ use Rattle.cpg_list.proofs.CodeCubes.{met_narrowed}
 use Rattle.cpg_list.proofs.CodeTold.{told_highs}
 use Rattle.cpg_list.proofs.learning.narrow_by_frame.Goals as goal
 
+-- the frame of the item carries the literals of the column that matches
 pub returns : goal.returns
 returns c =
     let k = c.args.frames.now.problem.now.faults in

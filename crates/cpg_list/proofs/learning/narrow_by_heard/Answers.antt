@@ -10,6 +10,7 @@ use Rattle.cpg_list.proofs.CodeCubes.{narrowed_same}
 use Rattle.cpg_list.proofs.CodeTold.{within_flat_map}
 use Rattle.cpg_list.proofs.learning.narrow_by_heard.Goals as goal
 
+-- the deciding conditions are chosen among the conditions of the graph
 pub narrow_by_conditions-requires-clause-conditions : goal.narrow_by_conditions-requires-clause-conditions
 narrow_by_conditions-requires-clause-conditions c d j =
     let g = c.args.frames.now.problem.now in
@@ -17,9 +18,11 @@ narrow_by_conditions-requires-clause-conditions c d j =
     (decides g c.args.frames.now.scenario.now.values c.args.process) (numbers_below (condition_count g)) d
     (c.requires.conditions.each d j)).0
 
+-- the row of each deciding condition's broadcast is made
 pub narrow_by_conditions-requires-clause-told : goal.narrow_by_conditions-requires-clause-told
 narrow_by_conditions-requires-clause-told c d j = c.requires.told d (c.requires.conditions.each d j)
 
+-- the given conditions are those that decide the process, and each broadcast was heard
 pub returns : goal.returns
 returns c =
     let g = c.args.frames.now.problem.now in

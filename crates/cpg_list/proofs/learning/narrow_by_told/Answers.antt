@@ -7,16 +7,19 @@ use Rattle.cpg_list.specs.TimeOrder.{FindsHit}
 use Rattle.cpg_list.proofs.CodeTold.{told_none, told_found, told_missing}
 use Rattle.cpg_list.proofs.learning.narrow_by_told.Goals as goal
 
+-- the item has no time, so no column matches, and nothing is carried
 pub returns-in_default : goal.returns-in_default
 returns-in_default c = ap (met c.args.cube.now)
     (sym (told_none c.args.row.now.columns c.args.scenario.now (c.requires ∙ ap option_to_list c.in_default.is)))
 
+-- the item has a time, so some column of that time matches, and the search can't miss it
 pub returns-in_default-find : goal.returns-in_default-find
 returns-in_default-find c =
     absurd (told_missing c.args.row.now.columns c.args.scenario.now c.in-Some.time
     (c.requires ∙ ap option_to_list c.in-Some.is)
     (subst (FindsHit c.args.row.now.columns c.in-Some.time c.args.scenario.now) c.in_default-find.is c.find.ensures))
 
+-- the column that was found is the one that matches, so its cube has the literals that are carried
 pub returns : goal.returns
 returns c =
     let row = c.args.row.now.columns in

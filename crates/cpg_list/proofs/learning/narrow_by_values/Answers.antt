@@ -8,14 +8,17 @@ use Rattle.cpg_list.proofs.CodeCubes.{narrowed_none}
 use Rattle.cpg_list.proofs.CodeTold.{narrowed_map}
 use Rattle.cpg_list.proofs.learning.narrow_by_values.Goals as goal
 
+-- before the loop the cube is narrowed by nothing
 pub loop-condition-init : goal.loop-condition-init
 loop-condition-init c = narrowed_none c.args.problem.now.faults c.args.cube.now
 
+-- the condition of this turn is one of the conditions
 pub narrow_by_value-requires-clause-condition : goal.narrow_by_value-requires-clause-condition
 narrow_by_value-requires-clause-condition c =
     c.requires.conditions (get_or c.args.conditions.now c.loop-condition.condition-index 0)
     (Contains-get_or c.args.conditions.now c.loop-condition.condition-index 0 c.loop-condition-test.true)
 
+-- the cube, narrowed by the values so far, is narrowed by the value of this turn's condition
 pub loop-condition-preserved : goal.loop-condition-preserved
 loop-condition-preserved c =
     narrowed_map c.args.problem.now.faults c.args.cube.now c.loop-condition.cube c.narrow_by_value.new.cube
@@ -23,6 +26,7 @@ loop-condition-preserved c =
     c.loop-condition-test.true c.loop-condition.invariant
     c.in_ok-narrow_by_value.ensures
 
+-- at the end of the loop the conditions so far are all conditions
 pub returns : goal.returns
 returns c = subst (λ cs. IsNarrowed c.args.problem.now.faults
     (map (λ d. number_known c.args.scenario.now (value_variable d)) cs) c.args.cube.now c.loop-condition.cube)

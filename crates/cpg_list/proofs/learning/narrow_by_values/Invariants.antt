@@ -4,6 +4,7 @@ use Rattle.cpg_run.specs.Carried.{number_known}
 use Rattle.cpg_list.specs.Narrowing.{IsNarrowed}
 use Rattle.cpg_list.proofs.learning.narrow_by_values.Given as goal
 
+-- the cube is the old one narrowed by the scenario's values of the conditions so far
 abbrev pub invariant-loop-condition : goal.invariant-loop-condition
 invariant-loop-condition l = IsNarrowed l.problem.faults
     (map (λ c. number_known l.scenario (value_variable c)) (take l.condition-index l.conditions)) l.fn.cube l.cube

@@ -4,6 +4,8 @@ use Rattle.cpg_cube.specs.Cube.{IsRising, low_in}
 use Rattle.cpg_list.specs.Narrowing.{as_number}
 use Rattle.cpg_list.proofs.least.has_lows.Given as goal
 
+-- `rising`, `later`: the literals that are left rise, and have the lows of all literals from `variable` on. `so_far`:
+-- each variable before has in the scenario the least number that the literals allow.
 abbrev pub invariant-loop-variable : goal.invariant-loop-variable
 invariant-loop-variable l = record {
   rising : IsRising l.rest;

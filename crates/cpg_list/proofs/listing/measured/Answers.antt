@@ -2,6 +2,7 @@ use Rattle.cpg_run.proofs.BuiltTables.{found_tables_are_built}
 use Rattle.cpg_list.proofs.CodeMade.{timed_of}
 use Rattle.cpg_list.proofs.listing.measured.Goals as goal
 
+-- the tables have the rows that a builder has to find, and the measures are those of all runs
 pub returns : goal.returns
 returns c =
     let g = c.args.admitted.now.graph in

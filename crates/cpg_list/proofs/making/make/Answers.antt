@@ -10,6 +10,7 @@ use Rattle.cpg_list.proofs.CodeQueue.{own_early, sent_early, carried_next}
 use Rattle.cpg_list.proofs.CodeSame.{passed_cubes, queued_cubes}
 use Rattle.cpg_list.proofs.making.make.Goals as goal
 
+-- the order has as many places as there are processes
 pub at-process-requires : goal.at-process-requires
 at-process-requires c = omega (
   arith,
@@ -18,6 +19,7 @@ at-process-requires c = omega (
       c.requires.listed.topological.all,
 )
 
+-- the process at a place of the order is one of the graph
 pub node_of-node-requires : goal.node_of-node-requires
 node_of-node-requires c = omega (
   arith,
@@ -27,6 +29,7 @@ node_of-node-requires c = omega (
       c.requires.listed.topological.all,
 )
 
+-- the process at a place of the order is one of the graph
 pub make_start-requires-clause-process : goal.make_start-requires-clause-process
 make_start-requires-clause-process c = omega (
   arith,
@@ -35,6 +38,7 @@ make_start-requires-clause-process c = omega (
       c.requires.listed.topological.all,
 )
 
+-- the process at a place of the order is one of the graph
 pub make_sends_after-requires-clause-process : goal.make_sends_after-requires-clause-process
 make_sends_after-requires-clause-process c =
     omega (
@@ -44,6 +48,7 @@ make_sends_after-requires-clause-process c =
           c.requires.listed.topological.all,
     )
 
+-- the node's cubes are those of the processes before this one on the node
 pub make_start-requires-clause-known : goal.make_start-requires-clause-known
 make_start-requires-clause-known c =
     let g = c.args.listed.now.admitted.now.graph in
@@ -63,6 +68,7 @@ make_start-requires-clause-known c =
     (passed_by g rows (node_before g order (node_of g p) i)) (get_or c.args.known.now.items (node_of g p) []))
     (sym c.at-process.ensures.back) (c.requires.carried.carries (node_of g p) on))
 
+-- the node's queue stays as it is while the row of the start is made
 pub make_sends_after-requires-clause-sent : goal.make_sends_after-requires-clause-sent
 make_sends_after-requires-clause-sent c =
     let g = c.args.listed.now.admitted.now.graph in
@@ -90,6 +96,7 @@ make_sends_after-requires-clause-sent c =
     (queued_by g order rows (sent_before g order (node_of g p) i)) (get_or c.args.sent.now.items (node_of g p) []))
     (sym c.at-process.ensures.back) (c.requires.carried.queues (node_of g p) on)))
 
+-- the node's cubes and queue are those before the next place, and other nodes keep theirs
 pub returns-clause-carried : goal.returns-clause-carried
 returns-clause-carried c =
     let g = c.args.listed.now.admitted.now.graph in

@@ -16,6 +16,7 @@ use Rattle.cpg_list.proofs.CodeQueue.{all_to, all_from, made_next}
 use Rattle.cpg_list.proofs.CodeSame.{queued_cubes, ends_cubes}
 use Rattle.cpg_list.proofs.making.make_sends.Goals as goal
 
+-- the item is one of those that the process sends
 pub send_entries-requires-clause-item : goal.send_entries-requires-clause-item
 send_entries-requires-clause-item c =
     let g = c.args.listed.now.admitted.now.graph in
@@ -27,6 +28,7 @@ send_entries-requires-clause-item c =
     subst (Contains (queue_of g p)) (ap (λ xs. get_or xs m 0) (sym all))
     (nth_queued g c.args.listed.now.order.now c.requires.listed.topological p c.requires.process m inside)
 
+-- the cubes at the ends of the process stay right while the rows of its own items are made
 pub send_entries-requires-clause-ends : goal.send_entries-requires-clause-ends
 send_entries-requires-clause-ends c =
     let g = c.args.listed.now.admitted.now.graph in
@@ -39,6 +41,7 @@ send_entries-requires-clause-ends c =
     (place order p) c.loop-item.invariant.same c.args.listed.now.scenarios.now p c.args.ends.now
     (omega arith) c.requires.ends)
 
+-- the items in the queue are those before this one
 pub send_entries-requires-clause-sent : goal.send_entries-requires-clause-sent
 send_entries-requires-clause-sent c =
     let g = c.args.listed.now.admitted.now.graph in
@@ -61,6 +64,7 @@ send_entries-requires-clause-sent c =
     (before_from g order c.requires.listed.topological p c.requires.process m inside)
     (before_to g order c.requires.listed.topological p c.requires.process m inside) c.loop-item.invariant.queue))
 
+-- the item is one of the graph
 pub set_row-requires-clause-item : goal.set_row-requires-clause-item
 set_row-requires-clause-item c =
     let g = c.args.listed.now.admitted.now.graph in
@@ -76,6 +80,7 @@ set_row-requires-clause-item c =
       count_of c.loop-item.rows.items (item_count g) c.loop-item.invariant.made.items,
     )
 
+-- the entries of the item can be merged, as all earlier rows are made
 pub set_row-requires-clause-entries : goal.set_row-requires-clause-entries
 set_row-requires-clause-entries c =
     let a = c.args.listed.now.admitted.now in
@@ -99,6 +104,7 @@ set_row-requires-clause-entries c =
     (nth_within g order c.requires.listed.topological p c.requires.process m inside)
     (nth_earlier g order c.requires.listed.topological p c.requires.process m inside) entries found
 
+-- the item's row is made and the item is in the queue, so one item more of the process is done
 pub loop-item-preserved : goal.loop-item-preserved
 loop-item-preserved c =
     let a = c.args.listed.now.admitted.now in
@@ -150,6 +156,7 @@ loop-item-preserved c =
       same = λ y e. c.loop-item.invariant.same y e ∙ same y e;
     }
 
+-- all items of the process are in the queue, as are those before
 pub returns-clause-sent : goal.returns-clause-sent
 returns-clause-sent c =
     let g = c.args.listed.now.admitted.now.graph in
@@ -170,6 +177,7 @@ returns-clause-sent c =
     (subst (λ ys. AreCubesOf g.faults scenarios (queued_by g order rows (before ++ ys)) c.loop-item.sent) whole
     c.loop-item.invariant.queue)
 
+-- all items of the process are made, so all before the next place are
 pub returns-clause-made : goal.returns-clause-made
 returns-clause-made c =
     let a = c.args.listed.now.admitted.now in

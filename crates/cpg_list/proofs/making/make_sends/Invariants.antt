@@ -7,6 +7,9 @@ use Rattle.cpg_run.specs.Found.{columns_of_rows}
 use Rattle.cpg_run.specs.RowLaws.{SameRowsBefore}
 use Rattle.cpg_list.proofs.making.make_sends.Given as goal
 
+-- `made`: the items of earlier processes, the process's start and the items that it sends so far have their rows.
+-- `queue`: for each scenario the cube of what these sent items leave to those behind them in the node's queue.
+-- `same`: the rows of earlier processes are as before the loop.
 abbrev pub invariant-loop-item : goal.invariant-loop-item
 invariant-loop-item l = record {
   made : AreMade l.listed.admitted.now.graph l.listed.admitted.now.order l.listed.order.now l.listed.frozen.now

@@ -5,6 +5,7 @@ use Rattle.cpg_list.proofs.CodeQueue.{ends_plain, ends_frozen}
 use Rattle.cpg_list.proofs.CodeStarts.{frozen_start}
 use Rattle.cpg_list.proofs.making.make_sends_after.Goals as goal
 
+-- the process is frozen, so its ends carry only what decides it and its count
 pub make_sends-requires-clause-ends : goal.make_sends-requires-clause-ends
 make_sends-requires-clause-ends c =
     let g = c.args.listed.now.admitted.now.graph in
@@ -15,6 +16,7 @@ make_sends-requires-clause-ends c =
     ends_frozen g c.args.listed.now.order.now (columns_of_rows c.args.rows.now.items) c.args.listed.now.scenarios.now p
     c.in_ok-ends.ends on c.in_ok-ends.ensures
 
+-- the process isn't frozen, so its ends carry what its node passes on
 pub make_sends-requires-2-clause-ends : goal.make_sends-requires-2-clause-ends
 make_sends-requires-2-clause-ends c =
     let g = c.args.listed.now.admitted.now.graph in

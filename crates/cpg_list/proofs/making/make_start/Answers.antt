@@ -13,6 +13,7 @@ use Rattle.cpg_list.proofs.CodeQueue.{start_by, own_early}
 use Rattle.cpg_list.proofs.CodeSame.{passed_cubes}
 use Rattle.cpg_list.proofs.making.make_start.Goals as goal
 
+-- the rows of all earlier items are made, so they have the times of each run
 pub start_entries-requires-clause-told : goal.start_entries-requires-clause-told
 start_entries-requires-clause-told c =
     let a = c.args.listed.now.admitted.now in
@@ -26,6 +27,7 @@ start_entries-requires-clause-told c =
     (told_from a.graph a.order order frozen timed
     (IsBefore a.graph order (place order p)) c.args.rows.now.items c.requires.made p (λ y h. h))
 
+-- there is a row for each item, and a process's start is an item
 pub set_row-requires-clause-item : goal.set_row-requires-clause-item
 set_row-requires-clause-item c = omega (
   arith,
@@ -33,6 +35,7 @@ set_row-requires-clause-item c = omega (
   count_of c.args.rows.now.items (item_count c.args.listed.now.admitted.now.graph) c.requires.made.items,
 )
 
+-- the entries of the start can be merged, as all earlier rows are made
 pub set_row-requires-clause-entries : goal.set_row-requires-clause-entries
 set_row-requires-clause-entries c =
     let a = c.args.listed.now.admitted.now in
@@ -48,6 +51,7 @@ set_row-requires-clause-entries c =
     (subst (λ (rs : List Row). AreEntriesOf a.graph order frozen (columns_of_rows rs) p c.in_ok-entries.entries.items)
     c.as_slice.ensures.value c.in_ok-entries.ensures.entries)
 
+-- the rows of items from earlier processes stay
 pub returns-clause-same : goal.returns-clause-same
 returns-clause-same c =
     let a = c.args.listed.now.admitted.now in
@@ -66,6 +70,7 @@ returns-clause-same c =
     (λ h. omega (arith, h, by)) (λ y h. omega (arith, h, by)) c.set_row.new.rows.items c.in_ok-set_row.ensures
     (place order p) (omega (arith, by))
 
+-- the start is made, too
 pub returns-clause-made : goal.returns-clause-made
 returns-clause-made c =
     let a = c.args.listed.now.admitted.now in
@@ -83,6 +88,7 @@ returns-clause-made c =
     (λ y h. omega (arith, h, by)) c.in_ok-entries.entries.items found
     (λ h. omega (arith, h, by)) (λ y h. omega (arith, h, by)) c.set_row.new.rows.items c.in_ok-set_row.ensures
 
+-- what the node passes on depends only on earlier rows, so its cubes stay right
 pub returns-clause-known : goal.returns-clause-known
 returns-clause-known c =
     let a = c.args.listed.now.admitted.now in

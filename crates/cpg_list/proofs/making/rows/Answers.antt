@@ -8,6 +8,7 @@ use Rattle.cpg_run.specs.Found.{columns_of_rows}
 use Rattle.cpg_list.proofs.CodeFirst.{blank, none_made, none_carried, all_rows}
 use Rattle.cpg_list.proofs.making.rows.Goals as goal
 
+-- before the first place, no row is made and nothing is carried on
 pub loop-place-init : goal.loop-place-init
 loop-place-init c =
     let a = c.args.admitted.now in
@@ -24,6 +25,7 @@ loop-place-init c =
           (c.in_ok-rows.ensures ∙ ap (λ (h : Graph). map blank (numbers_below (item_count h))) e);
     }
 
+-- after the last place, all rows are made
 pub returns-clause-rows : goal.returns-clause-rows
 returns-clause-rows c =
     let a = c.args.admitted.now in

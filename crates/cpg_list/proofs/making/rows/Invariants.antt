@@ -2,6 +2,8 @@ use Rattle.cpg_list.specs.Made.{AreCarried, AreMade, IsBefore}
 use Rattle.cpg_run.specs.Found.{columns_of_rows}
 use Rattle.cpg_list.proofs.making.rows.Given as goal
 
+-- `carried`: for each node and scenario the cubes of what the processes before the place carry on, and of what their
+-- items leave in the queue. `made`: the items of the processes before the place have their rows.
 abbrev pub invariant-loop-place : goal.invariant-loop-place
 invariant-loop-place l = record {
   carried : AreCarried l.admitted.graph l.order

@@ -4,9 +4,11 @@ use Rattle.cpg_base.specs.declared.item.Item.TheVariants.{Message}
 use Rattle.cpg_list.proofs.CodeSends.{queue_by, queue_within, value_of}
 use Rattle.cpg_list.proofs.sends.deciding_value.Goals as goal
 
+-- what a process sends is an item of the graph
 pub item-requires : goal.item-requires
 item-requires c = queue_within c.args.problem.now c.args.process c.args.item c.requires.item
 
+-- the item is a message for one value only, so the condition of its source decides whether it is sent
 pub returns : goal.returns
 returns c =
     let g = c.args.problem.now in

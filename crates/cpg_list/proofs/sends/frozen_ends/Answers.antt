@@ -4,6 +4,7 @@ use Rattle.cpg_run.specs.Carried.{decided, number_known}
 use Rattle.cpg_list.proofs.CodeStarts.{push_cube}
 use Rattle.cpg_list.proofs.sends.frozen_ends.Goals as goal
 
+-- the cube of the next scenario is added
 pub loop-at-preserved : goal.loop-at-preserved
 loop-at-preserved c =
     let g = c.args.admitted.now.graph in

@@ -6,10 +6,12 @@ use Rattle.cpg_list.specs.Narrowing.{IsNarrowed}
 use Rattle.cpg_list.proofs.CodeCubes.{narrowed_then}
 use Rattle.cpg_list.proofs.sends.narrow_by_sending.Goals as goal
 
+-- the item is one that the process sends; the problem is the same graph
 pub narrow_by_sent_value-requires-clause-item : goal.narrow_by_sent_value-requires-clause-item
 narrow_by_sent_value-requires-clause-item c = subst (λ (h : Graph). Contains (queue_of h c.args.process) c.args.item)
     (sym c.problem-problem.ensures.problem) c.requires.item
 
+-- the cube is narrowed by what decides the process, and then by what decides the sending
 pub returns : goal.returns
 returns c =
     let g = c.args.admitted.now.graph in

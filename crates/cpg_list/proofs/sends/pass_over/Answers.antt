@@ -7,6 +7,7 @@ use Rattle.cpg_list.proofs.CodeStarts.{process_active}
 use Rattle.cpg_list.proofs.CodeSends.{queue_by, left_idle, left_skipped}
 use Rattle.cpg_list.proofs.sends.pass_over.Goals as goal
 
+-- the producer is inactive, so the item leaves only what decides it
 pub returns-in_default : goal.returns-in_default
 returns-in_default c ends =
     let g = c.args.admitted.now.graph in
@@ -20,6 +21,7 @@ returns-in_default c ends =
     (subst (λ (h : Graph). IsNarrowed h.faults (decided h s p) c.args.sent.now c.narrow_by_decided.new.cube)
     c.problem.ensures.problem c.in_ok-narrow_by_decided.ensures)
 
+-- the producer is active and the item isn't, so it also leaves the value that decides the sending
 pub returns : goal.returns
 returns c ends =
     let g = c.args.admitted.now.graph in

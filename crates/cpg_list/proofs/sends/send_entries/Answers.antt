@@ -11,6 +11,7 @@ use Rattle.cpg_list.proofs.CodeSends.{carried_send, queued_is, end_here, queue_w
 use Rattle.cpg_run.proofs.EntriesFound.{AreEntriesAmong, none_yet, all_found}
 use Rattle.cpg_list.proofs.sends.send_entries.Goals as goal
 
+-- before the first scenario, there are no entries and the queue is as before
 pub loop-at-init : goal.loop-at-init
 loop-at-init c =
     let g = c.args.listed.now.admitted.now.graph in
@@ -26,6 +27,7 @@ loop-at-init c =
           (sym c.sent.view_is) c.requires.sent);
     }
 
+-- the process has a time in the scenario exactly if it is active
 pub send_in-requires-clause-process_active : goal.send_in-requires-clause-process_active
 send_in-requires-clause-process_active c =
     let g = c.args.listed.now.admitted.now.graph in
@@ -36,6 +38,7 @@ send_in-requires-clause-process_active c =
     c.loop-at.at c.index-scenarios-at.result c.index-runs-at.result c.loop-at-test.true c.index-scenarios-at.is
     c.index-runs-at.is
 
+-- the item has a time in the scenario exactly if it is active
 pub send_in-requires-clause-item_active : goal.send_in-requires-clause-item_active
 send_in-requires-clause-item_active c =
     let g = c.args.listed.now.admitted.now.graph in
@@ -45,6 +48,7 @@ send_in-requires-clause-item_active c =
     c.loop-at.at c.index-scenarios-at.result c.index-runs-at.result c.loop-at-test.true c.index-scenarios-at.is
     c.index-runs-at.is
 
+-- the entry of the scenario is added, if there is one, and the cube of its queue is replaced
 pub loop-at-preserved : goal.loop-at-preserved
 loop-at-preserved c =
     let g = c.args.listed.now.admitted.now.graph in
@@ -84,6 +88,7 @@ loop-at-preserved c =
           (flat_map_push (queued g order rows s) before x) (left.by queue is));
     }
 
+-- the loop has seen all scenarios, so the entries are all of the item
 pub returns-clause-entries : goal.returns-clause-entries
 returns-clause-entries c =
     let g = c.args.listed.now.admitted.now.graph in
@@ -95,6 +100,7 @@ returns-clause-entries c =
     (subst (λ ds. AreEntriesAmong g c.args.listed.now.order.now c.args.listed.now.frozen.now rows c.args.item ds
     c.loop-at.entries.items) all c.loop-at.invariant.found) c.requires.listed.scenarios.all
 
+-- the loop has seen all scenarios, so all cubes of the queue have the item
 pub returns-clause-sent : goal.returns-clause-sent
 returns-clause-sent c =
     let g = c.args.listed.now.admitted.now.graph in

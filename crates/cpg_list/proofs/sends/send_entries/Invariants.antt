@@ -5,6 +5,8 @@ use Rattle.cpg_run.specs.Found.{columns_of_rows}
 use Rattle.cpg_run.proofs.EntriesFound.{AreEntriesAmong}
 use Rattle.cpg_list.proofs.sends.send_entries.Given as goal
 
+-- `found`: the entries are those of the item in the scenarios so far. `carried`: in these scenarios the cube has also
+-- what the item leaves to those behind it in the queue; in the others it has what the items before leave.
 abbrev pub invariant-loop-at : goal.invariant-loop-at
 invariant-loop-at l = record {
   found : AreEntriesAmong l.listed.admitted.now.graph l.listed.order.now l.listed.frozen.now

@@ -8,6 +8,7 @@ use Rattle.cpg_list.proofs.CodeSends.{queue_by, left_frozen, sends_frozen}
 use Rattle.cpg_run.proofs.SameSends.{producer_active}
 use Rattle.cpg_list.proofs.sends.send_frozen.Goals as goal
 
+-- the entry has what decides the process and the sending, and nothing else
 pub returns-clause-entry : goal.returns-clause-entry
 returns-clause-entry c queue ends =
     let g = c.args.admitted.now.graph in
@@ -22,6 +23,7 @@ returns-clause-entry c queue ends =
     (subst (λ (h : Graph). IsLeastEntry h s c.args.time c.narrow_by_sending.new.cube c.in_ok-entry.entry)
     c.problem.ensures.problem c.in_ok-entry.ensures))
 
+-- the queue is narrowed by what decides the process and the sending, and nothing else
 pub returns-clause-sent : goal.returns-clause-sent
 returns-clause-sent c ends =
     let g = c.args.admitted.now.graph in

@@ -10,15 +10,18 @@ use Rattle.cpg_list.proofs.CodeSends.{queue_by, queue_within}
 use Rattle.cpg_run.proofs.SameSends.{producer_active}
 use Rattle.cpg_list.proofs.sends.send_in.Goals as goal
 
+-- what a process sends is an item of the graph
 pub is_frozen-requires : goal.is_frozen-requires
 is_frozen-requires c = subst (λ (h : Graph). c.args.sending.item < item_count h) (sym c.problem-problem.ensures.problem)
     (queue_within c.args.admitted.now.graph c.args.sending.process c.args.sending.item c.requires.item)
 
+-- the item is one that the process sends; the problem is the same graph
 pub send_plain-requires-clause-item : goal.send_plain-requires-clause-item
 send_plain-requires-clause-item c =
     subst (λ (h : Graph). Contains (queue_of h c.args.sending.process) c.args.sending.item)
     (sym c.problem-problem.ensures.problem) c.requires.item
 
+-- the time of the entry is the item's time in the run, so the entry is kept at that time
 pub returns-then-is_frozen-clause-entry : goal.returns-then-is_frozen-clause-entry
 returns-then-is_frozen-clause-entry c queue ends is_queue is_end =
     let g = c.args.admitted.now.graph in
@@ -26,6 +29,7 @@ returns-then-is_frozen-clause-entry c queue ends is_queue is_end =
     subst (λ o. IsKeptAt g s o (send_after g s c.args.sending.item queue ends) c.in_ok-entry.entry)
     (sym c.in-Some.is ∙ c.time.ensures) (c.in_ok-entry.ensures.entry queue ends)
 
+-- the item is active and sent at its time, frozen or not
 pub returns-clause-entry : goal.returns-clause-entry
 returns-clause-entry c queue ends is_queue is_end =
     let g = c.args.admitted.now.graph in
@@ -42,6 +46,7 @@ returns-clause-entry c queue ends is_queue is_end =
     subst (λ o. IsKeptAt g s o (send_after g s x queue ends) c.in_ok-entry-2.entry) (sym c.in-Some.is ∙ c.time.ensures)
     (found is_queue (is_end.cube on))
 
+-- the item is active and leaves what it does, frozen or not
 pub returns-clause-sent : goal.returns-clause-sent
 returns-clause-sent c ends is_end =
     let g = c.args.admitted.now.graph in

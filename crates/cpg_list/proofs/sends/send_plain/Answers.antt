@@ -9,6 +9,7 @@ use Rattle.cpg_list.proofs.CodeSends.{queue_by, left_plain, sends_plain, end_wit
 use Rattle.cpg_run.proofs.SameSends.{producer_active}
 use Rattle.cpg_list.proofs.sends.send_plain.Goals as goal
 
+-- the entry has what stands in the queue, the producer's end and the value that decides the sending
 pub returns-clause-entry : goal.returns-clause-entry
 returns-clause-entry c queue ends is_queue is_ends =
     let g = c.args.problem.now in
@@ -22,6 +23,7 @@ returns-clause-entry c queue ends is_queue is_ends =
     (kept_of g s c.args.time (queue ++ ends ++ sent_by_value g s x) c.narrow_by_sent_value.new.cube both
     c.in_ok-entry.entry c.in_ok-entry.ensures)
 
+-- the queue is narrowed by the producer's end and the value that decides the sending
 pub returns-clause-sent : goal.returns-clause-sent
 returns-clause-sent c ends is_ends within =
     let g = c.args.problem.now in

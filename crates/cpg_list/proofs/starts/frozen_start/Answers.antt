@@ -2,6 +2,7 @@ use Rattle.cpg_run.specs.Carried.{decided}
 use Rattle.cpg_list.proofs.CodeStarts.{kept_of, from_whole}
 use Rattle.cpg_list.proofs.starts.frozen_start.Goals as goal
 
+-- the whole cube is narrowed by what decides the process, and nothing else
 pub returns : goal.returns
 returns c =
     let g = c.args.problem.now in

@@ -12,6 +12,7 @@ use Rattle.cpg_list.proofs.CodeStarts.{one_done, flat_map_push, found_more, cube
 use Rattle.cpg_run.proofs.EntriesFound.{AreEntriesAmong, none_yet, all_found}
 use Rattle.cpg_list.proofs.starts.start_entries.Goals as goal
 
+-- before the first scenario, there are no entries and the cubes are as before
 pub loop-at-init : goal.loop-at-init
 loop-at-init c =
     let g = c.args.listed.now.admitted.now.graph in
@@ -27,6 +28,7 @@ loop-at-init c =
           (sym c.known.view_is) c.requires.known);
     }
 
+-- the process has a time in the scenario exactly if it is active
 pub start_in-requires-clause-active : goal.start_in-requires-clause-active
 start_in-requires-clause-active c =
     let g = c.args.listed.now.admitted.now.graph in
@@ -36,6 +38,7 @@ start_in-requires-clause-active c =
     timed_if_active g c.args.listed.now.order.now c.args.listed.now.frozen.now c.index-scenarios-at.result
     c.index-runs-at.result run c.args.process (omega (arith, c.requires.process))
 
+-- the rows of the broadcasts that decide the process have the times of the run
 pub start_in-requires-clause-heard : goal.start_in-requires-clause-heard
 start_in-requires-clause-heard c d j =
     let g = c.args.listed.now.admitted.now.graph in
@@ -48,6 +51,7 @@ start_in-requires-clause-heard c d j =
     let r = hears_earlier g c.args.listed.now.order.now c.requires.listed.topological s c.args.process d j in
     c.requires.told s c.index-runs-at.result law run _ r.0 r.1
 
+-- the rows of the messages to the process have the times of the run
 pub start_in-requires-clause-received : goal.start_in-requires-clause-received
 start_in-requires-clause-received c e j =
     let g = c.args.listed.now.admitted.now.graph in
@@ -60,6 +64,7 @@ start_in-requires-clause-received c e j =
     let r = receives_earlier g c.args.listed.now.order.now c.requires.listed.topological c.args.process e j in
     c.requires.told s c.index-runs-at.result law run _ r.0 r.1
 
+-- the entry of the scenario is added, if there is one, and the node's cube is replaced
 pub loop-at-preserved : goal.loop-at-preserved
 loop-at-preserved c =
     let g = c.args.listed.now.admitted.now.graph in
@@ -91,6 +96,7 @@ loop-at-preserved c =
           (flat_map_push (passed g rows s) before p) (c.in_ok-entry.ensures.carried.by earlier is));
     }
 
+-- the loop has seen all scenarios, so the entries are all of the start
 pub returns-clause-entries : goal.returns-clause-entries
 returns-clause-entries c =
     let g = c.args.listed.now.admitted.now.graph in
@@ -103,6 +109,7 @@ returns-clause-entries c =
     c.loop-at.entries.items) all c.loop-at.invariant.found)
     c.requires.listed.scenarios.all
 
+-- the loop has seen all scenarios, so all cubes have what the process passes on
 pub returns-clause-known : goal.returns-clause-known
 returns-clause-known c =
     let g = c.args.listed.now.admitted.now.graph in

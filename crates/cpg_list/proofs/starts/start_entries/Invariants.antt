@@ -5,6 +5,9 @@ use Rattle.cpg_run.specs.Found.{columns_of_rows}
 use Rattle.cpg_run.proofs.EntriesFound.{AreEntriesAmong}
 use Rattle.cpg_list.proofs.starts.start_entries.Given as goal
 
+-- `found`: the entries are those of the process's start in the scenarios so far. `carried`: in these scenarios the
+-- cube has also what the process leaves to those after it on its node; in the others it has what the processes before
+-- leave.
 abbrev pub invariant-loop-at : goal.invariant-loop-at
 invariant-loop-at l = record {
   found : AreEntriesAmong l.listed.admitted.now.graph l.listed.order.now l.listed.frozen.now

@@ -11,18 +11,21 @@ use Rattle.cpg_list.proofs.CodeCubes.{narrowed_then}
 use Rattle.cpg_list.proofs.CodeStarts.{passed_idle, passed_active, process_active}
 use Rattle.cpg_list.proofs.starts.start_in.Goals as goal
 
+-- the row of each deciding condition's broadcast is made; the frames are of the same graph
 pub narrow_by_heard-requires-clause-told : goal.narrow_by_heard-requires-clause-told
 narrow_by_heard-requires-clause-told c =
     subst (λ (h : Graph). (d : ℕ) → Contains (deciding h c.args.frames.now.scenario.now.values c.args.process) d →
     RowTells h (columns_of_rows c.args.frames.now.rows.now) c.args.frames.now.scenario.now c.args.frames.now.times.now
     (broadcast_item h d)) (sym c.requires.graph) c.requires.heard
 
+-- the row of each input's message is made; the frames are of the same graph
 pub started-requires-clause-told : goal.started-requires-clause-told
 started-requires-clause-told c =
     subst (λ (h : Graph). (e : ℕ) → Contains (inputs h c.args.process) e → RowTells h
     (columns_of_rows c.args.frames.now.rows.now) c.args.frames.now.scenario.now c.args.frames.now.times.now
     (message_item h e)) (sym c.requires.graph) c.requires.received
 
+-- the process is inactive, so it passes on only what decides it and what its node heard
 pub returns-in_default-clause-carried : goal.returns-in_default-clause-carried
 returns-in_default-clause-carried c =
     let g = c.args.admitted.now.graph in
@@ -42,6 +45,7 @@ returns-in_default-clause-carried c =
     (narrowed_then g.faults (decided g s p)
     (heard g rows s p) c.args.cube.now c.narrow_by_decided.new.cube c.narrow_by_heard.new.cube first second)
 
+-- the process is active and starts at its time, frozen or not
 pub returns-clause-entry : goal.returns-clause-entry
 returns-clause-entry c earlier is =
     let g = c.args.admitted.now.graph in
@@ -62,6 +66,7 @@ returns-clause-entry c earlier is =
     subst (λ o. IsKeptAt g s o (start_after g rows s p earlier) c.in_ok-entry.entry)
     (sym c.in-Some.is ∙ c.time.ensures) (found before)
 
+-- the process is active, so it also passes on its count and, unless it is frozen, what it receives
 pub returns-clause-carried : goal.returns-clause-carried
 returns-clause-carried c =
     let g = c.args.admitted.now.graph in

@@ -6,6 +6,7 @@ use Rattle.cpg_list.specs.Narrowing.{IsKeptOf}
 use Rattle.cpg_list.proofs.CodeStarts.{kept_of, frozen_start, start_plain}
 use Rattle.cpg_list.proofs.starts.started.Goals as goal
 
+-- the cube has what was carried before, what decides the process, and what its node heard and received
 pub returns-clause-entry : goal.returns-clause-entry
 returns-clause-entry c earlier is =
     let g = c.args.frames.now.problem.now in

@@ -4,6 +4,7 @@ use Rattle.std.proofs.lemmas.List.Sorted.{IsPartitionPoint-from_clause, IsPartit
 use Rattle.cpg_list.specs.TimeOrder.{TimedColumn}
 use Rattle.cpg_list.proofs.timed.first_at.Goals as goal
 
+-- the times rise, so they are parted at the first that is no less
 pub returns : goal.returns
 returns c =
     let parted = IsPartitionedBy-ltb (λ (t : TimedColumn). t.time) c.args.by_time.now c.args.time c.requires in

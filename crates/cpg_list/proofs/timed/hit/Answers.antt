@@ -6,6 +6,7 @@ use Rattle.cpg_list.specs.TimeOrder.{TimedColumn}
 use Rattle.cpg_list.proofs.CodeTimes.{missed_end, missed_time, passed_more}
 use Rattle.cpg_list.proofs.timed.hit.Goals as goal
 
+-- the search comes to another time, so no column of the time matches
 pub returns-then-timed-time : goal.returns-then-timed-time
 returns-then-timed-time c =
     let blank : TimedColumn = record { time = 0; place = 0 } in
@@ -15,11 +16,13 @@ returns-then-timed-time c =
     c.loop-at.auto.at c.loop-at-test.true
     (get_or_default c.args.by_time.now c.loop-at.at blank _ c.loop-at-test.true) c.if-timed-time.true
 
+-- each place of the time order is that of a column
 pub bounds-columns-timed : goal.bounds-columns-timed
 bounds-columns-timed c =
     let none : Column = record { time = 0; cube = [] } in
     (c.requires.each c.loop-at.at (record { time = 0; place = 0 }) none c.loop-at-test.true).0
 
+-- the place that is noted is one of the row
 pub offset_bounds-columns-timed : goal.offset_bounds-columns-timed
 offset_bounds-columns-timed c =
     let none : Column = record { time = 0; cube = [] } in
@@ -28,11 +31,13 @@ offset_bounds-columns-timed c =
     (c.requires.each c.loop-at.at (record { time = 0; place = 0 }) none c.loop-at-test.true).0 in
     search rules
 
+-- from `first` to the end each column has the time and doesn't match, so no column of the row is a hit
 pub returns : goal.returns
 returns c = missed_end c.args.columns.now c.args.by_time.now c.requires c.args.time c.args.scenario.now
     c.first_at-first.result c.first_at-first.ensures c.loop-at.at c.loop-at.invariant
     c.loop-at-test.false
 
+-- one column more of the time doesn't match
 pub loop-at-preserved : goal.loop-at-preserved
 loop-at-preserved c =
     let blank : TimedColumn = record { time = 0; place = 0 } in

@@ -4,9 +4,11 @@ use Rattle.cpg_list.specs.TimeOrder.{TimedColumn}
 use Rattle.cpg_list.proofs.CodeTimes.{AreTimes, one_timed, time_order}
 use Rattle.cpg_list.proofs.timed.ordered_by_time.Goals as goal
 
+-- before the loop there is no column yet
 pub loop-place-init : goal.loop-place-init
 loop-place-init c = record { count = search rules; each = λ i d x h. absurd (omega (arith, h)) }
 
+-- the column at this place is added with its time and its place
 pub loop-place-preserved : goal.loop-place-preserved
 loop-place-preserved c =
     let t : TimedColumn = record { time = c.index-columns-place.result.time; place = c.loop-place.place } in
@@ -14,6 +16,7 @@ loop-place-preserved c =
     c.index-columns-place.result t c.loop-place-test.true c.loop-place.invariant
     c.index-columns-place.is (search rules) refl refl
 
+-- the times and places of all columns, sorted by time, are the columns in time order
 pub returns : goal.returns
 returns c =
     let all : c.loop-place.place ≡ length c.args.columns.now =

@@ -5,6 +5,7 @@ use Rattle.std.proofs.lemmas.Fmt.{IsAscii-decimal, parse-decimal}
 use Rattle.std.proofs.lemmas.Str.{IsUtf8-from_ascii}
 use Rattle.cpg_log.proofs.number.number.Goals as goal
 
+-- the digits of a number are valid UTF-8
 utf8 : (digits : List ℕ) (n : ℕ) → n < 2 ^ 60 → digits ≡ decimal n → IsUtf8 digits
 utf8 digits n l e = subst IsUtf8 (sym e) (IsUtf8-from_ascii (decimal n) (IsAscii-decimal n (omega arith)))
 
@@ -12,19 +13,23 @@ abbrev given : {E : Type 0} → Result ℕ E → ℕ
 given (Ok x) = x
 given (Err e) = 0
 
+-- bytes that aren't UTF-8 are the digits of no number
 pub returns-in_default-clause-is : goal.returns-in_default-clause-is
 returns-in_default-clause-is c = λ n l e. absurd (c.in_default.ensures.cases.0 (utf8 c.args.digits.now n l e))
 
+-- the text of a number below the bound would be parsed, so this is no such text
 pub returns-in_default-parse-clause-is : goal.returns-in_default-parse-clause-is
 returns-in_default-parse-clause-is c = λ n l e. absurd
     (c.in_default-parse.not-Ok n (parse-decimal 64 n c.in-Ok.text.now c.parse.result (omega arith) (omega arith)
     (c.in-Ok.ensures.cases.0 ∙ e) c.parse.ensures.value.0))
 
+-- the text is that of the number that was parsed
 pub returns-then-number-lt-TOO_LATE-clause-is : goal.returns-then-number-lt-TOO_LATE-clause-is
 returns-then-number-lt-TOO_LATE-clause-is c =
     λ n l e. ap Some (ap given (sym c.in-Ok-parse.is ∙ parse-decimal 64 n c.in-Ok.text.now c.parse.result (omega arith)
     (omega arith) (c.in-Ok.ensures.cases.0 ∙ e) c.parse.ensures.value.0))
 
+-- the digits write a number that is too late, so they write no number below 2^60
 pub returns-else-number-lt-TOO_LATE-clause-is : goal.returns-else-number-lt-TOO_LATE-clause-is
 returns-else-number-lt-TOO_LATE-clause-is c = λ n l e. absurd (omega (
   arith,

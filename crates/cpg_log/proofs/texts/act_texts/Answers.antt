@@ -5,6 +5,7 @@ use Rattle.cpg_log.specs.Log.{act_text}
 use Rattle.cpg_log.proofs.TextLaws.{names_more}
 use Rattle.cpg_log.proofs.texts.act_texts.Goals as goal
 
+-- the text of the next item is added, and its node has a name
 pub loop-item-preserved : goal.loop-item-preserved
 loop-item-preserved c = record {
   texts = map_below_push (act_text c.args.problem.now) (map string_bytes c.loop-item.texts.items)

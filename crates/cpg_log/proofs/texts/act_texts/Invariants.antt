@@ -4,6 +4,7 @@ use Rattle.cpg_log.specs.Log.{act_text}
 use Rattle.cpg_log.specs.Reading.{HaveNames}
 use Rattle.cpg_log.proofs.texts.act_texts.Given as goal
 
+-- `texts`: each item below `item` has its text. `names`: the nodes of these items have lawful names.
 abbrev pub invariant-loop-item : goal.invariant-loop-item
 invariant-loop-item l = record {
   texts : map string_bytes l.texts.items ≡ map (act_text l.problem) (numbers_below l.item);

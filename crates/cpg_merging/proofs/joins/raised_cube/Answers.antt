@@ -3,6 +3,7 @@ use Rattle.cpg_cube.specs.Cube.{IsRising}
 use Rattle.cpg_merging.proofs.MergingCubes.{raised_before}
 use Rattle.cpg_merging.proofs.joins.raised_cube.Goals as goal
 
+-- the literals before this one have lower variables, so it can be pushed behind them
 pub push-requires : goal.push-requires
 push-requires c = record {
   last = raised_before c.args.variable c.args.high c.literals-literal-items.result.now c.loop-literal.literal-index _

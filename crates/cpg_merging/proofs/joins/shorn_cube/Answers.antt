@@ -3,6 +3,7 @@ use Rattle.cpg_cube.specs.Cube.{IsRising}
 use Rattle.cpg_merging.proofs.MergingCubes.{shorn_before}
 use Rattle.cpg_merging.proofs.joins.shorn_cube.Goals as goal
 
+-- the literals that are left before this one have lower variables, so it can be pushed behind them
 pub push-requires : goal.push-requires
 push-requires c = record {
   last =

@@ -4,6 +4,7 @@ use Rattle.cpg_merging.specs.Kinds.{AreTold, HoldCandidates, is_candidate}
 use Rattle.cpg_merging.proofs.MergingKinds.{both_chosen}
 use Rattle.cpg_merging.proofs.kinds.candidates.Goals as goal
 
+-- two columns of one kind that ask differently share a place where a difference is noted, so both are chosen
 pub returns : goal.returns
 returns c =
     let columns = c.args.columns.now in

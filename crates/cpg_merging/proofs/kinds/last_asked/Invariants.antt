@@ -1,5 +1,6 @@
 use Rattle.std.proofs.Common.{◌≡◌, length}
 use Rattle.cpg_merging.proofs.kinds.last_asked.Given as goal
 
+-- the list keeps one amount for each place
 abbrev pub invariant-loop-kind : goal.invariant-loop-kind
 invariant-loop-kind l = length l.told.items ≡ l.count

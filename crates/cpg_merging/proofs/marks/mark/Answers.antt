@@ -4,6 +4,7 @@ use Rattle.cpg_merging.specs.Totals.{HasNoPartner, IsMarked}
 use Rattle.cpg_merging.proofs.MergingBlocks.{all_marked, marked_on}
 use Rattle.cpg_merging.proofs.marks.mark.Goals as goal
 
+-- this block of literals is marked, and the others are still to be marked
 pub loop-block-preserved : goal.loop-block-preserved
 loop-block-preserved c =
     let old = c.loop-block.invariant in
@@ -18,6 +19,7 @@ loop-block-preserved c =
           (λ m h off. h (λ on. off (c.mark_block.ensures.kept m.variable on))) c.mark_block.ensures.marked old.marked;
     }
 
+-- each literal is in a block that was marked or among those at the end, which are marked too
 pub returns-clause-marked : goal.returns-clause-marked
 returns-clause-marked c = all_marked (λ (m : Literal). ¬ IsMarked c.mark_each.new.marks m.variable →
     HasNoPartner c.args.sums.sorted.now c.args.total m) c.args.literals.now c.loop-block.left.now

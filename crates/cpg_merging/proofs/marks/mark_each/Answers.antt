@@ -4,6 +4,7 @@ use Rattle.cpg_merging.specs.Totals.{HasNoPartner, IsMarked}
 use Rattle.cpg_merging.proofs.MergingTotals.{all_more, all_of}
 use Rattle.cpg_merging.proofs.marks.mark_each.Goals as goal
 
+-- the variable of this literal is marked if the column may follow another there, and the marks from before stay
 pub loop-literal-preserved : goal.loop-literal-preserved
 loop-literal-preserved c =
     let old = c.loop-literal.invariant in
@@ -15,6 +16,7 @@ loop-literal-preserved c =
           (λ m h off. old.marked m h (λ on. off (c.mark_at.ensures.kept m.variable on))) c.mark_at.ensures.marked;
     }
 
+-- all literals are gone over, so what holds of those so far holds of all
 pub returns-clause-marked : goal.returns-clause-marked
 returns-clause-marked c = all_of (λ (m : Literal). ¬ IsMarked c.loop-literal.marks m.variable →
     HasNoPartner c.args.sums.sorted.now c.args.total m) c.args.literals.now c.loop-literal.literal-index

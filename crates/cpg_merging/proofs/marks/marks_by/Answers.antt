@@ -5,6 +5,7 @@ use Rattle.cpg_merging.specs.Totals.{HasNoPartner, IsMarked}
 use Rattle.cpg_merging.proofs.MergingTotals.{marked_all, marked_next}
 use Rattle.cpg_merging.proofs.marks.marks_by.Goals as goal
 
+-- the marks for the columns before this place and for the one there are those for one more column
 pub loop-place-preserved : goal.loop-place-preserved
 loop-place-preserved c = marked_next (λ (b : Bor Column). b.now) c.args.sums.sorted.now c.args.columns.now
     c.args.totals.now c.loop-place.marks c.mark.new.marks c.loop-place.place
@@ -15,6 +16,7 @@ loop-place-preserved c = marked_next (λ (b : Bor Column). b.now) c.args.sums.so
     c.literals.ensures.literals c.mark.ensures.marked)
     c.loop-place.invariant
 
+-- all columns are gone over, so the marks are those by all
 pub returns : goal.returns
 returns c = marked_all (λ (b : Bor Column). b.now) c.args.sums.sorted.now c.args.columns.now c.loop-place.marks
     c.loop-place.place (omega arith) c.loop-place.invariant

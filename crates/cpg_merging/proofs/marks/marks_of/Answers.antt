@@ -7,6 +7,7 @@ use Rattle.cpg_merging.proofs.MergingKinds.{marked_by, settled_none}
 use Rattle.cpg_merging.proofs.MergingTotals.{from_off}
 use Rattle.cpg_merging.proofs.marks.marks_of.Goals as goal
 
+-- no two columns of one time ask differently, so none of them touch
 pub returns-then-not-many : goal.returns-then-not-many
 returns-then-not-many c v known off =
     let g = c.args.problem.now in
@@ -15,6 +16,7 @@ returns-then-not-many c v known off =
     (good_of g few c.args.columns.now c.requires)
     (from_off c.in_ok-many.many c.if-not-many.true c.in_ok-many.ensures)
 
+-- no column is a candidate, so no two touch
 pub returns-then-is_empty : goal.returns-then-is_empty
 returns-then-is_empty c v known off =
     let g = c.args.problem.now in
@@ -24,6 +26,7 @@ returns-then-is_empty c v known off =
     (good_of g few c.args.columns.now c.requires)
     (λ (b : Bor Column). b.now) c.in_ok-candidates.candidates.items c.in_ok-candidates.ensures none
 
+-- columns that touch are among the candidates, and the marks of these say where
 pub returns : goal.returns
 returns c =
     let g = c.args.problem.now in

@@ -6,6 +6,7 @@ use Rattle.cpg_merging.proofs.MergingSteps.{passed_settled, permuted_same}
 use Rattle.cpg_merging.proofs.MergingTotals.{marked_permuted}
 use Rattle.cpg_merging.proofs.merging.joined_at.Goals as goal
 
+-- the variable is not marked, so no two columns of one time touch at it
 pub returns-then-not-marked-variable-clause-passed : goal.returns-then-not-marked-variable-clause-passed
 returns-then-not-marked-variable-clause-passed c =
     let g = c.args.problem.now in
@@ -14,6 +15,7 @@ returns-then-not-marked-variable-clause-passed c =
     passed_settled g v columns c.requires.shorn
     (c.requires.marked v c.requires.known (λ on. true≢false (sym on ∙ c.if-not-marked-variable.true)))
 
+-- as many columns as before are left, so they are the same in some order, and the marks still hold
 pub returns-then-len-before-clause-marked : goal.returns-then-len-before-clause-marked
 returns-then-len-before-clause-marked c =
     let old = c.args.marked.listing.columns in

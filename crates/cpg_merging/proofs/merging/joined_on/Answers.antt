@@ -10,6 +10,7 @@ use Rattle.cpg_merging.proofs.MergingOrder.{column_total}
 use Rattle.cpg_merging.proofs.MergingSteps.{passed_on}
 use Rattle.cpg_merging.proofs.merging.joined_on.Goals as goal
 
+-- the columns are sorted and walked over, which is a step at the variable
 pub returns : goal.returns
 returns c =
     let g = c.args.problem.now in

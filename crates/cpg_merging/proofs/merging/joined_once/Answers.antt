@@ -8,6 +8,7 @@ use Rattle.cpg_merging.proofs.MergingTotals.{none_on}
 use Rattle.cpg_merging.proofs.MergingSteps.{passed_through, sorted_through}
 use Rattle.cpg_merging.proofs.merging.joined_once.Goals as goal
 
+-- going over the counts and then over the values is going over all variables
 pub returns-clause-passed : goal.returns-clause-passed
 returns-clause-passed c =
     let g = c.args.problem.now in
@@ -25,6 +26,7 @@ returns-clause-passed c =
     known) columns middle r.listing.columns.items c.in_ok-marked.ensures.passed p)
     (search rules)
 
+-- what is known to be sorted after both steps is what was sorted before
 pub returns-clause-sorted : goal.returns-clause-sorted
 returns-clause-sorted c =
     IfOk-weaker _ (λ r. IsSortedAs c.in_ok-marked.marked.listing r.listing)
@@ -33,6 +35,7 @@ returns-clause-sorted c =
     sorted_through c.args.marked.listing c.in_ok-marked.marked.listing r.listing c.in_ok-marked.ensures.sorted h)
     (search rules)
 
+-- no variable is marked, so no two columns of one time touch, and they stay as they are
 pub returns-then-not-contains-clause-passed : goal.returns-then-not-contains-clause-passed
 returns-then-not-contains-clause-passed c =
     let g = c.args.problem.now in

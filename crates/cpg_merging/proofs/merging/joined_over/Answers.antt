@@ -4,6 +4,7 @@ use Rattle.cpg_merging.specs.Merging.{IsBetween}
 use Rattle.cpg_merging.proofs.MergingSteps.{passed_none, passed_through, passed_wider, sorted_through}
 use Rattle.cpg_merging.proofs.merging.joined_over.Goals as goal
 
+-- the columns so far have no whole literals, and their marks are right
 pub joined_at-requires : goal.joined_at-requires
 joined_at-requires c = record {
   shorn = c.loop-variable.invariant.passed.good;
@@ -11,6 +12,7 @@ joined_at-requires c = record {
   known = c.requires.known c.loop-variable.variable (omega arith) (omega arith);
 }
 
+-- before the first variable nothing has been gone over
 pub loop-variable-init : goal.loop-variable-init
 loop-variable-init c = record {
   passed = passed_none c.args.problem.now (IsBetween c.args.first c.args.first)
@@ -19,6 +21,7 @@ loop-variable-init c = record {
   sorted = λ t. (t, refl);
 }
 
+-- with this variable one more has been gone over
 pub loop-variable-preserved : goal.loop-variable-preserved
 loop-variable-preserved c =
     let v = c.loop-variable.variable in
@@ -34,6 +37,7 @@ loop-variable-preserved c =
           c.loop-variable.invariant.sorted c.in_ok-marked.ensures.sorted;
     }
 
+-- all variables from the first up to the end have been gone over
 pub returns : goal.returns
 returns c = record {
   passed = passed_wider c.args.problem.now (IsBetween c.args.first c.loop-variable.variable)

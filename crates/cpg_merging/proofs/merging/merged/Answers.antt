@@ -9,6 +9,7 @@ use Rattle.cpg_merging.proofs.MergingSteps.{shorn_columns}
 use Rattle.cpg_merging.proofs.MergingEnds.{merge_of, if_ok_both}
 use Rattle.cpg_merging.proofs.merging.merged.Goals as goal
 
+-- without the whole literals the entries can be merged
 pub settled-requires : goal.settled-requires
 settled-requires c =
     let g = c.args.problem.now in
@@ -16,6 +17,8 @@ settled-requires c =
     ∙ ap (λ k. all_shorn k c.args.entries.items) c.faults.ensures.faults))
     (shorn_columns g c.faults.ensures.within.few_processes c.args.entries.items c.requires.entries)
 
+-- the entries without their whole literals are joined until they are settled, and then sorted by their least
+-- scenarios
 pub returns : goal.returns
 returns c =
     let g = c.args.problem.now in
@@ -32,6 +35,7 @@ returns c =
     c.requires.entries settled p up)
     c.sorted.ensures.permutation c.sorted.ensures.by_lows
 
+-- the listing isn't known to be sorted, as the one of before wasn't
 pub sorted-requires-clause-sorted : goal.sorted-requires-clause-sorted
 sorted-requires-clause-sorted c = OnTrue_from c.in_ok-listing.listing.is_sorted _
     (λ t. absurd

@@ -9,14 +9,17 @@ use Rattle.cpg_merging.proofs.MergingEnds.{merge_of, if_ok_both}
 use Rattle.cpg_merging.proofs.MergingSteps.{sorted_still}
 use Rattle.cpg_merging.proofs.merging.merged_tidy.Goals as goal
 
+-- the entries can be merged, and none has a literal of the whole range
 pub settled-requires : goal.settled-requires
 settled-requires c = record { good = c.requires.entries; not_whole = c.requires.tidy }
 
+-- if the listing is known to be sorted, it has the entries of before, which were sorted
 pub sorted-requires-clause-sorted : goal.sorted-requires-clause-sorted
 sorted-requires-clause-sorted c = OnTrue_from c.in_ok-listing.listing.is_sorted _
     (sorted_still c.args.problem.now c.args.order.now c.args.listing c.in_ok-listing.listing
     (λ t. OnTrue_at t c.requires.sorted) c.in_ok-listing.ensures.sorted)
 
+-- the entries have no whole literals, so they are joined until they are settled, and then sorted if need be
 pub returns : goal.returns
 returns c =
     let g = c.args.problem.now in

@@ -6,6 +6,7 @@ use Rattle.cpg_cube.specs.declared.listing.Listing.{Listing}
 use Rattle.cpg_merging.proofs.MergingSteps.{settled_same, fewer_else, sorted_through}
 use Rattle.cpg_merging.proofs.merging.settled.Goals as goal
 
+-- before the first round the columns are those given, with their marks
 pub loop-marked-init : goal.loop-marked-init
 loop-marked-init c = record {
   good = search rules;
@@ -17,6 +18,7 @@ loop-marked-init c = record {
   );
 }
 
+-- as many columns as before are left, so they are settled
 pub returns-then-len-before-clause-settled : goal.returns-then-len-before-clause-settled
 returns-then-len-before-clause-settled c =
     let g = c.args.problem.now in
@@ -31,6 +33,7 @@ returns-then-len-before-clause-settled c =
       settled = settled_same g (IsVariable g) old.items new.items c.in_ok-marked-2.ensures.passed (omega arith);
     }
 
+-- fewer columns than before are left, so the rounds come to an end
 pub loop-marked-smaller : goal.loop-marked-smaller
 loop-marked-smaller c =
     let g = c.args.problem.now in
@@ -42,6 +45,7 @@ loop-marked-smaller c =
     (IsVariable g) old.items new.items c.in_ok-marked-2.ensures.passed (λ e. c.if-len-before.false (omega arith)) in
     omega arith
 
+-- the columns of this round are a join of those given, and their marks still hold
 pub loop-marked-preserved : goal.loop-marked-preserved
 loop-marked-preserved c = record {
   good = c.in_ok-marked-2.ensures.passed.good;
@@ -53,6 +57,7 @@ loop-marked-preserved c = record {
       c.loop-marked.invariant.sorted c.in_ok-marked-2.ensures.sorted;
 }
 
+-- columns known to be sorted now were so before this turn, and then before the loop
 pub returns-then-len-before-clause-sorted : goal.returns-then-len-before-clause-sorted
 returns-then-len-before-clause-sorted c = sorted_through c.args.listing c.loop-marked.marked.listing
     c.in_ok-marked-2.marked.listing c.loop-marked.invariant.sorted c.in_ok-marked-2.ensures.sorted

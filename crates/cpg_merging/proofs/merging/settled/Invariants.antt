@@ -3,6 +3,8 @@ use Rattle.cpg_merging.specs.Merging.{IsShorn, IsJoinOf, IsSortedAs}
 use Rattle.cpg_merging.specs.Totals.{AreMarked}
 use Rattle.cpg_merging.proofs.merging.settled.Given as goal
 
+-- `good`, `joins`: the columns are shorn and a join of those of before. `sorted`: columns known to be sorted are
+-- those of before. `marked`: no two columns of one time touch at a variable that isn't marked
 abbrev pub invariant-loop-marked : goal.invariant-loop-marked
 invariant-loop-marked l = record {
   good : IsShorn l.problem l.marked.listing.columns.items;
@@ -11,5 +13,6 @@ invariant-loop-marked l = record {
   marked : AreMarked l.problem l.marked.marks l.marked.listing.columns.items;
 }
 
+-- each turn but the last makes the columns fewer
 abbrev pub decreases-loop-marked : goal.decreases-loop-marked
 decreases-loop-marked l = vec_len l.marked.listing.columns

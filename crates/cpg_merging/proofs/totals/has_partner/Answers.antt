@@ -4,6 +4,7 @@ use Rattle.cpg_merging.specs.Totals.{hash_of, ended}
 use Rattle.cpg_merging.proofs.MergingTotals.{from_off, one_rest}
 use Rattle.cpg_merging.proofs.totals.has_partner.Goals as goal
 
+-- this low gives no partner, and the lower ones gave none
 pub loop-low-preserved : goal.loop-low-preserved
 loop-low-preserved c low less there = elim (cases_eq low c.loop-low.low) [
   | inr n ↦ c.loop-low.invariant low (omega (arith, less, n)) there
@@ -12,6 +13,7 @@ loop-low-preserved c low less there = elim (cases_eq low c.loop-low.low) [
       (ap (λ (w : ℕ). hash_of (ended c.args.literal w)) e ∙ sym c.hash_of-in-loop-low.ensures) there)
 ]
 
+-- no low under the literal's own gives a partner
 pub returns : goal.returns
 returns c low rest less is there = c.loop-low.invariant low (omega arith)
     (subst (λ (m : ℕ). Contains c.args.sums.sorted.now m)

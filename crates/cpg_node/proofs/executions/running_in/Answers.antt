@@ -2,6 +2,7 @@ use Rattle.std.proofs.Common.{◌∙◌}
 use Rattle.cpg_node.proofs.Places.{running_in-next}
 use Rattle.cpg_node.proofs.executions.running_in.Goals as goal
 
+-- this place is another process's, so the search goes on
 pub loop-place-preserved : goal.loop-place-preserved
 loop-place-preserved c = c.loop-place.invariant
     ∙ running_in-next c.loop-place.place c.args.own.now c.args.running.now c.args.process c.index-own-place.result

@@ -3,6 +3,7 @@ use Rattle.cpg_node.specs.Dispatcher.{running_after}
 use Rattle.cpg_node.proofs.Places.{zip_front}
 use Rattle.cpg_node.proofs.executions.turn_executions.Given as goal
 
+-- after each place, the places so far stand as after the turn's reports and acts, and those left stand as before
 abbrev pub invariant-loop-place : goal.invariant-loop-place
 invariant-loop-place l =
     l.running ≡ zip_front (running_after (l.ended ++ l.due) l.acts l.time) l.place l.own l.fn.running

@@ -3,6 +3,7 @@ use Rattle.cpg_node.specs.Plan.{takes}
 use Rattle.cpg_node.proofs.Planning.{acts_next}
 use Rattle.cpg_node.proofs.plan.gather_acts.Goals as goal
 
+-- one more entry gives its act, if its literals have been heard
 pub loop-planned-preserved : goal.loop-planned-preserved
 loop-planned-preserved c = record {
   acts = acts_next (takes (c.args.table.now.sends ++ c.args.table.now.starts) c.args.heard.now) c.args.plan.now

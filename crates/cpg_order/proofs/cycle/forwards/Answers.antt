@@ -13,6 +13,7 @@ next_place m n k at h l is = elim (down_next m n k h l) [
   | inr (a, b) ↦ (λ z. absurd (omega arith), λ z. omega arith)
 ]
 
+-- the next place is one further down, or the last one if this is the first
 pub loop-preserved : goal.loop-preserved
 loop-preserved c =
     let n = next_place c.least_place-place.result (length c.args.back.now) c.loop.counter c.loop.place
@@ -34,6 +35,7 @@ loop-preserved c =
       ];
     }
 
+-- after as many steps as there are processes the walk is a cycle in the direction of the edges
 pub returns : goal.returns
 returns c g is =
     let all : c.loop.counter ≡ length c.args.back.now = omega arith in

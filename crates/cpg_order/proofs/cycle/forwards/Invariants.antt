@@ -3,6 +3,7 @@ use Rattle.cpg_base.specs.Numbers.{numbers_below}
 use Rattle.cpg_order.proofs.Cycles.{place_down}
 use Rattle.cpg_order.proofs.cycle.forwards.Given as goal
 
+-- the walk has a process for each turn, taken from the least process on down the list and around its start
 abbrev pub invariant-loop : goal.invariant-loop
 invariant-loop l = record {
   walk : l.walk.items

@@ -7,6 +7,7 @@ use Rattle.cpg_order.specs.Cycle.{has_edge}
 use Rattle.cpg_order.proofs.Cycles.{has_edge_of_input}
 use Rattle.cpg_order.proofs.cycle.waiting_source.Goals as goal
 
+-- an input of the process is an edge of the graph
 pub source-source-requires : goal.source-source-requires
 source-source-requires c =
     let is = c.inputs-edge-items.ensures.of_graph c.args.problem.now c.requires.links in
@@ -14,6 +15,7 @@ source-source-requires c =
     (subst (λ xs. Contains xs (get_or c.inputs-edge-items.result.now c.loop-edge.edge-index 0)) is
     (Contains-get_or c.inputs-edge-items.result.now c.loop-edge.edge-index 0 c.loop-edge-test.true))).0
 
+-- an input of the process is an edge from its source
 pub returns-then-waiting-source-gt0-clause-edge : goal.returns-then-waiting-source-gt0-clause-edge
 returns-then-waiting-source-gt0-clause-edge c =
     let is = c.inputs-edge-items.ensures.of_graph c.args.problem.now c.requires.links in
@@ -23,6 +25,7 @@ returns-then-waiting-source-gt0-clause-edge c =
     (subst (λ xs. Contains xs (get_or c.inputs-edge-items.result.now c.loop-edge.edge-index 0)) is
     (Contains-get_or c.inputs-edge-items.result.now c.loop-edge.edge-index 0 c.loop-edge-test.true)))
 
+-- a stuck process has an input from a process that waits, so the loop has found one
 pub unreachable-requires : goal.unreachable-requires
 unreachable-requires c =
     let r = c.requires.stuck.each c.args.process c.requires.within c.requires.waits in

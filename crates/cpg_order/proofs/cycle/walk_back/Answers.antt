@@ -11,6 +11,7 @@ use Rattle.cpg_order.proofs.Readiness.{length-lt_below}
 use Rattle.cpg_order.proofs.Cycles.{walk_more, walk_meets}
 use Rattle.cpg_order.proofs.cycle.walk_back.Goals as goal
 
+-- the process is in the walk already, so the walk from there on is a cycle
 pub returns-in-Some-clause-cycle : goal.returns-in-Some-clause-cycle
 returns-in-Some-clause-cycle c =
     let found : position (λ p. p == c.loop-from.process) c.loop-from.walk.items ≡ Some c.in-Some.from =
@@ -20,12 +21,14 @@ returns-in-Some-clause-cycle c =
     walk_meets c.args.problem.now c.loop-from.walk.items c.loop-from.process c.loop-from.invariant.walk c.in-Some.from
     r.0 (eqb-true _ _ r.1)
 
+-- if a search for p in the walk finds no place, p isn't in the walk
 not_found : (walk : List ℕ) (p : ℕ) (found : Option ℕ) → found ≡ position (λ q. q == p) walk →
     ((from : ℕ) → found ≡ Some from → ⊥) →
     is_in walk p ≡ false
 not_found walk p found is none =
     false_from_ne_true (is_in walk p) (λ t. none (place walk p) (is ∙ position-place walk p (from_is_in walk p t)))
 
+-- the process is not in the walk yet, so the walk still has room for it
 pub loop-from-smaller : goal.loop-from-smaller
 loop-from-smaller c =
     let fresh = not_found c.loop-from.walk.items c.loop-from.process c.place_in.result
@@ -36,6 +39,7 @@ loop-from-smaller c =
     c.loop-from.invariant.within fresh in
     omega (arith, ap length c.in_ok-push.ensures.items, length-append c.loop-from.walk.items (c.loop-from.process ∷ []))
 
+-- the walk goes on with a process that has an edge to its last one
 pub loop-from-preserved : goal.loop-from-preserved
 loop-from-preserved c =
     let fresh = not_found c.loop-from.walk.items c.loop-from.process c.place_in.result

@@ -6,6 +6,7 @@ use Rattle.cpg_order.proofs.lists.has_each.Goals as goal
 pub loop-number-init : goal.loop-number-init
 loop-number-init c = seen_none c.args.list.now c.in_ok-seen.seen.items (search rules)
 
+-- a number that is too great shows that the list doesn't have each number once
 pub returns-then-place-list : goal.returns-then-place-list
 returns-then-place-list c = (
   λ t. absurd (true≢false (sym t)),
@@ -13,6 +14,7 @@ returns-then-place-list c = (
       c.loop-number-test.true c.if-place-list.true all),
 )
 
+-- a number that is marked already occurs twice, so the list doesn't have each number once
 pub returns-then-index : goal.returns-then-index
 returns-then-index c =
     let small : get_or c.args.list.now c.loop-number.number-index 0 < length c.args.list.now = omega arith in
@@ -24,6 +26,7 @@ returns-then-index c =
           c.loop-number.invariant c.loop-number-test.true small old all),
     )
 
+-- a number that is not marked yet is one more that was seen
 pub loop-number-preserved : goal.loop-number-preserved
 loop-number-preserved c =
     let small : get_or c.args.list.now c.loop-number.number-index 0 < length c.args.list.now = omega arith in
@@ -33,6 +36,7 @@ loop-number-preserved c =
     seen_more c.args.list.now c.loop-number.seen.items c.loop-number.number-index c.loop-number.invariant
     c.loop-number-test.true small fresh
 
+-- all numbers of the list were seen, so it has each number once
 pub returns : goal.returns
 returns c =
     let e : c.loop-number.number-index ≡ length c.args.list.now = omega arith in (

@@ -1,5 +1,6 @@
 use Rattle.cpg_order.proofs.ListChecks.{AreSeen}
 use Rattle.cpg_order.proofs.lists.has_each.Given as goal
 
+-- the numbers so far differ and are below the length of the list, and `seen` marks them
 abbrev pub invariant-loop-number : goal.invariant-loop-number
 invariant-loop-number l = AreSeen l.list l.seen.items l.number-index

@@ -6,6 +6,7 @@ use Rattle.cpg_base.specs.Order.{comes_before}
 use Rattle.cpg_order.proofs.ListChecks.{comes_before_at, not_before_at}
 use Rattle.cpg_order.proofs.lists.is_forward.Goals as goal
 
+-- this edge doesn't lead to a later place
 pub returns-then-place : goal.returns-then-place
 returns-then-place c =
     let l : c.loop-edge.edge-index < edge_count c.args.problem.now =
@@ -19,6 +20,7 @@ returns-then-place c =
           (all c.loop-edge.edge-index (Contains-numbers (edge_count c.args.problem.now) c.loop-edge.edge-index l))),
     )
 
+-- this edge leads to a later place, and so do those before it
 pub loop-edge-preserved : goal.loop-edge-preserved
 loop-edge-preserved c e l =
     let m : c.loop-edge.edge-index < edge_count c.args.problem.now =
@@ -38,6 +40,7 @@ loop-edge-preserved c e l =
       | inr n ↦ c.loop-edge.invariant e (omega arith)
     ]
 
+-- all edges have been visited, and each leads to a later place
 pub returns : goal.returns
 returns c = (
   λ t e k. c.loop-edge.invariant e

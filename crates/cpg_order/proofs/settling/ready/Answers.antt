@@ -6,6 +6,7 @@ use Rattle.cpg_order.proofs.Readiness.{ready_first}
 use Rattle.cpg_order.proofs.settling.ready.Goals as goal
 use Rattle.cpg_order.proofs.settling.ready.Goals.{then-left-eq0+in_ok-push, else-left-eq0}
 
+-- a process that waits for no input is listed, and one that waits is passed over
 pub loop-process-preserved : goal.loop-process-preserved
 loop-process-preserved c = elim c.if-left-eq0.branch [
   | then-left-eq0+in_ok-push w ↦ filter_below_takes (λ p. get_or c.args.waiting.now p 0 == 0) c.loop-process.ready.items
@@ -17,6 +18,7 @@ loop-process-preserved c = elim c.if-left-eq0.branch [
       (ne_eqb (get_or c.args.waiting.now c.loop-process.process 0) 0 w.if-left-eq0.false)
 ]
 
+-- all processes have been visited, so exactly those that wait for no input are listed
 pub returns : goal.returns
 returns c =
     let at : c.loop-process.process ≡ length c.args.waiting.now = omega arith in

@@ -6,6 +6,7 @@ use Rattle.cpg_base.specs.Graph.{target}
 use Rattle.cpg_order.proofs.Readiness.{passing, passing_next, left_next}
 use Rattle.cpg_order.proofs.settling.release_all.Goals as goal
 
+-- each of these edges is one of the graph
 pub target-requires : goal.target-requires
 target-requires c = c.requires.edges (get_or c.args.edges.now c.loop-edge.edge-index 0)
     (Contains-get_or c.args.edges.now c.loop-edge.edge-index 0 c.loop-edge-test.true)
@@ -18,6 +19,7 @@ next_waits edges waiting f i t old l at enough left =
     let n = passing_next (λ e. f e == t) edges i l (eq-eqb (f (get_or edges i 0)) t (sym at)) in
     omega arith
 
+-- the target of an edge that isn't counted yet still waits for it
 pub release-requires-clause-waits : goal.release-requires-clause-waits
 release-requires-clause-waits c = next_waits c.args.edges.now c.loop-edge.waiting.items
     (target c.args.problem.now) c.loop-edge.edge-index c.target.result
@@ -25,6 +27,7 @@ release-requires-clause-waits c = next_waits c.args.edges.now c.loop-edge.waitin
     c.loop-edge-test.true c.target.ensures.target (c.requires.wait c.target.result)
     (c.loop-edge.invariant.left c.target.result)
 
+-- after one more edge its target waits for one input less
 pub loop-edge-preserved : goal.loop-edge-preserved
 loop-edge-preserved c =
     let some = next_waits c.args.edges.now c.loop-edge.waiting.items (target c.args.problem.now) c.loop-edge.edge-index
@@ -43,6 +46,7 @@ loop-edge-preserved c =
           (old.0 ++ more.0, more.1 ∙ ap (λ xs. xs ++ more.0) old.1 ∙ append_assoc c.args.ready.now.items old.0 more.0);
     }
 
+-- all edges are counted, so each process waits for fewer inputs by its edges among them
 pub returns-clause-waiting : goal.returns-clause-waiting
 returns-clause-waiting c p =
     ap (λ xs. get_or c.loop-edge.waiting.items p 0 + passing (λ e. target c.args.problem.now e == p) xs)

@@ -3,6 +3,8 @@ use Rattle.cpg_base.specs.Graph.{target}
 use Rattle.cpg_order.specs.Settling.{AreReady}
 use Rattle.cpg_order.proofs.settling.release_all.Given as goal
 
+-- each process waits for one input less for each edge so far that leads to it; those that wait for none are listed,
+-- and the list only gets longer
 abbrev pub invariant-loop-edge : goal.invariant-loop-edge
 invariant-loop-edge l = record {
   ready : AreReady l.waiting.items l.ready.items;

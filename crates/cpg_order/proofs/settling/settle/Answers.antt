@@ -8,6 +8,7 @@ use Rattle.cpg_order.specs.Settling.{AreReady}
 use Rattle.cpg_order.proofs.Readiness.{passing, settled_first, enough, settled_more, ready-le, ready_within}
 use Rattle.cpg_order.proofs.settling.settle.Goals as goal
 
+-- there are no more counts than processes, at most 128
 pub ready-requires : goal.ready-requires
 ready-requires c =
     let long = ap length c.in_ok-waiting.ensures.counts
@@ -15,6 +16,7 @@ ready-requires c =
     let same = ap length c.as_slice.ensures.value in
     omega (arith, c.in_ok-waiting.ensures.within.few_processes)
 
+-- at the start no process is settled, and each waits for all its inputs
 pub loop-settled-init : goal.loop-settled-init
 loop-settled-init c =
     let count : ℕ → ℕ = λ p. length (inputs c.args.problem.now p) in
@@ -34,11 +36,13 @@ outputs-requires c =
     c.loop-settled.settled c.loop-settled.settled c.loop-settled.invariant l in
     subst (λ k. c.index-process.result.now < k.count) (sym c.requires) (omega arith)
 
+-- an output of a process is an edge of the graph
 pub release_all-requires-clause-edges : goal.release_all-requires-clause-edges
 release_all-requires-clause-edges c e k =
     (outputs_parts c.args.problem.now c.index-process.result.now e
     (subst (λ xs. Contains xs e) (c.outputs.ensures.of_graph c.args.problem.now c.requires) k)).0
 
+-- each process waits for at least the inputs that lead to it from the settled process
 pub release_all-requires-clause-wait : goal.release_all-requires-clause-wait
 release_all-requires-clause-wait c p =
     let l : c.loop-settled.settled < length c.loop-settled.ready.items = omega arith in
@@ -51,12 +55,14 @@ release_all-requires-clause-wait c p =
     c.loop-settled.invariant l
     (λ e k. (c.in_ok-waiting.ensures.within.edges e _ k).to) p))
 
+-- one more process is settled, and there are no more of them than processes
 pub loop-settled-smaller : goal.loop-settled-smaller
 loop-settled-smaller c =
     let few = ready-le c.args.problem.now c.loop-settled.waiting.items c.loop-settled.ready.items c.loop-settled.settled
     c.loop-settled.invariant in
     omega arith
 
+-- one more process is settled
 pub loop-settled-preserved : goal.loop-settled-preserved
 loop-settled-preserved c =
     let l : c.loop-settled.settled < length c.loop-settled.ready.items = omega arith in

@@ -3,6 +3,7 @@ use Rattle.cpg_base.specs.Numbers.{greatest}
 use Rattle.cpg_base.specs.Graph.{is_message, target}
 use Rattle.cpg_order.proofs.tails.longest.Given as goal
 
+-- `longest` is the longest way over one of the outputs so far; a message adds a turn to the tail of its target
 abbrev pub invariant-loop-edge : goal.invariant-loop-edge
 invariant-loop-edge l = l.longest
     ≡ greatest (map (λ e. (if is_message l.problem e then l.turn else 0) + get_or l.tails (target l.problem e) 0)

@@ -4,6 +4,7 @@ use Rattle.cpg_base.proofs.Lists.{get_or-map-below}
 use Rattle.cpg_order.specs.Urgency.{tail}
 use Rattle.cpg_order.proofs.tails.tail.Goals as goal
 
+-- the list has the tail of each process at its place
 pub returns : goal.returns
 returns c = c.index.ensures ∙ ap (λ xs. get_or xs c.args.process c.index.result.now) c.in_ok-tails.ensures
     ∙ get_or-map-below (tail c.args.problem.now)

@@ -9,6 +9,7 @@ use Rattle.cpg_base.proofs.Places.{length_order}
 use Rattle.cpg_order.proofs.LongestWays.{AreFound, longest_from-le, way_is, none_found, found_more, all_found}
 use Rattle.cpg_order.proofs.tails.tails.Goals as goal
 
+-- at the start no tail is found
 pub loop-done-init : goal.loop-done-init
 loop-done-init c =
     let count = ap length c.processes-count.ensures.processes in
@@ -18,6 +19,7 @@ loop-done-init c =
     (ap length zeros ∙ length-replicate (length c.processes-count.result.now) 0 ∙ count)
     (λ p l. ap (λ xs. get_or xs p 0) zeros ∙ get_or-replicate (length c.processes-count.result.now) p 0 0 (omega arith))
 
+-- the order is as long as there are processes
 pub at-process-requires : goal.at-process-requires
 at-process-requires c = omega (
   arith,
@@ -25,11 +27,13 @@ at-process-requires c = omega (
   length_order (process_count c.args.problem.now) c.args.order.now c.requires.order.all,
 )
 
+-- a process of the order is one of the graph, so the links have its outputs
 pub outputs-requires : goal.outputs-requires
 outputs-requires c =
     let long = length_order (process_count c.args.problem.now) c.args.order.now c.requires.order.all in
     subst (λ k. c.at-process.result < k.count) (sym c.requires.links) (omega arith)
 
+-- an output of a process is an edge of the graph
 pub longest-way-requires-clause-outputs : goal.longest-way-requires-clause-outputs
 longest-way-requires-clause-outputs c e k =
     (outputs_parts c.args.problem.now c.at-process.result e
@@ -39,6 +43,7 @@ pub longest-way-requires-clause-turn : goal.longest-way-requires-clause-turn
 longest-way-requires-clause-turn c =
     omega (arith, c.round-turn.ensures, round-le c.args.problem.now c.processes-count.ensures.within)
 
+-- no tail found so far is longer than 2^60
 pub longest-way-requires-clause-low : goal.longest-way-requires-clause-low
 longest-way-requires-clause-low c p =
     let low = c.loop-done.invariant.low p in
@@ -49,6 +54,7 @@ pub duration-requires-clause-process : goal.duration-requires-clause-process
 duration-requires-clause-process c =
     omega (arith, length_order (process_count c.args.problem.now) c.args.order.now c.requires.order.all)
 
+-- a duration and a longest way fit a number of 64 bits
 pub overflow_add-duration : goal.overflow_add-duration
 overflow_add-duration c =
     let inside : c.at-process.result < process_count c.args.problem.now =
@@ -68,6 +74,7 @@ overflow_add-duration c =
           at,
     )
 
+-- there is a tail for each process of the order
 pub index_mut-requires : goal.index_mut-requires
 index_mut-requires c = omega (
   arith,
@@ -75,6 +82,7 @@ index_mut-requires c = omega (
   length_order (process_count c.args.problem.now) c.args.order.now c.requires.order.all,
 )
 
+-- the tail of the next process, found by those of the processes after it
 pub loop-done-preserved : goal.loop-done-preserved
 loop-done-preserved c =
     let inside : c.at-process.result < process_count c.args.problem.now =
@@ -89,6 +97,7 @@ loop-done-preserved c =
     (found_more c.args.problem.now c.processes-count.ensures.within c.args.order.now c.requires.order
     c.loop-done.tails.items c.loop-done.done c.at-process.result c.loop-done.invariant inside at)
 
+-- the tails of all processes are found
 pub returns : goal.returns
 returns c =
     let count = ap length c.processes-count.ensures.processes in

@@ -3,6 +3,7 @@ use Rattle.cpg_order.specs.Ranking.{AreRanked}
 use Rattle.cpg_order.proofs.RankOrders.{in_order, ranked_from_sorted}
 use Rattle.cpg_order.proofs.urgency_order.ranked.Goals as goal
 
+-- the processes of the sorted ranks are ranked
 pub returns : goal.returns
 returns c = subst (AreRanked c.args.tails.now)
     (sym (c.in_ok-order.ensures ∙ ap (map (λ r. r.process)) c.as_slice.ensures.value))

@@ -5,6 +5,7 @@ use Rattle.cpg_live.specs.declared.following.Broken.{Broken}
 use Rattle.cpg_outputs.proofs.Followed.{closed_sound, failed_rose}
 use Rattle.cpg_outputs.proofs.living.follow.Goals as goal
 
+-- the shelf keeps its names, and no call failed, as the stream was followed to its close
 pub returns-in-Ok-clause-keeps : goal.returns-in-Ok-clause-keeps
 returns-in-Ok-clause-keeps g c =
     let s = c.in-Ok.ensures.whole in
@@ -19,6 +20,7 @@ returns-in-Ok-clause-keeps g c =
           (g.O.Sink.state c.args.out.now) (g.O.Sink.state c.follow.new.out) s fetch past is failed);
     }
 
+-- the stream is one fetch more, and was followed to its close
 pub returns-in-Ok-clause-followed : goal.returns-in-Ok-clause-followed
 returns-in-Ok-clause-followed g c =
     let s = c.in-Ok.ensures.whole in
@@ -29,6 +31,7 @@ returns-in-Ok-clause-followed g c =
       ends = inl (s.is, refl, record { faultless = refl; taken = refl });
     }
 
+-- the stream is one fetch more, and the node reported why it wasn't followed to its close
 pub returns-in-Err-clause-followed : goal.returns-in-Err-clause-followed
 returns-in-Err-clause-followed g c =
     let s = c.in-Err.ensures.broken in
@@ -39,6 +42,7 @@ returns-in-Err-clause-followed g c =
       ends = inr (c.in-Err.broken, s.is, c.say.ensures);
     }
 
+-- the shelf keeps its names, and a call failed only if the count of faults rose
 pub returns-in-Err-clause-keeps : goal.returns-in-Err-clause-keeps
 returns-in-Err-clause-keeps g c =
     let old = g.S.Shelf.state c.args.shelf.now in

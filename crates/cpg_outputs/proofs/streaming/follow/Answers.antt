@@ -10,6 +10,7 @@ use Rattle.cpg_outputs.proofs.streaming.follow.Goals as goal
 pub follow_rest-requires : goal.follow_rest-requires
 follow_rest-requires g c = omega (arith, ap (λ (f : Follower). f.read) c.requires.opened)
 
+-- from the node's opening along all pieces, the stream was followed to its close
 pub returns-in-Ok-clause-whole : goal.returns-in-Ok-clause-whole
 returns-in-Ok-clause-whole g c =
     let f = c.args.follower.now in
@@ -21,6 +22,7 @@ returns-in-Ok-clause-whole g c =
     (subst (IsAlong name past history now now) (sym c.requires.opened)
     (along_open name past history now f.head f.table c.in-Ok.ensures.history)))
 
+-- from the node's opening along all pieces, the stream broke off
 pub returns-in-Ok-clause-broken : goal.returns-in-Ok-clause-broken
 returns-in-Ok-clause-broken g c =
     let f = c.args.follower.now in
@@ -38,6 +40,7 @@ returns-in-Err-clause-broken g c =
     unfetched c.args.name.now (g.S.Shelf.state c.args.shelf.now).history (g.S.Shelf.state c.fetch.new.self).history
     f.head f.table (g.O.Sink.state c.args.out.now) c.in-Err.ensures.history
 
+-- the stream is one fetch more of the shelf, and the rest of it is left
 pub returns-in-Ok-clause-fetched : goal.returns-in-Ok-clause-fetched
 returns-in-Ok-clause-fetched g c =
     let f = c.args.follower.now in

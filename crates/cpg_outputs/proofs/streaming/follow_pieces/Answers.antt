@@ -3,6 +3,7 @@ use Rattle.cpg_live.specs.Following.{IsAlongAt}
 use Rattle.cpg_live.proofs.Along.{breaks_on}
 use Rattle.cpg_outputs.proofs.streaming.follow_pieces.Goals as goal
 
+-- the pieces before were followed, and this one broke off
 pub returns-in-Err-clause-along : goal.returns-in-Err-clause-along
 returns-in-Err-clause-along g c start name past a =
     let before = c.loop-count.invariant in
@@ -17,6 +18,7 @@ returns-then-count-eq0-clause-along g c start name past a =
     (g.O.Sink.state c.follow_piece.new.out).taken c.follow_piece.new.self) c.if-count-eq0.true
     (c.in-Ok.ensures.along start name past (c.loop-count.invariant.along start name past a))
 
+-- one piece more was followed
 pub loop-count-preserved : goal.loop-count-preserved
 loop-count-preserved g c =
     let before = c.loop-count.invariant in

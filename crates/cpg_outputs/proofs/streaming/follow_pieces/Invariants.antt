@@ -6,6 +6,10 @@ use Rattle.cpg_live.specs.declared.following.TheConstants.{STREAM_LIMIT}
 use Rattle.cpg_live.specs.Following.{IsAlong, IsOfSame}
 use Rattle.cpg_outputs.proofs.streaming.follow_pieces.Given as goal
 
+-- After each piece. `few`: no more bytes than the limit have been read. `names`, `access`, `rest`: names and rights
+-- of the shelf have not changed, and it leaves the rest behind if it did. `same`: the follower still follows the
+-- same. `along`: shelf, sink and follower are as far along as each other, if they were before. `later`: the shelf has
+-- forgotten no fault. `out_kept`: the faults of the sink have not changed.
 abbrev pub invariant-loop-count : goal.invariant-loop-count
 invariant-loop-count g l = record {
   few : l.follower.read ≤ STREAM_LIMIT;
@@ -20,5 +24,6 @@ invariant-loop-count g l = record {
   out_kept : (g.O.Sink.state l.out).faults ≡ (g.O.Sink.state l.fn.out).faults;
 }
 
+-- each turn reads at least one byte, so the room up to the limit gets smaller
 abbrev pub decreases-loop-count : goal.decreases-loop-count
 decreases-loop-count g l = STREAM_LIMIT - l.follower.read

@@ -1,6 +1,7 @@
 use Rattle.cpg_live.proofs.Along.{end_of_all}
 use Rattle.cpg_outputs.proofs.streaming.follow_rest.Goals as goal
 
+-- all pieces were followed, and the line of the close was written
 pub returns-in-Ok-clause-along : goal.returns-in-Ok-clause-along
 returns-in-Ok-clause-along g c start name past a =
     let all = c.in-Ok.ensures in

@@ -3,6 +3,7 @@ use Rattle.std.specs.Slice.Iter.{iter_rest}
 use Rattle.cpg_outputs.specs.Tunes.{parts_lines}
 use Rattle.cpg_outputs.proofs.tuning_lines.write_parts.Given as goal
 
+-- what is written and the lines of the processes left are together what stood before and the lines of all processes
 abbrev pub invariant-loop-process : goal.invariant-loop-process
 invariant-loop-process l =
     string_bytes l.fn.out ++ parts_lines l.fn.problem.processes l.fn.parts ≡ string_bytes l.out

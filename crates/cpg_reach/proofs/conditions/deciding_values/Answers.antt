@@ -5,10 +5,12 @@ use Rattle.cpg_reach.specs.Tested.{AreDecidingUntil}
 use Rattle.cpg_reach.proofs.Testing.{deciding_first, deciding_next, tests_fit, tree_decides}
 use Rattle.cpg_reach.proofs.conditions.deciding_values.Goals as goal
 
+-- before the loop there is no process yet, and no set
 pub loop-process-init : goal.loop-process-init
 loop-process-init c = subst (AreDecidingUntil c.args.admitted.now.graph 0)
     (sym (c.in_ok-reserve.ensures.items ∙ c.new-values.ensures.items)) (deciding_first c.args.admitted.now.graph)
 
+-- each process of the graph has a guard
 pub guard_of-requires : goal.guard_of-requires
 guard_of-requires c =
     let within = c.loop-process-test.true in
@@ -18,11 +20,13 @@ guard_of-requires c =
     let guards = ap (λ g. length g.trees) c.guards.ensures.guards in
     omega arith
 
+-- a guard of an admitted graph tests only conditions, which are below 32
 pub tested-requires : goal.tested-requires
 tested-requires c = tests_fit c.args.admitted.now.graph c.args.admitted.now.order c.args.admitted.now.guards
     c.guards.ensures.admitted c.guard_of.result.now
     (rw (← c.guards.ensures.guards) c.guard_of.ensures.below)
 
+-- the values that the guard of this process tests are those that decide it
 pub loop-process-preserved : goal.loop-process-preserved
 loop-process-preserved c =
     let within = c.loop-process-test.true in
@@ -36,6 +40,7 @@ loop-process-preserved c =
     c.tested.result c.tested.ensures)
     c.loop-process.invariant)
 
+-- all processes have been gone over
 pub returns : goal.returns
 returns c =
     let done = c.loop-process-test.false in

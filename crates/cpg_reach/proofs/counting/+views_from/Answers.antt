@@ -4,6 +4,7 @@ use Rattle.cpg_rules.proofs.Parts.{all_parts}
 use Rattle.cpg_reach.proofs.Counted.{scenario_back}
 use Rattle.cpg_reach.proofs.counting.+views_from.Goals as goal
 
+-- the conditions left are fewer, and they are conditions of the graph too
 pub views_from-second-requires : goal.views_from-second-requires
 views_from-second-requires t c =
     let below = all_parts (λ d. d < condition_count c.args.admitted.now.graph) c.in-Some.condition.now
@@ -21,6 +22,7 @@ views_from-second-requires t c =
       ),
     )
 
+-- the value of the condition is set and set back, so the scenario is as it was
 pub returns-clause-same : goal.returns-clause-same
 returns-clause-same t c = scenario_back c.args.scenario.now c.views_from-first.new.scenario c.set_value.new.self
     c.views_from-second.new.scenario c.set_value-2.new.self c.in-Some.condition.now true

@@ -5,6 +5,7 @@ use Rattle.cpg_reach.proofs.Counted.{along_takes, along_skips, none_if}
 use Rattle.cpg_reach.proofs.counting.conditions_along.Goals as goal
 use Rattle.cpg_reach.proofs.counting.conditions_along.Goals.{in-Some+in_ok-push, in_default}
 
+-- what stands at a place of the order is a process
 pub condition_of-requires : goal.condition_of-requires
 condition_of-requires c =
     let same = c.processes-process-items.ensures.processes in
@@ -12,6 +13,7 @@ condition_of-requires c =
     (omega (arith, ap length same)) in
     rw same (omega arith)
 
+-- the condition of this process is added, if it has one
 pub loop-process-preserved : goal.loop-process-preserved
 loop-process-preserved c =
     let same = c.processes-process-items.ensures.processes in

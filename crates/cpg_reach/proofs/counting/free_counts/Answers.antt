@@ -4,6 +4,7 @@ use Rattle.cpg_reach.proofs.Counted.{count_next, count-le}
 use Rattle.cpg_reach.proofs.counting.free_counts.Goals as goal
 use Rattle.cpg_reach.proofs.counting.free_counts.Goals.{then-is_count_free, else-is_count_free}
 
+-- the count so far is no more than the number of processes, so one more has room
 pub overflow_add-counts : goal.overflow_add-counts
 overflow_add-counts c =
     let b = count-le (is_count_free c.args.admitted.now.graph c.args.reached.now c.args.scenario.now.values)
@@ -11,6 +12,7 @@ overflow_add-counts c =
     let i = c.loop-process.invariant in
     omega arith
 
+-- this process is counted if it may have faults
 pub loop-process-preserved : goal.loop-process-preserved
 loop-process-preserved c = elim c.if-is_count_free.branch [
   | then-is_count_free w ↦ let n = count_next (is_count_free c.args.admitted.now.graph c.args.reached.now
@@ -21,6 +23,7 @@ loop-process-preserved c = elim c.if-is_count_free.branch [
       let i = c.loop-process.invariant in let e = w.counts-is in omega arith
 ]
 
+-- no more processes are counted than there are
 pub returns-clause-few : goal.returns-clause-few
 returns-clause-few c =
     let b = count-le (is_count_free c.args.admitted.now.graph c.args.reached.now c.args.scenario.now.values)

@@ -5,6 +5,7 @@ use Rattle.cpg_base.specs.Activity.{active}
 use Rattle.cpg_rules.specs.Guards.{AreGuardsOf}
 use Rattle.cpg_reach.proofs.counting.is_value_free.Goals as goal
 
+-- the process of the condition has a guard
 pub active-requires-clause-process : goal.active-requires-clause-process
 active-requires-clause-process c =
     let trees = c.guards-guards.ensures.admitted.guards.count in
@@ -13,6 +14,7 @@ active-requires-clause-process c =
     c.process_of-process.ensures.process ∙ ap (λ g. process_of g c.args.condition) c.problem.ensures.problem in
     omega (arith, process_of_below c.args.admitted.now.graph c.args.condition c.requires.condition)
 
+-- the guard of the condition's process says whether that is active
 pub returns : goal.returns
 returns c =
     c.active.ensures.active c.args.admitted.now.graph c.args.admitted.now.order

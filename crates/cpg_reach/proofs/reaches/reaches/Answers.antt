@@ -5,6 +5,7 @@ use Rattle.cpg_base.proofs.Standing.{process_within}
 use Rattle.cpg_reach.proofs.Walks.{walk_starts, step_in, step_out, all_reached}
 use Rattle.cpg_reach.proofs.reaches.reaches.Goals as goal
 
+-- before the first process all sets are empty
 pub loop-process-init : goal.loop-process-init
 loop-process-init c =
     let same = ap₂ (λ n m. n + m) (ap length c.processes.ensures.processes) (ap length c.edges.ensures.edges) in
@@ -16,6 +17,7 @@ loop-process-init c =
     omega (arith, ap length c.nodes-nodes.ensures.nodes))
     c.in_ok-empty_sets.ensures c.in_ok-empty_sets-2.ensures c.in_ok-empty_sets-3.ensures
 
+-- what stands at a place of the order is a process
 pub settle_process-requires-clause-process : goal.settle_process-requires-clause-process
 settle_process-requires-clause-process c =
     let same = c.processes-process-items.ensures.processes in
@@ -28,6 +30,7 @@ settle_process-requires-clause-process c =
       ap (λ g. process_count g) c.problem-problem.ensures.problem,
     )
 
+-- the walk has come to the place of this process
 pub settle_process-requires-clause-walked : goal.settle_process-requires-clause-walked
 settle_process-requires-clause-walked c =
     let same = c.processes-process-items.ensures.processes in
@@ -38,6 +41,7 @@ settle_process-requires-clause-walked c =
     c.loop-process.walk.reaches.items c.loop-process.walk.known.items c.loop-process.walk.sent.items
     c.loop-process.invariant
 
+-- the walk has come to the next place
 pub loop-process-preserved : goal.loop-process-preserved
 loop-process-preserved c =
     let same = c.processes-process-items.ensures.processes in
@@ -48,6 +52,7 @@ loop-process-preserved c =
     c.settle_process.new.walk.reaches.items c.settle_process.new.walk.known.items c.settle_process.new.walk.sent.items
     c.settle_process.ensures
 
+-- the walk has come to the end, so the reach of each item is found
 pub returns : goal.returns
 returns c =
     let same = c.processes-process-items.ensures.processes in

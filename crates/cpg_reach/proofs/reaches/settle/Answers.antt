@@ -3,6 +3,7 @@ use Rattle.cpg_order.specs.Reach.{is_in}
 use Rattle.cpg_reach.proofs.Adding.{set_at}
 use Rattle.cpg_reach.proofs.reaches.settle.Goals as goal
 
+-- the reach of the item is added to what its node has sent
 pub returns-clause-sent : goal.returns-clause-sent
 returns-clause-sent c = (
   c.add.new.self,

@@ -7,24 +7,28 @@ use Rattle.cpg_reach.proofs.Steps.{walked_some}
 use Rattle.cpg_reach.proofs.Walks.{no_broadcast, broadcast_settled}
 use Rattle.cpg_reach.proofs.reaches.settle_broadcast.Goals as goal
 
+-- the process has no condition, so nothing changes
 pub returns-in_default : goal.returns-in_default
 returns-in_default c = no_broadcast c.args.problem.now c.args.order.now c.requires.order c.args.process
     c.requires.process c.args.walk.now.reaches.items c.args.walk.now.known.items
     c.args.walk.now.sent.items
     (sym c.in_default.ensures) c.requires.walked
 
+-- the walk has a reach for each item
 pub broadcast_of-reach-requires-clause-items : goal.broadcast_of-reach-requires-clause-items
 broadcast_of-reach-requires-clause-items c = ap length c.as_slice.ensures.value
     ∙ (walked_some c.args.problem.now c.args.order.now c.requires.order (place c.args.order.now c.args.process + 1)
     (place c.args.order.now c.args.process * phases c.args.problem.now + 2) c.args.walk.now.reaches.items
     c.args.walk.now.known.items c.args.walk.now.sent.items c.requires.walked).0
 
+-- the walk has a set for each node
 pub broadcast_of-reach-requires-clause-nodes : goal.broadcast_of-reach-requires-clause-nodes
 broadcast_of-reach-requires-clause-nodes c = ap length c.as_slice-2.ensures.value
     ∙ (walked_some c.args.problem.now c.args.order.now c.requires.order (place c.args.order.now c.args.process + 1)
     (place c.args.order.now c.args.process * phases c.args.problem.now + 2) c.args.walk.now.reaches.items
     c.args.walk.now.known.items c.args.walk.now.sent.items c.requires.walked).2
 
+-- the broadcast of the condition is an item of the graph
 pub settle-requires-clause-item : goal.settle-requires-clause-item
 settle-requires-clause-item c =
     let w = walked_some c.args.problem.now c.args.order.now c.requires.order (place c.args.order.now c.args.process + 1)
@@ -38,6 +42,7 @@ settle-requires-clause-item c =
       condition_of_below c.args.problem.now c.args.process c.in-Some.condition (sym c.in-Some.ensures),
     )
 
+-- the walk has a set for each node
 pub settle-requires-clause-node : goal.settle-requires-clause-node
 settle-requires-clause-node c =
     let w = walked_some c.args.problem.now c.args.order.now c.requires.order (place c.args.order.now c.args.process + 1)
@@ -45,6 +50,7 @@ settle-requires-clause-node c =
     c.args.walk.now.known.items c.args.walk.now.sent.items c.requires.walked in
     omega (arith, w.2, c.node_of.ensures.within)
 
+-- the reach of the broadcast is set and added to what its node has sent
 pub returns : goal.returns
 returns c =
     let item : length c.processes.result.now + length c.edges.result.now + c.in-Some.condition

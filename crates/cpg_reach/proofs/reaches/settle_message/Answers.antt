@@ -7,6 +7,7 @@ use Rattle.cpg_reach.proofs.Steps.{walked_some}
 use Rattle.cpg_reach.proofs.Walks.{no_message, message_settled}
 use Rattle.cpg_reach.proofs.reaches.settle_message.Goals as goal
 
+-- the edge comes from another process, so nothing changes
 pub returns-then-edges-edge : goal.returns-then-edges-edge
 returns-then-edges-edge c =
     let at : get_or c.edges.result.now c.args.edge no_edge ≡ edge_at c.args.problem.now c.args.edge =
@@ -16,18 +17,21 @@ returns-then-edges-edge c =
     c.args.walk.now.sent.items
     (λ e. c.if-edges-edge.true (ap (λ x. x.from) at ∙ e)) c.requires.walked
 
+-- the walk has a reach for each item
 pub message_of-reach-requires-clause-items : goal.message_of-reach-requires-clause-items
 message_of-reach-requires-clause-items c = ap length c.as_slice.ensures.value
     ∙ (walked_some c.args.problem.now c.args.order.now c.requires.order (place c.args.order.now c.args.process + 1)
     (place c.args.order.now c.args.process * phases c.args.problem.now + 3 + c.args.edge) c.args.walk.now.reaches.items
     c.args.walk.now.known.items c.args.walk.now.sent.items c.requires.walked).0
 
+-- the walk has a set for each node
 pub message_of-reach-requires-clause-nodes : goal.message_of-reach-requires-clause-nodes
 message_of-reach-requires-clause-nodes c = ap length c.as_slice-2.ensures.value
     ∙ (walked_some c.args.problem.now c.args.order.now c.requires.order (place c.args.order.now c.args.process + 1)
     (place c.args.order.now c.args.process * phases c.args.problem.now + 3 + c.args.edge) c.args.walk.now.reaches.items
     c.args.walk.now.known.items c.args.walk.now.sent.items c.requires.walked).2
 
+-- the message of the edge is an item of the graph
 pub settle-requires-clause-item : goal.settle-requires-clause-item
 settle-requires-clause-item c =
     let w = walked_some c.args.problem.now c.args.order.now c.requires.order (place c.args.order.now c.args.process + 1)
@@ -35,6 +39,7 @@ settle-requires-clause-item c =
     c.args.walk.now.known.items c.args.walk.now.sent.items c.requires.walked in
     omega (arith, w.0, ap length c.processes.ensures.processes, c.requires.edge)
 
+-- the walk has a set for each node
 pub settle-requires-clause-node : goal.settle-requires-clause-node
 settle-requires-clause-node c =
     let w = walked_some c.args.problem.now c.args.order.now c.requires.order (place c.args.order.now c.args.process + 1)
@@ -42,6 +47,7 @@ settle-requires-clause-node c =
     c.args.walk.now.known.items c.args.walk.now.sent.items c.requires.walked in
     omega (arith, w.2, c.node_of.ensures.within)
 
+-- the reach of the message is set and added to what its node has sent
 pub returns : goal.returns
 returns c =
     let at : get_or c.edges.result.now c.args.edge no_edge ≡ edge_at c.args.problem.now c.args.edge =

@@ -6,18 +6,21 @@ use Rattle.cpg_reach.proofs.Steps.{walked_some}
 use Rattle.cpg_reach.proofs.Walks.{start_settled}
 use Rattle.cpg_reach.proofs.reaches.settle_start.Goals as goal
 
+-- the walk has a reach for each item
 pub start_of-reach-requires-clause-items : goal.start_of-reach-requires-clause-items
 start_of-reach-requires-clause-items c = ap length c.as_slice.ensures.value
     ∙ (walked_some c.args.problem.now c.args.order.now c.requires.order (place c.args.order.now c.args.process)
     (place c.args.order.now c.args.process * phases c.args.problem.now) c.args.walk.now.reaches.items
     c.args.walk.now.known.items c.args.walk.now.sent.items c.requires.walked).0
 
+-- the walk has a set for each node
 pub start_of-reach-requires-clause-nodes : goal.start_of-reach-requires-clause-nodes
 start_of-reach-requires-clause-nodes c = ap length c.as_slice-2.ensures.value
     ∙ (walked_some c.args.problem.now c.args.order.now c.requires.order (place c.args.order.now c.args.process)
     (place c.args.order.now c.args.process * phases c.args.problem.now) c.args.walk.now.reaches.items
     c.args.walk.now.known.items c.args.walk.now.sent.items c.requires.walked).1
 
+-- the walk has a set for each node
 pub index-requires : goal.index-requires
 index-requires c =
     let w = walked_some c.args.problem.now c.args.order.now c.requires.order (place c.args.order.now c.args.process)
@@ -25,12 +28,14 @@ index-requires c =
     c.args.walk.now.known.items c.args.walk.now.sent.items c.requires.walked in
     omega (arith, w.1, c.node_of-node.ensures.within)
 
+-- the walk has a reach for each item
 pub add_heard-requires-clause-items : goal.add_heard-requires-clause-items
 add_heard-requires-clause-items c = ap length c.as_slice-3.ensures.value
     ∙ (walked_some c.args.problem.now c.args.order.now c.requires.order (place c.args.order.now c.args.process)
     (place c.args.order.now c.args.process * phases c.args.problem.now) c.args.walk.now.reaches.items
     c.args.walk.now.known.items c.args.walk.now.sent.items c.requires.walked).0
 
+-- the walk has a set for each node
 pub index_mut-requires : goal.index_mut-requires
 index_mut-requires c =
     let w = walked_some c.args.problem.now c.args.order.now c.requires.order (place c.args.order.now c.args.process)
@@ -38,6 +43,7 @@ index_mut-requires c =
     c.args.walk.now.known.items c.args.walk.now.sent.items c.requires.walked in
     omega (arith, w.1, c.node_of-node.ensures.within)
 
+-- the walk has a reach for each item
 pub index_mut-requires-2 : goal.index_mut-requires-2
 index_mut-requires-2 c =
     let w = walked_some c.args.problem.now c.args.order.now c.requires.order (place c.args.order.now c.args.process)
@@ -45,6 +51,7 @@ index_mut-requires-2 c =
     c.args.walk.now.known.items c.args.walk.now.sent.items c.requires.walked in
     omega (arith, w.0, c.requires.process)
 
+-- the reach of the start is set, and what it makes later ones wait for is added to its node
 pub returns : goal.returns
 returns c =
     let w = walked_some c.args.problem.now c.args.order.now c.requires.order (place c.args.order.now c.args.process)
@@ -61,5 +68,6 @@ returns c =
     (omega (arith, w.1, c.node_of-node.ensures.within)) c.index.ensures)
     c.add_heard.ensures c.add.ensures c.insert.ensures
 
+-- a graph has at most 128 processes, so the number of a process is a variable
 pub insert-requires : goal.insert-requires
 insert-requires c = omega (arith, c.processes-processes.ensures.within.few_processes, c.requires.process)

@@ -3,6 +3,7 @@ use Rattle.cpg_order.specs.Reach.{is_in, end_reach}
 use Rattle.cpg_reach.proofs.Adding.{same_before, set_at}
 use Rattle.cpg_reach.proofs.sending.after_end.Goals as goal
 
+-- what a process's end depends on is added to what the node has sent
 pub returns : goal.returns
 returns c = same_before c.copy-reach.result (get_or c.args.sent.now c.args.node [])
     (end_reach c.args.reaches.now c.args.process) c.add_end.new.reach

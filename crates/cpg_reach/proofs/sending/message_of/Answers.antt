@@ -8,6 +8,7 @@ use Rattle.cpg_reach.proofs.Sends.{no_edge, nothing_sent, within_node, message_s
 use Rattle.cpg_reach.proofs.sending.message_of.Goals as goal
 use Rattle.cpg_reach.proofs.sending.message_of.Goals.{then-ends, else-ends}
 
+-- the edge is within a node, so nothing is sent
 pub returns-then-node-node_of : goal.returns-then-node-node_of
 returns-then-node-node_of c =
     let at : get_or c.edges.result.now c.args.edge no_edge ≡ edge_at c.args.problem.now c.args.edge =
@@ -18,6 +19,7 @@ returns-then-node-node_of c =
     (ap (λ e. node_of c.args.problem.now e.from) (sym at) ∙ sym c.node_of-node.ensures.node ∙ c.if-node-node_of.true
     ∙ c.node_of.ensures.node ∙ ap (λ e. node_of c.args.problem.now e.to) at))
 
+-- the edge is between nodes, so the message depends on what comes before its source's value, and on that value
 pub returns : goal.returns
 returns c =
     let at : get_or c.edges.result.now c.args.edge no_edge ≡ edge_at c.args.problem.now c.args.edge =

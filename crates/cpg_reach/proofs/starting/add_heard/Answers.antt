@@ -8,6 +8,7 @@ use Rattle.cpg_reach.proofs.Adding.{adds_two, loop_takes, loop_skips, deciding_f
 use Rattle.cpg_reach.proofs.starting.add_heard.Goals as goal
 use Rattle.cpg_reach.proofs.starting.add_heard.Goals.{then-has, else-has}
 
+-- this condition is added if it decides the process
 pub loop-condition-preserved : goal.loop-condition-preserved
 loop-condition-preserved c =
     let at : c.index-deciding-process.result ≡ get_or c.args.deciding.now c.args.process [] =
@@ -30,6 +31,7 @@ loop-condition-preserved c =
           (ap (λ xs. is_in xs (value_variable c.loop-condition.condition)) (sym at) ∙ sym w.if-has.ensures) v
     ]
 
+-- all conditions of the graph have been gone over, so those that decide the process are added
 pub returns : goal.returns
 returns c =
     let done = c.loop-condition-test.false in

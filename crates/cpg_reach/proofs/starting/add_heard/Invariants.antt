@@ -6,6 +6,7 @@ use Rattle.cpg_reach.specs.Variables.{Adds}
 use Rattle.cpg_reach.specs.Walked.{heard_by}
 use Rattle.cpg_reach.proofs.starting.add_heard.Given as goal
 
+-- the set has the old numbers and what hearing the conditions below `condition` that decide the process depends on
 abbrev pub invariant-loop-condition : goal.invariant-loop-condition
 invariant-loop-condition l = Adds l.fn.reach (heard_by l.problem l.reaches l.node
     (filter (λ c. is_in (get_or l.deciding l.process []) (value_variable c)) (numbers_below l.condition))) l.reach

@@ -7,6 +7,7 @@ use Rattle.cpg_reach.proofs.Sends.{no_edge}
 use Rattle.cpg_reach.proofs.starting.add_inputs.Goals as goal
 use Rattle.cpg_reach.proofs.starting.add_inputs.Goals.{then-edges-edge, else-edges-edge}
 
+-- this edge is added if it is an input of the process
 pub loop-edge-preserved : goal.loop-edge-preserved
 loop-edge-preserved c =
     let at : get_or c.edges-in-loop-edge.result.now c.loop-edge.edge no_edge

@@ -6,6 +6,7 @@ use Rattle.cpg_order.specs.Reach.{input_reach}
 use Rattle.cpg_reach.specs.Variables.{Adds}
 use Rattle.cpg_reach.proofs.starting.add_inputs.Given as goal
 
+-- the set has the old numbers and what the inputs of the process by edges below `edge` depend on
 abbrev pub invariant-loop-edge : goal.invariant-loop-edge
 invariant-loop-edge l = Adds l.fn.reach (flat_map (input_reach l.problem l.reaches)
     (filter (λ e. target l.problem e == l.process) (numbers_below l.edge))) l.reach

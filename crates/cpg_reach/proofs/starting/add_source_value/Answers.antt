@@ -5,6 +5,7 @@ use Rattle.cpg_reach.proofs.Adding.{adds_same, source_value_there}
 use Rattle.cpg_reach.proofs.Sends.{no_edge}
 use Rattle.cpg_reach.proofs.starting.add_source_value.Goals as goal
 
+-- the edge is conditional, so the value of its source's condition is added
 pub returns-in-Some : goal.returns-in-Some
 returns-in-Some c =
     let at : get_or c.edges.result.now c.args.edge no_edge ≡ edge_at c.args.problem.now c.args.edge =

@@ -4,6 +4,7 @@ use Rattle.cpg_reach.proofs.Adding.{set_at}
 use Rattle.cpg_reach.proofs.Starts.{frozen_at, start_frozen, start_plain}
 use Rattle.cpg_reach.proofs.starting.start_of.Goals as goal
 
+-- the process is frozen, so its start depends on the values that decide it
 pub returns-then-processes-process : goal.returns-then-processes-process
 returns-then-processes-process c =
     start_frozen c.args.problem.now c.args.reaches.now c.args.known.now c.args.process c.copy.result
@@ -14,6 +15,7 @@ returns-then-processes-process c =
     (omega (arith, c.requires.deciding.count, c.requires.process)) c.index-deciding-process.is)
     ∙ c.requires.deciding.each c.args.process c.requires.process v)
 
+-- the process is not frozen, so its start depends on what its node waited for, on what it hears, and on its inputs
 pub returns : goal.returns
 returns c = start_plain c.args.problem.now c.args.reaches.now c.args.known.now c.args.process c.copy-reach.result
     c.add_heard.new.reach c.add_inputs.new.reach c.node_of-node.result

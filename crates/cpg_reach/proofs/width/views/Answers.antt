@@ -4,10 +4,12 @@ use Rattle.cpg_base.proofs.Places.{length_order}
 use Rattle.cpg_reach.proofs.Widths.{has_views}
 use Rattle.cpg_reach.proofs.width.views.Goals as goal
 
+-- an order has each process of the graph once
 pub of-requires : goal.of-requires
 of-requires c = length_order (process_count c.args.admitted.now.graph) c.args.order.now c.requires.order.all
     ∙ ap (λ g. process_count g) (sym c.problem-problem.ensures.problem)
 
+-- the views are counted by the reach that is found, which is that of the order
 pub returns : goal.returns
 returns c = has_views c.args.admitted.now.graph c.args.order.now c.requires.order c.args.admitted.now.guards
     c.args.admitted.now.order c.problem-problem.ensures.admitted

@@ -4,6 +4,7 @@ use Rattle.cpg_base.specs.Natural.{natural}
 use Rattle.cpg_reader.proofs.Limits.{small_faults}
 use Rattle.cpg_reader.proofs.building.faults_of.Goals as goal
 
+-- a document within the limits has a number of faults that fits
 pub overflow_cast-result : goal.overflow_cast-result
 overflow_cast-result c =
     let is : c.natural.result ≡ natural c.args.raw.now.faults = search rules in

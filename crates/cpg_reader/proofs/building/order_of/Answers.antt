@@ -2,6 +2,7 @@ use Rattle.cpg_reader.specs.Shape.{raw_view}
 use Rattle.cpg_reader.proofs.Limits.{few_processes}
 use Rattle.cpg_reader.proofs.building.order_of.Goals as goal
 
+-- a document within the limits has few enough processes for their numbers
 pub numbers_of-requires : goal.numbers_of-requires
 numbers_of-requires c =
     record { few = few_processes (raw_view c.args.raw.now) c.args.processes.now c.requires.limits c.requires.processes }

@@ -5,12 +5,14 @@ use Rattle.cpg_reader.specs.Shape.{raw_view}
 use Rattle.cpg_reader.proofs.Within.{graph-within, unordered-within, of_mapped}
 use Rattle.cpg_reader.proofs.building.problem_of.Goals as goal
 
+-- the graph of a document within the limits is within the limits, and so it is without its order
 pub of-problem-requires : goal.of-problem-requires
 of-problem-requires c =
     let deadline : c.natural-deadline.result ≡ natural c.args.raw.deadline = search rules in
     rw (c.faults_of-faults.ensures, deadline)
     (unordered-within _ (graph-within (raw_view c.args.raw) _ c.requires c.in_ok-parts.ensures))
 
+-- the order of the document is within the limits of the graph
 pub with_order-requires : goal.with_order-requires
 with_order-requires c =
     rw c.of-problem.ensures

@@ -3,6 +3,7 @@ use Rattle.cpg_reader.proofs.Texts.{more_sources, same_sources}
 use Rattle.cpg_reader.proofs.ranges.source_count.Goals as goal
 use Rattle.cpg_reader.proofs.ranges.source_count.Goals.{then-is_some+in_ok-insert, else-is_some}
 
+-- the source of a conditional edge is noted, and any other edge is passed over
 pub loop-edge-preserved : goal.loop-edge-preserved
 loop-edge-preserved c = elim c.if-is_some.branch [
   | then-is_some+in_ok-insert w ↦ rw w.sources-is

@@ -1,6 +1,7 @@
 use Rattle.cpg_reader.proofs.NameTexts.{named_ok}
 use Rattle.cpg_reader.proofs.row.as_name.Goals as goal
 
+-- the text is taken exactly if it is a name
 pub returns-in-Some : goal.returns-in-Some
 returns-in-Some c =
     let is_text = rw c.in-Some.is at c.as_str.ensures in

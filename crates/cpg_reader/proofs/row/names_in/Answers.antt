@@ -4,6 +4,7 @@ use Rattle.cpg_reader.specs.Rows.{items_as, as_name}
 use Rattle.cpg_reader.proofs.Items.{goes_on, stops}
 use Rattle.cpg_reader.proofs.row.names_in.Goals as goal
 
+-- one more element is a name
 pub loop-element-preserved : goal.loop-element-preserved
 loop-element-preserved c =
     let one = rw c.in-Some.is at c.in_ok-name.ensures in
@@ -12,6 +13,7 @@ loop-element-preserved c =
     c.loop-element.names.items _
     c.loop-element-test.true c.element-item.is c.loop-element.invariant c.in-Some.name one)
 
+-- this element is no name, so the array isn't one of names
 pub returns-in_default : goal.returns-in_default
 returns-in_default c =
     let none = rw c.in_default.is at c.in_ok-name.ensures in

@@ -5,6 +5,7 @@ use Rattle.cpg_reader.specs.Rows.{items_as}
 use Rattle.cpg_reader.proofs.Items.{after}
 use Rattle.cpg_reader.proofs.row.tables_in.Given as goal
 
+-- reading all elements as tables gives what reading those that are left gives, after the tables so far
 abbrev pub invariant-loop-element : goal.invariant-loop-element
 invariant-loop-element l =
     items_as as_table (items_view l.element-items) ≡ after (map (λ t. table_view t.now) l.tables.items)

@@ -4,6 +4,7 @@ use Rattle.cpg_reader.proofs.Each.{Refuses-along}
 use Rattle.cpg_reader.specs.Shape.{read_work}
 use Rattle.cpg_reader.proofs.shape.read_work.Goals as goal
 
+-- all fields were read, but the table has a key that is unknown
 pub returns-in_err-only : goal.returns-in_err-only
 unfolding read_work
 returns-in_err-only c =

@@ -4,6 +4,7 @@ use Rattle.cpg_reader.specs.Reading.{each}
 use Rattle.cpg_reader.proofs.Each.{after}
 use Rattle.cpg_reader.proofs.shape.rows.Given as goal
 
+-- reading all tables as rows gives what reading those that are left gives, after the rows so far
 abbrev pub invariant-loop-index : goal.invariant-loop-index
 invariant-loop-index g l =
     after l.rows.items

@@ -6,6 +6,7 @@ use Rattle.cpg_reader.specs.WrittenTree.{graph_members}
 use Rattle.cpg_reader.proofs.ReadBack.{graph_shallow, text_back}
 use Rattle.cpg_reader.proofs.writing.graph_text.Goals as goal
 
+-- the text is parsed as the members of the graph, so it is read as the graph
 pub returns-in-Ok : goal.returns-in-Ok
 returns-in-Ok c =
     let g = c.args.problem.now in

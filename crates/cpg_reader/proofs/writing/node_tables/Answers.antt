@@ -6,6 +6,7 @@ use Rattle.cpg_reader.specs.WrittenTree.{node_members}
 use Rattle.cpg_reader.proofs.Members.{all_more, made_more}
 use Rattle.cpg_reader.proofs.writing.node_tables.Goals as goal
 
+-- the table of one more node is made
 pub loop-name-preserved : goal.loop-name-preserved
 loop-name-preserved c =
     let xs = c.nodes-name-items.result.now in

@@ -7,6 +7,7 @@ use Rattle.cpg_reader.specs.WrittenTree.{process_members}
 use Rattle.cpg_reader.proofs.Members.{all_more, made_more}
 use Rattle.cpg_reader.proofs.writing.process_tables.Goals as goal
 
+-- the table of one more process is made
 pub loop-process-preserved : goal.loop-process-preserved
 loop-process-preserved c =
     let xs = c.processes-process-items.result.now in

@@ -6,6 +6,7 @@ use Rattle.cpg_base.specs.Name.{IsName}
 use Rattle.cpg_reader.specs.WrittenTree.{process_members}
 use Rattle.cpg_reader.proofs.writing.process_tables.Given as goal
 
+-- after each process, the list has the table of each process so far, and each name so far is a valid name
 abbrev pub invariant-loop-process : goal.invariant-loop-process
 invariant-loop-process l = record {
   made : map view l.made.items

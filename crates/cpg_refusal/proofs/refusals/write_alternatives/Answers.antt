@@ -3,6 +3,7 @@ use Rattle.std.proofs.lemmas.List.{append_assoc}
 use Rattle.cpg_refusal.specs.Lines.{case_text}
 use Rattle.cpg_refusal.proofs.refusals.write_alternatives.Goals as goal
 
+-- the words come first, and then the case, both behind the old text
 pub returns : goal.returns
 returns c =
     let rest = case_text c.args.problem.now c.args.process c.args.scenario.now in

@@ -12,6 +12,7 @@ use Rattle.cpg_row_trees.proofs.Passes.{holds_leaf, holds_above, holds_below, ho
 use Rattle.cpg_row_trees.proofs.SliceLaws.{above_again, goes_again}
 use Rattle.cpg_row_trees.proofs.gathering.+gather_each.Goals as goal
 
+-- the tree is one leaf, whose place passes and was added
 pub returns-in_ok-there-in-Value-clause-found : goal.returns-in_ok-there-in-Value-clause-found
 returns-in_ok-there-in-Value-clause-found g t c =
     of_true c.in_ok-there-in-Value.there c.in_ok-there-in-Value.ensures.found
@@ -20,6 +21,7 @@ returns-in_ok-there-in-Value-clause-found g t c =
     (flat-same n (Leaf c.in-Value.place) (sym are ∙ c.in-Value.ensures.shows))
     (λ s lies. (from_true c.passes.result c.if-not-passes.false c.passes.ensures s lies, among)))
 
+-- no scenario of the space is below the cut, so the places above it are all
 pub returns-then-not-is_open_below-clause-found : goal.returns-then-not-is_open_below-clause-found
 returns-then-not-is_open_below-clause-found g t c =
     let shows = c.in-Cut.ensures.shows in
@@ -31,6 +33,7 @@ returns-then-not-is_open_below-clause-found g t c =
     (all shows.1 shows.3)
     (from_false c.is_open_below.result c.if-not-is_open_below.true c.is_open_below.ensures.none))
 
+-- no scenario of the space is above the cut, so the places below it are all
 pub returns-then-not-is_open_above-clause-found : goal.returns-then-not-is_open_above-clause-found
 returns-then-not-is_open_above-clause-found g t c =
     let shows = c.in-Cut.ensures.shows in
@@ -42,6 +45,7 @@ returns-then-not-is_open_above-clause-found g t c =
     (flat-same n (Fork c.in-Cut.variable c.in-Cut.cut shows.0 shows.1) (sym are ∙ shows.4)) (all shows.0 shows.2)
     (from_false c.is_open_above.result c.if-not-is_open_above.true c.is_open_above.ensures.none))
 
+-- the places of both sides pass and were added, and each scenario of the space lies in one of the sides
 pub returns-else-not-high-clause-found : goal.returns-else-not-high-clause-found
 returns-else-not-high-clause-found g t c n are =
     let shows = c.in-Cut.ensures.shows in

@@ -6,6 +6,7 @@ use Rattle.cpg_tree.proofs.Flats.{flat-same}
 use Rattle.cpg_tree.proofs.Passes.{of_true}
 use Rattle.cpg_row_trees.proofs.gathering.gather.Goals as goal
 
+-- the part of the tree in the space is one leaf, whose place passes and was added
 pub returns-in_ok-there-in-Value-clause-found : goal.returns-in_ok-there-in-Value-clause-found
 returns-in_ok-there-in-Value-clause-found g c =
     of_true c.in_ok-there-in-Value.there c.in_ok-there-in-Value.ensures.found (λ found n are s lies.

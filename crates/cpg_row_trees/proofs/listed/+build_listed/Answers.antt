@@ -16,6 +16,7 @@ use Rattle.cpg_row_trees.proofs.SliceLaws.{finds_here, finds_nowhere, slice_tree
 use Rattle.cpg_row_trees.proofs.SliceLaws.{over_again, goes_again}
 use Rattle.cpg_row_trees.proofs.listed.+build_listed.Goals as goal
 
+-- the space below the cut has fewer items left, and its ranges and the first literals say who is in it
 pub build_listed_fork-build_listed-requires : goal.build_listed_fork-build_listed-requires
 build_listed_fork-build_listed-requires t c =
     let space : Space = c.args.space.now in
@@ -32,6 +33,7 @@ build_listed_fork-build_listed-requires t c =
       ),
     )
 
+-- so they do for the space above the cut, once that below is put back
 pub build_listed_fork-build_listed_above-requires : goal.build_listed_fork-build_listed_above-requires
 build_listed_fork-build_listed_above-requires t c =
     let cubes : List (List Literal) = map (λ (b : Bor (List Literal)). b.now) c.args.cubes.now in
@@ -59,6 +61,7 @@ build_listed_fork-build_listed_above-requires t c =
       ),
     )
 
+-- the trees of the two slices, under the fork, are the tree of the whole slice, and the space is as before
 pub build_listed_fork-returns : goal.build_listed_fork-returns
 build_listed_fork-returns t c =
     let cubes : List (List Literal) = map (λ (b : Bor (List Literal)). b.now) c.args.cubes.now in
@@ -97,6 +100,7 @@ build_listed_fork-returns t c =
           c.close_below-was.result c.reopen_below.ensures c.close_below-was.ensures.back ∙ back;
     }
 
+-- the next cube has the same first literals, so these and the variable's range say who is in the space
 pub build_listed_above-build_listed-requires : goal.build_listed_above-build_listed-requires
 build_listed_above-build_listed-requires t c =
     let next = from_true c.next_above.result c.if-next_above.true c.next_above.ensures in (
@@ -108,6 +112,7 @@ build_listed_above-build_listed-requires t c =
       ),
     )
 
+-- a leaf without a place is the tree of a slice without cubes
 pub build_listed_above-returns-clause-added : goal.build_listed_above-returns-clause-added
 build_listed_above-returns-clause-added t c =
     let cubes : List (List Literal) = map (λ (b : Bor (List Literal)). b.now) c.args.cubes.now in
@@ -118,6 +123,7 @@ build_listed_above-returns-clause-added t c =
     ∙ ap (λ (xs : List (TreeItem (Option ℕ))). xs ++ flat leaf) c.may_grow.ensures.items)
     (omega (arith, c.in_ok-add_leaf.ensures.left, OnTrue_at c.if-not-may_grow.false c.may_grow.ensures.left))
 
+-- the cube's first literals and the variable's range say who is in the space
 pub build_listed-top_on-requires : goal.build_listed-top_on-requires
 build_listed-top_on-requires t c =
     let look = c.in-Some.ensures.lookup in
@@ -126,6 +132,7 @@ build_listed-top_on-requires t c =
     (λ (ls : List Literal). IsOwnOn c.args.k c.args.space.now (take c.args.part.depth ls) c.args.part.cut.variable)
     (at ∙ sym c.literals-literals.ensures.literals) c.requires.own
 
+-- there are fewer items left, and the cut that the cube gives is open on both sides
 pub build_listed-build_listed_fork-requires : goal.build_listed-build_listed_fork-requires
 build_listed-build_listed_fork-requires t c =
     let look = c.in-Some.ensures.lookup in
@@ -142,6 +149,7 @@ build_listed-build_listed_fork-requires t c =
       ),
     )
 
+-- the cube's scenarios are those of the space, so a leaf with its place is the tree of its slice
 pub build_listed-returns-in_ok-add_leaf-in-Own-clause-added :
     goal.build_listed-returns-in_ok-add_leaf-in-Own-clause-added
 build_listed-returns-in_ok-add_leaf-in-Own-clause-added t c =

@@ -1,6 +1,8 @@
 use Rattle.std.proofs.Common.{◌+◌, ◌*◌}
 use Rattle.cpg_row_trees.proofs.listed.+build_listed.Given as goal
 
+-- The three functions call each other in a circle. A step takes 1 from `left`, the items that may still be added;
+-- the 2, 1 and 0 order the calls that take none. So the measure gets smaller at each call.
 abbrev pub decreases-build_listed_fork : goal.decreases-build_listed_fork
 decreases-build_listed_fork l = 3 * l.growth.now.left + 2
 

@@ -6,6 +6,7 @@ use Rattle.cpg_row_trees.proofs.PlaceHintLaws.{cube_here}
 use Rattle.cpg_row_trees.proofs.ListedLaws.{at_some}
 use Rattle.cpg_row_trees.proofs.listed.build_all_listed.Goals as goal
 
+-- the cut that the first cube gives is open, and its first literals and the variable's range say who is in the space
 pub build_listed_fork-requires : goal.build_listed_fork-requires
 build_listed_fork-requires c =
     let look = c.in-Some.ensures.lookup in
@@ -18,6 +19,7 @@ build_listed_fork-requires c =
           (c.literals-literals.ensures.literals ∙ sym at) c.in-Fork.ensures.1;
     }
 
+-- the tree ends at the last cube, so it is the tree of all cubes
 pub returns : goal.returns
 returns c =
     let cubes : List (List Literal) = map (λ (b : Bor (List Literal)). b.now) c.args.cubes.now in

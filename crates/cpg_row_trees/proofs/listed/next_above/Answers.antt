@@ -4,6 +4,7 @@ use Rattle.cpg_tree.proofs.Passes.{of_true}
 use Rattle.cpg_row_trees.proofs.PlaceHintLaws.{cube_here, within_lent}
 use Rattle.cpg_row_trees.proofs.listed.next_above.Goals as goal
 
+-- the cube at the place is there and its first literals are those of the other, as both were looked up
 pub returns : goal.returns
 returns c =
     let look = c.in-Some.ensures.lookup in

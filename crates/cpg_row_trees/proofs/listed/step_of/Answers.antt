@@ -3,6 +3,7 @@ use Rattle.cpg_cube.proofs.CubeLows.{holds-from}
 use Rattle.cpg_tree.proofs.Forks.{from_false}
 use Rattle.cpg_row_trees.proofs.listed.step_of.Goals as goal
 
+-- nothing of the space is above the literal's high and nothing below its low, so it holds there and lies inside
 pub returns-then-literal-space-2 : goal.returns-then-literal-space-2
 returns-then-literal-space-2 c =
     let l = c.args.literal in

@@ -26,6 +26,7 @@ build_forked_places-build_place_tree-requires-2 t c =
     let below = OnTrue_at c.if-not-has_below.false c.in_ok-has_below.ensures.added in
     omega (arith, c.decreases, c.left_after-growth.ensures, below.fewer)
 
+-- the trees of the places kept on both sides, under the fork, are the tree of all, and the space is as before
 pub build_forked_places-returns : goal.build_forked_places-returns
 build_forked_places-returns t c =
     let space : Space = c.args.space.now in
@@ -70,6 +71,7 @@ build_forked_places-returns t c =
           c.close_below-was.result c.reopen_below.ensures c.close_below-was.ensures.back ∙ back;
     }
 
+-- the leaf says which of the places a scenario of the space matches, so it is their tree
 pub build_place_tree-returns-in_ok-add_leaf-in-Leaf-clause-added :
     goal.build_place_tree-returns-in_ok-add_leaf-in-Leaf-clause-added
 build_place_tree-returns-in_ok-add_leaf-in-Leaf-clause-added t c =

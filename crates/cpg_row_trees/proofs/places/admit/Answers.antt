@@ -11,6 +11,7 @@ use Rattle.cpg_row_trees.specs.PlaceHints.{KeepsPlace}
 use Rattle.cpg_row_trees.proofs.PlaceHintLaws.{cube_here, kept_out, kept_in}
 use Rattle.cpg_row_trees.proofs.places.admit.Goals as goal
 
+-- no scenario of the space has the faults that the cube asks for, so the place needn't be added
 pub returns-then-not-affords : goal.returns-then-not-affords
 returns-then-not-affords c =
     let cubes : List (List Literal) = map (λ (b : Bor (List Literal)). b.now) c.args.cubes.now in
@@ -23,6 +24,7 @@ returns-then-not-affords c =
     (subst (λ xs. matches xs s ≡ true) (sym c.literals-literals.ensures.literals)
     (subst (λ xs. matches xs s ≡ true) at h.1.matched)))
 
+-- the place was added
 pub returns : goal.returns
 returns c =
     let cubes : List (List Literal) = map (λ (b : Bor (List Literal)). b.now) c.args.cubes.now in

@@ -12,6 +12,7 @@ pub loop-place-init : goal.loop-place-init
 loop-place-init c = keeps_none (map (λ (b : Bor (List Literal)). b.now) c.args.cubes.now) (IsInSpace c.args.space.now)
     (places_of c.in_ok-hints.hints.items)
 
+-- with the next place admitted, the places of one cube more are kept
 pub loop-place-preserved : goal.loop-place-preserved
 loop-place-preserved c =
     let cubes : List (List Literal) = map (λ (b : Bor (List Literal)). b.now) c.args.cubes.now in

@@ -4,6 +4,7 @@ use Rattle.cpg_tree.specs.Space.{IsInSpace}
 use Rattle.cpg_row_trees.specs.PlaceHints.{KeepsWhere, places_of}
 use Rattle.cpg_row_trees.proofs.places.hints_of.Given as goal
 
+-- after each place, `hints` keeps the places so far whose cubes hold somewhere in the space
 abbrev pub invariant-loop-place : goal.invariant-loop-place
 invariant-loop-place l =
     KeepsWhere (map (λ b. b.now) l.cubes) (IsInSpace l.space) (numbers_below l.place) (places_of l.hints.items)

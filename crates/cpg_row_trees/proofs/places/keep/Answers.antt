@@ -7,6 +7,7 @@ use Rattle.cpg_row_trees.specs.Places.{IsMatched}
 use Rattle.cpg_row_trees.proofs.PlaceHintLaws.{cube_here, kept_for}
 use Rattle.cpg_row_trees.proofs.places.keep.Goals as goal
 
+-- a scenario up to the cut that matches the cube is in the range of its literals, so the place is kept for it
 pub returns-clause-low : goal.returns-clause-low
 returns-clause-low c =
     let cubes : List (List Literal) = map (λ (b : Bor (List Literal)). b.now) c.args.cubes.now in
@@ -24,6 +25,7 @@ returns-clause-low c =
     ))
     c.in_ok-keep_below.ensures
 
+-- a scenario above the cut that matches the cube matches its literals, so the place is kept for it
 pub returns-clause-high : goal.returns-clause-high
 returns-clause-high c =
     let cubes : List (List Literal) = map (λ (b : Bor (List Literal)). b.now) c.args.cubes.now in

@@ -9,6 +9,7 @@ use Rattle.cpg_row_trees.specs.PlaceHints.{KeepsPlace}
 use Rattle.cpg_row_trees.proofs.PlaceHintLaws.{kept_out, kept_in}
 use Rattle.cpg_row_trees.proofs.places.keep_above.Goals as goal
 
+-- no number above the cut is in the range, so no scenario above the cut matches
 pub returns-then-range-saturating_add-clause-kept : goal.returns-then-range-saturating_add-clause-kept
 returns-then-range-saturating_add-clause-kept c =
     let v = c.args.span.cut.variable in
@@ -22,6 +23,7 @@ returns-then-range-saturating_add-clause-kept c =
       c.requires.range.high s h.1 (omega (arith, c.if-range-saturating_add.true, c.saturating_add.ensures)),
     ))
 
+-- above the cut too few faults are left for the literals, so no scenario there matches
 pub returns-then-not-do_suffice_above-clause-kept : goal.returns-then-not-do_suffice_above-clause-kept
 returns-then-not-do_suffice_above-clause-kept c =
     let v = c.args.span.cut.variable in
@@ -30,6 +32,7 @@ returns-then-not-do_suffice_above-clause-kept c =
     both_ways (matches c.args.literals.now s) (from_false c.do_suffice_above.result c.if-not-do_suffice_above.true
     c.do_suffice_above.ensures.none s h.0.0 h.0.1) h.1)
 
+-- the place was added
 pub returns-clause-kept : goal.returns-clause-kept
 returns-clause-kept c =
     let v = c.args.span.cut.variable in

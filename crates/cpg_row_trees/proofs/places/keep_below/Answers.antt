@@ -11,6 +11,7 @@ returns-then-range-span c =
     kept_out (λ s. (number_of s v ≤ c.args.span.cut.most) × (c.args.range.low ≤ number_of s v)) c.args.hint.place
     c.args.low.now.items (λ s h. omega (arith, h.0, h.1, c.if-range-span.true))
 
+-- the place was added
 pub returns : goal.returns
 returns c =
     let v = c.args.span.cut.variable in

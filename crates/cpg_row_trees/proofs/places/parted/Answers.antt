@@ -10,6 +10,7 @@ use Rattle.cpg_row_trees.specs.PlaceHints.{IsOpenCut, KeepsPlace, KeepsWhere, pl
 use Rattle.cpg_row_trees.proofs.PlaceHintLaws.{keeps_more, keeps_none}
 use Rattle.cpg_row_trees.proofs.places.parted.Goals as goal
 
+-- before the first hint, nothing has to be kept
 pub loop-hint-init : goal.loop-hint-init
 loop-hint-init c =
     let cubes : List (List Literal) = map (λ (b : Bor (List Literal)). b.now) c.args.cubes.now in
@@ -21,6 +22,7 @@ loop-hint-init c =
       same = refl;
     }
 
+-- with the next place kept on the sides that it goes to, one place more is kept on both
 pub loop-hint-preserved : goal.loop-hint-preserved
 loop-hint-preserved c =
     let cubes : List (List Literal) = map (λ (b : Bor (List Literal)). b.now) c.args.cubes.now in
@@ -52,6 +54,7 @@ returns-clause-low c =
     (places_of es) (places_of c.loop-hint.low.items))
     (take_all c.loop-hint.hint-index c.args.hints.now c.loop-hint-test.false) c.loop-hint.invariant.low
 
+-- the loop has seen all hints, so their places are kept above the cut
 pub returns-clause-high : goal.returns-clause-high
 returns-clause-high c =
     let cubes : List (List Literal) = map (λ (b : Bor (List Literal)). b.now) c.args.cubes.now in

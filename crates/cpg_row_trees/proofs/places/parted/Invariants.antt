@@ -4,6 +4,8 @@ use Rattle.cpg_tree.specs.Space.{IsInSpace}
 use Rattle.cpg_row_trees.specs.PlaceHints.{KeepsWhere, places_of}
 use Rattle.cpg_row_trees.proofs.places.parted.Given as goal
 
+-- After each hint: `low` keeps the places so far that matter where the variable is at most the cut, `high` keeps
+-- those that matter in the space above the cut, and the space has been restored.
 abbrev pub invariant-loop-hint : goal.invariant-loop-hint
 invariant-loop-hint l = record {
   low : KeepsWhere (map (λ b. b.now) l.cubes) (λ s. number_of s l.span.cut.variable ≤ l.span.cut.most)

@@ -10,6 +10,7 @@ use Rattle.cpg_row_trees.proofs.PlaceHintLaws.{found_of_all}
 use Rattle.cpg_row_trees.proofs.PlacesSeen.{place_is}
 use Rattle.cpg_row_trees.proofs.places.place_tree_by.Goals as goal
 
+-- the items were added to an empty list, so they are those of a tree
 pub grown-requires : goal.grown-requires
 grown-requires c =
     let found = (OnTrue_at c.if-not-has_tree.false c.in_ok-has_tree.ensures.added).found in (
@@ -18,6 +19,7 @@ grown-requires c =
           c.in_ok-growth.ensures.items found.1,
     )
 
+-- the tree gives a match among the places that were kept, which is the one cube that the scenario matches
 pub returns : goal.returns
 returns c s few =
     let cubes : List (List Literal) = map (λ (b : Bor (List Literal)). b.now) c.args.cubes.now in

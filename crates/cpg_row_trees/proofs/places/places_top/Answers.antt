@@ -4,6 +4,8 @@ use Rattle.cpg_tree.proofs.Forks.{from_true}
 use Rattle.cpg_row_trees.proofs.PlaceHintLaws.{cube_here, within_lent, only_first}
 use Rattle.cpg_row_trees.proofs.places.places_top.Goals as goal
 
+-- the first place is the only one left, and its cube's open literals hold in the whole space, so each scenario
+-- matches it
 pub returns : goal.returns
 returns c s lies =
     let look = c.in-Some-get.ensures.lookup in

@@ -12,6 +12,7 @@ use Rattle.cpg_row_trees.proofs.SliceLaws.{under_reached, over_reached, own_unde
 use Rattle.cpg_row_trees.proofs.SliceLaws.{slice_tree_parted, above_again, below_again, over_again, goes_again}
 use Rattle.cpg_row_trees.proofs.slices.+build_slice_tree.Goals as goal
 
+-- forks lead to the side below the cut, and the path with the range below says who is in it
 pub build_forked_slice-build_slice_tree-requires : goal.build_forked_slice-build_slice_tree-requires
 build_forked_slice-build_slice_tree-requires t c = (
   omega (arith, c.decreases),
@@ -29,6 +30,7 @@ build_forked_slice-build_slice_tree-requires t c = (
   ),
 )
 
+-- the same for the side above the cut, once the space and the path are as before
 pub build_forked_slice-build_slice_tree-requires-2 : goal.build_forked_slice-build_slice_tree-requires-2
 build_forked_slice-build_slice_tree-requires-2 t c =
     let space : Space = c.args.space.now in
@@ -61,6 +63,7 @@ build_forked_slice-build_slice_tree-requires-2 t c =
       ),
     )
 
+-- the trees of both slices, under the fork, are the tree of the whole slice; the space and the path are as before
 pub build_forked_slice-returns : goal.build_forked_slice-returns
 build_forked_slice-returns t c =
     let space : Space = c.args.space.now in
@@ -114,6 +117,7 @@ build_forked_slice-leave-requires-2 t c =
     OnTrue_at c.if-not-has_above.false c.in_ok-has_above.ensures.path in
     omega (arith, ap (λ (ls : List Literal). length ls) same_above, c.in_ok-over.ensures.some)
 
+-- the leaf finds the matches of the slice, so it is the slice's tree
 pub build_slice_tree-returns-in_ok-add_leaf-in-Leaf-clause-added :
     goal.build_slice_tree-returns-in_ok-add_leaf-in-Leaf-clause-added
 build_slice_tree-returns-in_ok-add_leaf-in-Leaf-clause-added t c =

@@ -1,5 +1,6 @@
 use Rattle.std.proofs.Common.{◌-◌}
 use Rattle.cpg_row_trees.proofs.slices.border_of.Given as goal
 
+-- each turn halves what lies between `first` and `end`, so it gets shorter
 abbrev pub decreases-loop-first : goal.decreases-loop-first
 decreases-loop-first l = l.end - l.first

@@ -3,6 +3,7 @@ use Rattle.cpg_tree.proofs.Forks.{from_true}
 use Rattle.cpg_row_trees.proofs.SliceLaws.{bounds_more}
 use Rattle.cpg_row_trees.proofs.slices.bounds_of.Goals as goal
 
+-- the next literal holds in the whole space and lies inside it, and counts if its variable is narrow
 pub loop-literal-preserved : goal.loop-literal-preserved
 loop-literal-preserved c =
     bounds_more c.args.k c.args.space.now c.args.literals.now c.loop-literal.literal-index c.loop-literal.found

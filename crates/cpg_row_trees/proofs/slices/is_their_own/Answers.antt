@@ -5,6 +5,7 @@ use Rattle.cpg_row_trees.specs.Slices.{AreSpaceBounds}
 use Rattle.cpg_row_trees.proofs.SliceLaws.{own}
 use Rattle.cpg_row_trees.proofs.slices.is_their_own.Goals as goal
 
+-- the literals are on as many narrow variables as the space has, so they say who is in it
 pub returns-in-Some : goal.returns-in-Some
 returns-in-Some c =
     let bounds : AreSpaceBounds c.args.k c.args.space.now c.args.literals.now c.in-Some.found = subst

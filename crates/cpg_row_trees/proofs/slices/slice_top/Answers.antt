@@ -11,6 +11,7 @@ pub is_their_own-requires-clause-rising : goal.is_their_own-requires-clause-risi
 is_their_own-requires-clause-rising c =
     subst IsRising (sym c.literals-literals.ensures.literals) c.literals-literals.ensures.rising
 
+-- the slice has one cube, and its literals say who is in the space, so the leaf is right
 pub returns-then-is_their_own : goal.returns-then-is_their_own
 returns-then-is_their_own c =
     let look = c.in-Some.ensures.lookup in
@@ -23,6 +24,7 @@ returns-then-is_their_own c =
     (subst (IsOwn c.args.k c.args.space.now) c.literals-literals.ensures.literals
     (from_true c.is_their_own.result c.if-is_their_own.true c.is_their_own.ensures)))
 
+-- the slice has one cube, and its literals are those of the path, so the leaf is right
 pub returns-then-are_same_literals : goal.returns-then-are_same_literals
 returns-then-are_same_literals c =
     let look = c.in-Some.ensures.lookup in

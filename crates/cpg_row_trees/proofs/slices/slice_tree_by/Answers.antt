@@ -17,6 +17,7 @@ build_slice_tree-requires c = record {
       (whole_own c.args.k c.whole-space.result c.whole-space.ensures.lies);
 }
 
+-- the items were added to an empty list, so they are those of a tree
 pub grown-requires : goal.grown-requires
 grown-requires c =
     let finds = (OnTrue_at c.if-not-has_tree.false c.in_ok-has_tree.ensures.added).finds in (
@@ -25,6 +26,7 @@ grown-requires c =
           c.in_ok-growth.ensures.items finds.1,
     )
 
+-- the tree finds the matches of all cubes, so it gives the place of the one that the scenario matches
 pub returns : goal.returns
 returns c s few =
     let cubes : List (List Literal) = map (λ (b : Bor (List Literal)). b.now) c.args.cubes.now in

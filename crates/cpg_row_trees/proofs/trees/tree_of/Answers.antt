@@ -11,6 +11,7 @@ of-requires c =
     ap (map (λ (b : Bor (List Literal)). b.now)) c.as_slice.ensures.value ∙ c.in_ok-cubes.ensures in
     omega (arith, c.requires, as_long c.as_slice.result.now c.args.columns.now same)
 
+-- the cubes that are referred to are those of the columns, so their tree is that of the row
 pub returns : goal.returns
 returns c =
     let same : map (λ (b : Bor (List Literal)). b.now) c.as_slice.result.now

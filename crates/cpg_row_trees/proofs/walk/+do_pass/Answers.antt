@@ -14,6 +14,7 @@ returns-in-Value g t c =
     c.in-Value.place n
     (flat-same n (Leaf c.in-Value.place) (sym are ∙ c.in-Value.ensures.shows)) all)
 
+-- no scenario of the space is below the cut, so the side above passes for all
 pub returns-then-not-is_open_below : goal.returns-then-not-is_open_below
 returns-then-not-is_open_below g t c =
     let shows = c.in-Cut.ensures.shows in
@@ -23,6 +24,7 @@ returns-then-not-is_open_below g t c =
     (flat-same n (Fork c.in-Cut.variable c.in-Cut.cut shows.0 shows.1) (sym are ∙ shows.4)) (all shows.1 shows.3)
     (from_false c.is_open_below.result c.if-not-is_open_below.true c.is_open_below.ensures.none))
 
+-- no scenario of the space is above the cut, so the side below passes for all
 pub returns-then-not-is_open_above : goal.returns-then-not-is_open_above
 returns-then-not-is_open_above g t c =
     let shows = c.in-Cut.ensures.shows in

@@ -10,6 +10,7 @@ use Rattle.cpg_row_trees.proofs.Passes.{holds_leaf, holds_above, holds_below, ho
 use Rattle.cpg_row_trees.proofs.SliceLaws.{above_again, goes_again}
 use Rattle.cpg_row_trees.proofs.walk.+do_pass_both.Goals as goal
 
+-- the first tree is one leaf, which passes beside each place of the second
 pub do_pass_both-returns-in-Value-clause-passed : goal.do_pass_both-returns-in-Value-clause-passed
 do_pass_both-returns-in-Value-clause-passed g t c =
     of_true c.do_pass_at.result c.do_pass_at.ensures.passed
@@ -18,6 +19,7 @@ do_pass_both-returns-in-Value-clause-passed g t c =
     c.args.space.now c.in-Value.place n
     (flat-same n (Leaf c.in-Value.place) (sym are ∙ c.in-Value.ensures.shows)) (all m seconds))
 
+-- no scenario of the space is below the cut, so the side above passes for all
 pub do_pass_both-returns-then-not-is_open_below-clause-passed :
     goal.do_pass_both-returns-then-not-is_open_below-clause-passed
 do_pass_both-returns-then-not-is_open_below-clause-passed g t c =
@@ -33,6 +35,7 @@ do_pass_both-returns-then-not-is_open_below-clause-passed g t c =
     (all shows.1 part.0 shows.3 part.1)
     (from_false c.is_open_below.result c.if-not-is_open_below.true c.is_open_below.ensures.none)))
 
+-- no scenario of the space is above the cut, so the side below passes for all
 pub do_pass_both-returns-then-not-is_open_above-clause-passed :
     goal.do_pass_both-returns-then-not-is_open_above-clause-passed
 do_pass_both-returns-then-not-is_open_above-clause-passed g t c =
@@ -48,6 +51,7 @@ do_pass_both-returns-then-not-is_open_above-clause-passed g t c =
     (all shows.0 part.0 shows.2 part.1)
     (from_false c.is_open_above.result c.if-not-is_open_above.true c.is_open_above.ensures.none)))
 
+-- both sides pass beside the second tree, and each scenario of the space lies in one of them
 pub do_pass_both-returns-else-not-do_pass_beside-2-clause-passed :
     goal.do_pass_both-returns-else-not-do_pass_beside-2-clause-passed
 do_pass_both-returns-else-not-do_pass_beside-2-clause-passed g t c n m are seconds =
@@ -74,6 +78,7 @@ do_pass_both-returns-else-not-do_pass_beside-2-clause-passed g t c n m are secon
     (flat-same n (Fork v cut shows.0 shows.1) (sym are ∙ shows.4))
     (λ s lies h. low s (c.close_above-most.ensures.lies s lies h)) (λ s lies h. high s (goes_over s lies h)))
 
+-- the first tree is one leaf, which passes beside each place of the second
 pub do_pass_beside-returns-in-Value-clause-passed : goal.do_pass_beside-returns-in-Value-clause-passed
 do_pass_beside-returns-in-Value-clause-passed g t c =
     of_true c.do_pass_at.result c.do_pass_at.ensures.passed

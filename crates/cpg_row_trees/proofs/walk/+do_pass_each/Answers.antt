@@ -16,6 +16,7 @@ do_pass_each-returns-in-Value-clause-passed g t c =
     c.in-Value.place n
     (flat-same n (Leaf c.in-Value.place) (sym are ∙ c.in-Value.ensures.shows)) all)
 
+-- no scenario of the space is below the cut, so the side above passes for all
 pub do_pass_each-returns-then-not-is_open_below-clause-passed :
     goal.do_pass_each-returns-then-not-is_open_below-clause-passed
 do_pass_each-returns-then-not-is_open_below-clause-passed g t c =
@@ -26,6 +27,7 @@ do_pass_each-returns-then-not-is_open_below-clause-passed g t c =
     (flat-same n (Fork c.in-Cut.variable c.in-Cut.cut shows.0 shows.1) (sym are ∙ shows.4)) (all shows.1 shows.3)
     (from_false c.is_open_below.result c.if-not-is_open_below.true c.is_open_below.ensures.none))
 
+-- no scenario of the space is above the cut, so the side below passes for all
 pub do_pass_each-returns-then-not-is_open_above-clause-passed :
     goal.do_pass_each-returns-then-not-is_open_above-clause-passed
 do_pass_each-returns-then-not-is_open_above-clause-passed g t c =
@@ -36,6 +38,7 @@ do_pass_each-returns-then-not-is_open_above-clause-passed g t c =
     (flat-same n (Fork c.in-Cut.variable c.in-Cut.cut shows.0 shows.1) (sym are ∙ shows.4)) (all shows.0 shows.2)
     (from_false c.is_open_above.result c.if-not-is_open_above.true c.is_open_above.ensures.none))
 
+-- both sides pass, and each scenario of the space lies in one of them
 pub do_pass_each-returns-else-not-do_pass_side-2-clause-passed :
     goal.do_pass_each-returns-else-not-do_pass_side-2-clause-passed
 do_pass_each-returns-else-not-do_pass_side-2-clause-passed g t c n are =

@@ -1,6 +1,7 @@
 use Rattle.cpg_base.proofs.Within.{well_formed}
 use Rattle.cpg_rules.proofs.admission.judge.Goals as goal
 
+-- each check has shown its rule, and all rules together admit the graph
 pub returns-clause-admitted : goal.returns-clause-admitted
 returns-clause-admitted c = record {
   limits = c.in_ok-slotted.ensures.limits;

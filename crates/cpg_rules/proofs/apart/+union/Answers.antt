@@ -8,6 +8,7 @@ use Rattle.cpg_rules.proofs.Sharing.{roots_stay, extends_known}
 use Rattle.cpg_rules.proofs.SharedSteps.{union_none, union_live, union_apart, union_stays}
 use Rattle.cpg_rules.proofs.apart.+union.Goals as goal
 
+-- the roots and the later inputs are still those of the graph after the first input's part is made
 pub union-requires : goal.union-requires
 union-requires t c = (
   search rules,
@@ -19,6 +20,7 @@ union-requires t c = (
   ),
 )
 
+-- the later inputs have no tree, so all inputs have none
 pub returns-in_default-2 : goal.returns-in_default-2
 returns-in_default-2 t c = union_none c.args.problem.now c.args.parts.now c.input_part.new.parts c.union.new.parts
     (process_count c.args.problem.now) c.args.roots.now c.requires.roots
@@ -26,6 +28,7 @@ returns-in_default-2 t c = union_none c.args.problem.now c.args.parts.now c.inpu
     (sym c.is_empty.ensures ∙ c.if-is_empty.false) c.in_ok-first.first c.in_ok-first.ensures c.in_ok-later.field-0
     c.in_default-2.is c.in_ok-later.ensures
 
+-- the first input is live at once with a later one, so the inputs have no tree
 pub returns-then-are_both_live : goal.returns-then-are_both_live
 returns-then-are_both_live t c = union_stays c.args.parts.now c.union.new.parts c.are_both_live.new.self
     (union c.args.problem.now c.args.parts.now.ranks
@@ -39,6 +42,7 @@ returns-then-are_both_live t c = union_stays c.args.parts.now c.union.new.parts 
     (extends_known c.union.new.parts c.are_both_live.new.self c.are_both_live.ensures.parts
     c.are_both_live.ensures.ranks)
 
+-- the first input is never live at once with a later one, so both parts make the part of all inputs
 pub returns : goal.returns
 returns t c = union_apart c.args.problem.now c.args.parts.now c.input_part.new.parts c.are_both_live.new.self
     (process_count c.args.problem.now) c.args.roots.now c.requires.roots

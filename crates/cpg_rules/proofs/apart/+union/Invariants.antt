@@ -1,5 +1,6 @@
 use Rattle.std.proofs.Common.{length}
 use Rattle.cpg_rules.proofs.apart.+union.Given as goal
 
+-- each call of `union` goes to the inputs behind the first, so the list gets shorter
 abbrev pub decreases-union : goal.decreases-union
 decreases-union l = length l.inputs.now

@@ -6,6 +6,7 @@ use Rattle.cpg_rules.proofs.Sharing.{extends_both, extends_known}
 use Rattle.cpg_rules.proofs.SharedSteps.{apart_more, union_extends}
 use Rattle.cpg_rules.proofs.apart.are_apart.Goals as goal
 
+-- the inputs are apart exactly if the first is never live at once with a later one
 pub returns-clause-apart : goal.returns-clause-apart
 returns-clause-apart c = ap not c.are_both_live.ensures.live
     ∙ apart_more c.args.problem.now c.args.parts.now c.union.new.parts c.input_part.new.parts
@@ -13,6 +14,7 @@ returns-clause-apart c = ap not c.are_both_live.ensures.live
     c.in-Some.input.now c.in-Some.left.now c.args.inputs.now (search rules) c.in_ok-first.first c.in-Some-2.later
     c.in_ok-later.field-0 c.in-Some-2.is c.in_ok-later.ensures c.in_ok-first.ensures
 
+-- each of the three steps only adds parts
 pub returns-clause-more : goal.returns-clause-more
 returns-clause-more c = extends_both c.args.parts.now c.input_part.new.parts c.are_both_live.new.self
     (extends_both c.args.parts.now c.union.new.parts c.input_part.new.parts

@@ -7,6 +7,7 @@ pub are_apart-requires-clause-inputs : goal.are_apart-requires-clause-inputs
 are_apart-requires-clause-inputs c = rw (c.as_slice.ensures.value, c.in_ok-inputs.ensures)
     (inputs_within c.args.problem.now c.requires.guards.order c.requires.guards.topological c.args.process)
 
+-- the inputs are apart by their trees, so no outcome makes two of them live
 pub returns-clause-single : goal.returns-clause-single
 returns-clause-single c = λ is values join long. apart_single c.args.problem.now c.requires.guards.order
     c.requires.guards.topological c.requires.guards.guards c.requires.guards.are

@@ -6,6 +6,7 @@ use Rattle.cpg_rules.proofs.Sharing.{roots_stay}
 use Rattle.cpg_rules.proofs.SharedSteps.{composed_more}
 use Rattle.cpg_rules.proofs.composing.+composed.Goals as goal
 
+-- the roots and the later inputs are still those of the graph after the first input's part is made
 pub composed-requires : goal.composed-requires
 composed-requires t c = (
   search rules,
@@ -17,6 +18,7 @@ composed-requires t c = (
   ),
 )
 
+-- the parts of the first input and of the later ones make the part of all inputs
 pub returns : goal.returns
 returns t c = composed_more c.args.problem.now c.args.join c.args.parts.now c.input_part.new.parts
     c.composed.new.parts c.met.new.self

@@ -6,6 +6,7 @@ use Rattle.cpg_rules.specs.Sharing.{Makes, trees_of}
 use Rattle.cpg_rules.proofs.SharedSteps.{step_roots, step_along}
 use Rattle.cpg_rules.proofs.composing.composed_along.Goals as goal
 
+-- the part of one more process is made, and its root is set
 pub loop-step-preserved : goal.loop-step-preserved
 loop-step-preserved c =
     let here = drop_more c.args.steps.now c.loop-step.step-index c.step-item.result c.loop-step-test.true ∙

@@ -4,6 +4,8 @@ use Rattle.cpg_rules.specs.Composing.{composed_along}
 use Rattle.cpg_rules.specs.Sharing.{trees_of, AreRoots}
 use Rattle.cpg_rules.proofs.composing.composed_along.Given as goal
 
+-- After each step: each process has a root that is a part, the ranks have not changed, and the steps left, from the
+-- trees so far, lead to the same trees as all the steps from the first trees.
 abbrev pub invariant-loop-step : goal.invariant-loop-step
 invariant-loop-step l = record {
   roots : AreRoots l.parts.parts (process_count l.problem) l.roots.items;

@@ -4,6 +4,7 @@ use Rattle.cpg_base.specs.Order.{place}
 use Rattle.cpg_base.proofs.Lists.{map_below_push}
 use Rattle.cpg_rules.proofs.composing.ranks_of.Goals as goal
 
+-- the rank of one more condition is found
 pub loop-condition-preserved : goal.loop-condition-preserved
 loop-condition-preserved c = map_below_push (λ d. place c.args.order.now (process_of c.args.problem.now d))
     c.loop-condition.ranks.items c.push.new.self.items c.place.result c.loop-condition.condition

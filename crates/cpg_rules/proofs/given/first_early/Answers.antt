@@ -2,6 +2,7 @@ use Rattle.std.proofs.Common.{◌<◌, ◌≤◌, length, arith, sym, ap, ◌∙
 use Rattle.cpg_rules.proofs.GivenOrders.{at_place, early_first, early_nowhere}
 use Rattle.cpg_rules.proofs.given.first_early.Goals as goal
 
+-- what stands in the order is a process of the graph
 pub is_early-requires-clause-process : goal.is_early-requires-clause-process
 is_early-requires-clause-process c =
     let inside : c.loop-process.process-index < length c.args.order.now =
@@ -9,6 +10,7 @@ is_early-requires-clause-process c =
     rw c.processes-process-items.ensures.processes (at_place c.args.problem.now c.args.order.now
     c.processes-process-items.ensures.order c.requires c.loop-process.process-index inside)
 
+-- no process before this one is early, so it is the first
 pub returns-then-is_early-clause-some : goal.returns-then-is_early-clause-some
 returns-then-is_early-clause-some c =
     let inside : c.loop-process.process-index < length c.args.order.now =
@@ -18,6 +20,7 @@ returns-then-is_early-clause-some c =
     (early_first c.args.problem.now c.args.order.now c.processes-process-items.ensures.order c.requires
     c.loop-process.process-index inside c.loop-process.invariant early)
 
+-- all places have been visited, so no process is early
 pub returns-clause-none : goal.returns-clause-none
 returns-clause-none c =
     let past : length c.args.order.now ≤ c.loop-process.process-index =

@@ -9,12 +9,14 @@ order_of-requires c =
     let within = given_within c.args.problem.now c.in-Some.list.now c.in-Some.ensures.order c.in-Some.ensures.within in
     order_lawful c.args.problem.now c.in-Some.list.now within c.in_default-lacking.ensures.none c.in-Some.ensures.within
 
+-- a list that lacks no process is as long as there are processes
 pub first_early-requires : goal.first_early-requires
 first_early-requires c =
     let within = given_within c.args.problem.now c.in-Some.list.now c.in-Some.ensures.order c.in-Some.ensures.within in
     ap length c.in_ok-order.ensures
     ∙ whole_long c.args.problem.now c.in-Some.list.now within c.in_default-lacking.ensures.none
 
+-- no process is lacking and none is early, so the given order is topological
 pub returns-clause-topological : goal.returns-clause-topological
 returns-clause-topological c =
     let g = c.args.problem.now in

@@ -7,6 +7,7 @@ use Rattle.cpg_rules.proofs.GivenOrders.{early_by, early_by_none}
 use Rattle.cpg_rules.proofs.given.is_early.Goals as goal
 use Rattle.cpg_rules.proofs.given.is_early.Goals.{then-edge-process+else-place, else-edge-process}
 
+-- this edge leads to the process from one that stands later
 pub returns-then-place : goal.returns-then-place
 returns-then-place c =
     let g = c.args.problem.now in
@@ -19,6 +20,7 @@ returns-then-place c =
     (comes_before_at c.args.order.now c.place-place.ensures.order c.args.process
     (source g e) c.place-place.result c.place.result inside c.place-place.ensures.place from c.if-place.true))
 
+-- this edge doesn't show that the process is early, and neither do those before it
 pub loop-edge-preserved : goal.loop-edge-preserved
 loop-edge-preserved c e l at =
     let g = c.args.problem.now in
@@ -41,6 +43,7 @@ loop-edge-preserved c e l at =
       ]
     ]
 
+-- no edge leads to the process from one that stands later
 pub returns : goal.returns
 returns c =
     let done = c.loop-edge-test.false in

@@ -1,5 +1,6 @@
 use Rattle.std.proofs.Common.{length}
 use Rattle.cpg_rules.proofs.growing.+tracks.Given as goal
 
+-- each call of `tracks` goes to the steps behind the first, so the list gets shorter
 abbrev pub decreases-tracks : goal.decreases-tracks
 decreases-tracks l = length l.steps.now

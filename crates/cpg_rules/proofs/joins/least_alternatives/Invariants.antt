@@ -3,6 +3,7 @@ use Rattle.cpg_rules.specs.Alternatives.{IsSingleJoin}
 use Rattle.cpg_rules.specs.Sharing.{Extends}
 use Rattle.cpg_rules.proofs.joins.least_alternatives.Given as goal
 
+-- after each process: the parts have only grown, and no outcome gives a join so far two live inputs
 abbrev pub invariant-loop-process : goal.invariant-loop-process
 invariant-loop-process l = record {
   more : Extends l.fn.parts l.parts;

@@ -13,6 +13,7 @@ found_from-requires c = rw (c.as_slice.ensures.value, c.in_ok-steps.ensures, c.r
     (all_rested (IsStepBelow 128) (Process c.args.process) _ (steps_below c.args.problem.now c.args.order.now
     c.requires.topological 128 c.processes.ensures.within.few_processes))
 
+-- the search along the steps that the process rests on finds nothing, so there is nothing
 pub returns-in-None-clause-none : goal.returns-in-None-clause-none
 returns-in-None-clause-none c = λ values join long. rested_none c.args.problem.now c.args.order.now
     c.requires.topological c.processes.ensures.within.few_processes c.args.process c.requires.process
@@ -20,6 +21,7 @@ returns-in-None-clause-none c = λ values join long. rested_none c.args.problem.
     ∙ ap (λ s. found_from c.args.process s (replicate 128 None))
     (sym (c.as_slice.ensures.value ∙ c.in_ok-steps.ensures)) ∙ sym c.in-None.ensures) values
 
+-- the search along the steps that the process rests on finds the least scenario of all
 pub returns-clause-some : goal.returns-clause-some
 returns-clause-some c = subst (IsLeast c.args.problem.now c.args.order.now
     (λ s. has_two_live c.args.problem.now s.values c.args.process ≡ true)) (sym c.in_ok-least-in-Some.ensures)

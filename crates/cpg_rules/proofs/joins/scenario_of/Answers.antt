@@ -3,6 +3,7 @@ use Rattle.cpg_base.proofs.Items.{process_of_below}
 use Rattle.cpg_rules.proofs.Outcome.{scenario_given}
 use Rattle.cpg_rules.proofs.joins.scenario_of.Goals as goal
 
+-- the process of a condition has a standing
 pub bounds-standings-process : goal.bounds-standings-process
 bounds-standings-process c =
     let within = c.loop-condition-test.true in
@@ -14,6 +15,7 @@ bounds-standings-process c =
       c.process_of-process.ensures.process,
     )
 
+-- all conditions have been set, so this is the scenario of the standings
 pub returns : goal.returns
 returns c =
     let done = c.loop-condition-test.false in

@@ -3,6 +3,8 @@ use Rattle.cpg_base.specs.Graph.{process_count, condition_count, process_of}
 use Rattle.cpg_rules.specs.Alternatives.{is_set}
 use Rattle.cpg_rules.proofs.joins.scenario_of.Given as goal
 
+-- After each condition: the scenario has a value for each condition and no faults, and the value of each condition so
+-- far is that of the standing of its process.
 abbrev pub invariant-loop-condition : goal.invariant-loop-condition
 invariant-loop-condition l = record {
   long : length l.scenario.values ≡ condition_count l.problem;

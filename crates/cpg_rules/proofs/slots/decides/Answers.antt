@@ -4,6 +4,7 @@ use Rattle.cpg_base.proofs.Items.{process_of_below}
 use Rattle.cpg_rules.proofs.Senders.{any_there, any_nowhere}
 use Rattle.cpg_rules.proofs.slots.decides.Goals as goal
 
+-- the process of a condition is one of the graph
 pub node_of-requires : goal.node_of-requires
 node_of-requires c =
     let within = c.loop-condition-test.true in
@@ -14,6 +15,7 @@ node_of-requires c =
       c.process_of.ensures.process,
     )
 
+-- the process of this condition is on the node
 pub returns-then-node_of-node : goal.returns-then-node_of-node
 returns-then-node_of-node c =
     let within = c.loop-condition-test.true in
@@ -24,6 +26,7 @@ returns-then-node_of-node c =
     (sym (ap (node_of c.args.problem.now) c.process_of.ensures.process) ∙ sym c.node_of.ensures.node
     ∙ c.if-node_of-node.true)))
 
+-- all conditions have been visited, and none has its process on the node
 pub returns : goal.returns
 returns c =
     let done = c.loop-condition-test.false in

@@ -4,6 +4,7 @@ use Rattle.cpg_rules.specs.Rules.{is_message_of}
 use Rattle.cpg_rules.proofs.Senders.{any_there, any_nowhere}
 use Rattle.cpg_rules.proofs.slots.sends_message.Goals as goal
 
+-- this edge is a message of the node
 pub returns-then-is_message_of : goal.returns-then-is_message_of
 returns-then-is_message_of c =
     let within = c.loop-edge-test.true in
@@ -11,6 +12,7 @@ returns-then-is_message_of c =
     (edge_count c.args.problem.now) c.loop-edge.edge (omega (arith, ap length c.edges.ensures.edges))
     (sym c.if-is_message_of.ensures))
 
+-- all edges have been visited, and none is a message of the node
 pub returns : goal.returns
 returns c =
     let done = c.loop-edge-test.false in

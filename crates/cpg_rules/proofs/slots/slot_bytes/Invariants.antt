@@ -2,5 +2,6 @@ use Rattle.std.proofs.Common.{◌≡◌, drop}
 use Rattle.cpg_rules.specs.Rules.{bytes_in}
 use Rattle.cpg_rules.proofs.slots.slot_bytes.Given as goal
 
+-- no slot so far is one of the node, so its bytes are those that the slots left give it
 abbrev pub invariant-loop-slot : goal.invariant-loop-slot
 invariant-loop-slot l = bytes_in l.slots l.node ≡ bytes_in (drop l.slot-index l.slots) l.node

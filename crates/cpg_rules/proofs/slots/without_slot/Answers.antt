@@ -2,6 +2,7 @@ use Rattle.std.proofs.Common.{ap, length, arith}
 use Rattle.cpg_rules.proofs.Senders.{senders_have_slots}
 use Rattle.cpg_rules.proofs.slots.without_slot.Goals as goal
 
+-- all nodes have been visited, and none that sends lacks a slot
 pub returns-clause-none : goal.returns-clause-none
 returns-clause-none c =
     let done = c.loop-node-test.false in

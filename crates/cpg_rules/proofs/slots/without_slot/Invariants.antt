@@ -2,5 +2,6 @@ use Rattle.std.proofs.Common.{ℕ, ◌≡◌, ◌<◌, false}
 use Rattle.cpg_rules.specs.Rules.{lacks_slot}
 use Rattle.cpg_rules.proofs.slots.without_slot.Given as goal
 
+-- no node so far lacks a slot
 abbrev pub invariant-loop-node : goal.invariant-loop-node
 invariant-loop-node l = (n : ℕ) → n < l.node → lacks_slot l.problem n ≡ false

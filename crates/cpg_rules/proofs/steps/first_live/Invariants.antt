@@ -2,5 +2,6 @@ use Rattle.std.proofs.Common.{◌≡◌, drop}
 use Rattle.cpg_rules.specs.Growing.{first_live}
 use Rattle.cpg_rules.proofs.steps.first_live.Given as goal
 
+-- no input so far is live, so the first live one is the first of those left
 abbrev pub invariant-loop-input : goal.invariant-loop-input
 invariant-loop-input l = first_live l.standings l.inputs ≡ first_live l.standings (drop l.input-index l.inputs)

@@ -2,6 +2,7 @@ use Rattle.cpg_rules.proofs.Inputs.{one_more, none_more}
 use Rattle.cpg_rules.proofs.steps.inputs_of.Goals as goal
 use Rattle.cpg_rules.proofs.steps.inputs_of.Goals.{then-ends-process+in_ok-push, else-ends-process}
 
+-- an edge that leads to the process is one more input, and any other is passed over
 pub loop-edge-preserved : goal.loop-edge-preserved
 loop-edge-preserved c = elim c.if-ends-process.branch [
   | then-ends-process+in_ok-push w ↦ one_more c.args.problem.now c.edges-ends-items.result.now

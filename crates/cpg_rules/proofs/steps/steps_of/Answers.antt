@@ -2,6 +2,7 @@ use Rattle.std.proofs.Common.{arith, ap, length}
 use Rattle.cpg_base.proofs.Standing.{process_within}
 use Rattle.cpg_rules.proofs.steps.steps_of.Goals as goal
 
+-- what stands in the order is a process of the graph
 pub step_of-requires : goal.step_of-requires
 step_of-requires c =
     let same = c.processes-process-items.ensures.processes in

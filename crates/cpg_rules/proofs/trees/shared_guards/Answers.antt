@@ -19,6 +19,7 @@ use Rattle.cpg_rules.proofs.trees.shared_guards.Goals as goal
 pub steps_of-requires : goal.steps_of-requires
 steps_of-requires c = length_order (process_count c.args.problem.now) c.args.order.now c.requires.all
 
+-- the steps that the count rests on refer to processes of the graph
 pub tracks-requires : goal.tracks-requires
 tracks-requires c =
     rw (c.as_slice-2.ensures.value, c.in_ok-choosing.ensures, c.as_slice.ensures.value, c.in_ok-steps.ensures)
@@ -57,6 +58,7 @@ composed_along-requires-clause-steps c = rw (c.as_slice-3.ensures.value, c.in_ok
 abbrev made_guards : (conditions : ℕ) (trees : List Guard) (edges : List EdgeGuard) → Guards
 made_guards conditions trees edges = record { conditions = conditions; trees = trees; edges = edges }
 
+-- the guards refer to processes and conditions of the graph, as they are those of the graph
 pub invariant_of-guards : goal.invariant_of-guards
 invariant_of-guards c = guards_below c.args.problem.now c.args.order.now c.requires
     (made_guards c.conditions.result c.in_ok-trees.trees.items c.in_ok-edges.edges.items)
@@ -70,6 +72,7 @@ invariant_of-guards c = guards_below c.args.problem.now c.args.order.now c.requi
     (c.in_ok-trees.ensures ∙ ap (trees_of c.composed_along.new.parts.parts) c.as_slice-4.ensures.value
     ∙ c.in_ok-roots.ensures.trees) c.in_ok-edges.ensures)
 
+-- the trees were composed along the order, so they are the guards of the graph
 pub returns-clause-guards : goal.returns-clause-guards
 returns-clause-guards c =
     made c.args.problem.now c.args.order.now c.requires c.seeds.new.parts.ranks
@@ -82,6 +85,7 @@ returns-clause-guards c =
     (c.in_ok-trees.ensures ∙ ap (trees_of c.composed_along.new.parts.parts) c.as_slice-4.ensures.value
     ∙ c.in_ok-roots.ensures.trees) c.in_ok-edges.ensures
 
+-- the tracks were counted along the steps, and there are few enough
 pub returns-clause-few : goal.returns-clause-few
 returns-clause-few c =
     let is = counted c.as_slice-2.result.now

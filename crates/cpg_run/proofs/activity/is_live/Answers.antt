@@ -2,6 +2,7 @@ use Rattle.std.proofs.Common.{arith}
 use Rattle.cpg_rules.proofs.EdgeGuards.{length-edges}
 use Rattle.cpg_run.proofs.activity.is_live.Goals as goal
 
+-- the guards have a place for each edge
 pub live-live-requires-clause-edge : goal.live-live-requires-clause-edge
 live-live-requires-clause-edge c = let a = c.requires.admitted in let within = c.requires.edge in
     omega (arith, length-edges c.args.problem.now a.0 c.args.guards.now a.1.guards)

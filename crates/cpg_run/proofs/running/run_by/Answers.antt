@@ -5,6 +5,7 @@ use Rattle.cpg_run.specs.Progress.{IsAt}
 use Rattle.cpg_run.proofs.Along.{at_last}
 use Rattle.cpg_run.proofs.running.run_by.Goals as goal
 
+-- after the last place all times are known, and they are the run
 pub returns : goal.returns
 returns c =
     let g = c.args.setting.now.problem.now in

@@ -20,6 +20,7 @@ use Rattle.cpg_run.proofs.sending.send.Goals as goal
 item_queued : (xs qs : List ℕ) (k : ℕ) → k < length xs → xs ≡ qs → Contains qs (get_or xs k 0)
 item_queued xs qs k l is = subst (λ ys. Contains ys (get_or xs k 0)) is (Contains-get_or xs k 0 l)
 
+-- before the first item nothing is sent, and no end has changed
 pub loop-item-init : goal.loop-item-init
 loop-item-init c = record {
   sent = λ t run. nothing_sent c.args.setting.now.problem.now c.args.setting.now.order.now
@@ -28,6 +29,7 @@ loop-item-init c = record {
   keeps = record { times = refl; ends = refl };
 }
 
+-- a node with an item in its queue has a slot
 pub send_time-time-requires-clause-slot : goal.send_time-time-requires-clause-slot
 send_time-time-requires-clause-slot c =
     let a = c.requires.setting.admitted in
@@ -37,6 +39,7 @@ send_time-time-requires-clause-slot c =
     (item_queued c.queue-item-items.result.now (queue_of c.args.setting.now.problem.now c.args.process)
     c.loop-item.item-index c.loop-item-test.true c.queue-item-items.ensures))
 
+-- an item in the queue is an item of the graph, so it has a place among the frozen times
 pub send_time-time-requires-clause-frozen : goal.send_time-time-requires-clause-frozen
 send_time-time-requires-clause-frozen c =
     let x = in_queue c.args.setting.now.problem.now c.args.process
@@ -45,6 +48,7 @@ send_time-time-requires-clause-frozen c =
     c.loop-item.item-index c.loop-item-test.true c.queue-item-items.ensures) in
     omega (arith, x.within, c.requires.frozen)
 
+-- the end of the process is that of the run, whose ends are small
 pub send_time-time-requires-clause-early : goal.send_time-time-requires-clause-early
 send_time-time-requires-clause-early c =
     let a = c.requires.setting.admitted in
@@ -55,6 +59,7 @@ send_time-time-requires-clause-early c =
     c.requires.early r.1 in
     omega (arith, c.end-end.ensures, (c.requires.can r.0 r.1).ends, small.ends c.args.process)
 
+-- an item in the queue is an item of the graph, so it has a place among the times
 pub set_time-requires : goal.set_time-requires
 set_time-requires c =
     let x = in_queue c.args.setting.now.problem.now c.args.process
@@ -63,6 +68,7 @@ set_time-requires c =
     c.loop-item.item-index c.loop-item-test.true c.queue-item-items.ensures) in
     omega (arith, x.within, c.requires.times, c.loop-item.invariant.keeps.times)
 
+-- the time is that of the run, so it is small, and so is a round
 pub overflow_add-free : goal.overflow_add-free
 overflow_add-free c =
     let a = c.requires.setting.admitted in
@@ -97,6 +103,7 @@ overflow_add-free c =
       round-le c.args.setting.now.problem.now a.1.limits,
     )
 
+-- an active item with its time set, or an inactive item without one, is one more that has been sent
 pub loop-item-preserved : goal.loop-item-preserved
 loop-item-preserved c =
     let qs = queue_of c.args.setting.now.problem.now c.args.process in
@@ -159,6 +166,7 @@ loop-item-preserved c =
           }
     ]
 
+-- at the end of the loop the whole queue has been sent
 pub returns-clause-sent : goal.returns-clause-sent
 returns-clause-sent c t run =
     let all : c.loop-item.item-index ≡ length (queue_of c.args.setting.now.problem.now c.args.process) =

@@ -2,6 +2,8 @@ use Rattle.cpg_run.specs.Run.{Times, IsRun}
 use Rattle.cpg_run.specs.Progress.{HasSent, KeepsEnds}
 use Rattle.cpg_run.proofs.sending.send.Given as goal
 
+-- After each item of the queue: in every run (there is one) the items so far have their times, and `free` is when the
+-- node can send next. The lengths of the lists of times and ends do not change.
 abbrev pub invariant-loop-item : goal.invariant-loop-item
 invariant-loop-item l = record {
   sent : (t : Times) → IsRun l.setting.problem.now l.setting.order.now l.frozen l.scenario t →

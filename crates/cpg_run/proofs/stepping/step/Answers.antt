@@ -15,6 +15,7 @@ use Rattle.cpg_run.proofs.stepping.step.Goals as goal
 node_read : (xs : List ℕ) (v at node : ℕ) → v ≡ get_or xs at v → at < length xs → at ≡ node → v ≡ get_or xs node 0
 node_read xs v at node is l e = is ∙ get_or_default xs at v 0 l ∙ ap (λ n. get_or xs n 0) e
 
+-- an order has as many places as the graph has processes
 pub at-process-requires : goal.at-process-requires
 at-process-requires c = omega (
   arith,
@@ -23,6 +24,7 @@ at-process-requires c = omega (
       c.requires.setting.topological.all,
 )
 
+-- what stands in an order of the processes is a process of the graph
 pub node_of-node-requires : goal.node_of-node-requires
 node_of-node-requires c = omega (
   arith,
@@ -31,6 +33,7 @@ node_of-node-requires c = omega (
       c.requires.setting.topological.all,
 )
 
+-- what stands in the order is a process of the graph
 pub decided_there-requires-clause-process : goal.decided_there-requires-clause-process
 decided_there-requires-clause-process c =
     omega (
@@ -40,6 +43,7 @@ decided_there-requires-clause-process c =
           c.requires.setting.topological.all,
     )
 
+-- what is known is that of a run with small times, so it is small
 pub decided_there-requires-clause-small : goal.decided_there-requires-clause-small
 decided_there-requires-clause-small c =
     let a = c.requires.setting.admitted in
@@ -50,6 +54,7 @@ decided_there-requires-clause-small c =
     (run_small c.args.setting.now.problem.now c.args.setting.now.order.now c.args.frozen.now c.args.scenario.now r.0
     a.1.limits c.requires.setting.topological c.requires.scenario c.requires.early r.1)
 
+-- what stands in the order is a process of the graph
 pub is_active-requires-clause-process : goal.is_active-requires-clause-process
 is_active-requires-clause-process c = omega (
   arith,
@@ -58,6 +63,7 @@ is_active-requires-clause-process c = omega (
       c.requires.setting.topological.all,
 )
 
+-- after an inactive process all holds before the next place, with the new time of its node
 pub returns-then-not-is_active-clause-at : goal.returns-then-not-is_active-clause-at
 returns-then-not-is_active-clause-at c t run =
     let l : c.at-process.result < process_count c.args.setting.now.problem.now =
@@ -84,6 +90,7 @@ returns-then-not-is_active-clause-at c t run =
     c.requires.places.ready_count c.requires.places.free_count c.in_ok-heard.heard c.in_ok-heard.ensures
     c.max-ready.result (sym c.is_active.ensures ∙ c.if-not-is_active.true) ready_at)
 
+-- a process has a place among the frozen times of all items
 pub start-start-requires-clause-frozen : goal.start-start-requires-clause-frozen
 start-start-requires-clause-frozen c = omega (
   arith,
@@ -93,6 +100,7 @@ start-start-requires-clause-frozen c = omega (
       c.requires.setting.topological.all,
 )
 
+-- what stands in the order is a process of the graph
 pub start-start-requires-clause-process : goal.start-start-requires-clause-process
 start-start-requires-clause-process c = omega (
   arith,
@@ -101,6 +109,7 @@ start-start-requires-clause-process c = omega (
       c.requires.setting.topological.all,
 )
 
+-- what is known is that of a run with small times, so it is small
 pub start-start-requires-clause-small : goal.start-start-requires-clause-small
 start-start-requires-clause-small c =
     let a = c.requires.setting.admitted in
@@ -111,6 +120,7 @@ start-start-requires-clause-small c =
     (run_small c.args.setting.now.problem.now c.args.setting.now.order.now c.args.frozen.now c.args.scenario.now r.0
     a.1.limits c.requires.setting.topological c.requires.scenario c.requires.early r.1)
 
+-- the scenario has a fault count for each process
 pub fault-requires : goal.fault-requires
 fault-requires c = omega (
   arith,
@@ -120,6 +130,7 @@ fault-requires c = omega (
       (process_count c.args.setting.now.problem.now) c.args.setting.now.order.now c.requires.setting.topological.all,
 )
 
+-- what stands in the order is a process of the graph
 pub duration-requires-clause-process : goal.duration-requires-clause-process
 duration-requires-clause-process c = omega (
   arith,
@@ -128,6 +139,7 @@ duration-requires-clause-process c = omega (
       c.requires.setting.topological.all,
 )
 
+-- the start is that of the run, so it is small, and so is a duration
 pub overflow_add-end : goal.overflow_add-end
 overflow_add-end c =
     let admitted = c.requires.setting.admitted in
@@ -166,6 +178,7 @@ overflow_add-end c =
           acts c.max-ready.result c.start-start.result ready_at c.start-start.ensures,
     )
 
+-- there is a place for the time of each item
 pub set_time-requires : goal.set_time-requires
 set_time-requires c = omega (
   arith,
@@ -175,6 +188,7 @@ set_time-requires c = omega (
       (process_count c.args.setting.now.problem.now) c.args.setting.now.order.now c.requires.setting.topological.all,
 )
 
+-- there is a place for the end of each process
 pub set_end-requires : goal.set_end-requires
 set_end-requires c = omega (
   arith,
@@ -185,6 +199,7 @@ set_end-requires c = omega (
       c.requires.setting.topological.all,
 )
 
+-- what stands in the order is a process of the graph
 pub send-requires-clause-process : goal.send-requires-clause-process
 send-requires-clause-process c = omega (
   arith,
@@ -193,6 +208,7 @@ send-requires-clause-process c = omega (
       c.requires.setting.topological.all,
 )
 
+-- with the start and the end set, the process can send
 pub send-requires-clause-can : goal.send-requires-clause-can
 send-requires-clause-can c t run =
     let l : c.at-process.result < process_count c.args.setting.now.problem.now =
@@ -227,6 +243,7 @@ send-requires-clause-can c t run =
     (c.start-start.result + c.duration.result) ends
     c.set_end.new.self c.requires.places.times c.requires.places.ends started ended c.index-2.result.now is_free
 
+-- with the times of all that the process sends, all holds before the next place
 pub returns-clause-at : goal.returns-clause-at
 returns-clause-at c t run =
     let l : c.at-process.result < process_count c.args.setting.now.problem.now =

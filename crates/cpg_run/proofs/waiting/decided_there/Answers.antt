@@ -9,6 +9,7 @@ use Rattle.cpg_run.specs.Run.{heard_there}
 use Rattle.cpg_run.proofs.Mosts.{most_deciding}
 use Rattle.cpg_run.proofs.waiting.decided_there.Goals as goal
 
+-- the conditions that decide a process are conditions of the graph
 pub latest_heard-heard-requires-clause-conditions : goal.latest_heard-heard-requires-clause-conditions
 latest_heard-heard-requires-clause-conditions c d k =
     let a = c.requires.admitted in
@@ -18,6 +19,7 @@ latest_heard-heard-requires-clause-conditions c d k =
     (conditions_along c.args.problem.now a.0) d
     (subst (λ ds. Contains ds d) is k)).0).0
 
+-- the latest hearing of the deciding conditions, in their order, is the most of all that decide
 pub returns : goal.returns
 returns c =
     let a = c.requires.admitted in

@@ -5,6 +5,7 @@ use Rattle.cpg_bus.specs.Share.{HasSlot}
 use Rattle.cpg_run.proofs.Senders.{many_nodes, broadcast_slot}
 use Rattle.cpg_run.proofs.waiting.heard_there.Goals as goal
 
+-- the process of a condition is a process of the graph
 pub node_of-sender-requires : goal.node_of-sender-requires
 node_of-sender-requires c = omega (
   arith,
@@ -12,6 +13,7 @@ node_of-sender-requires c = omega (
   process_of_below c.args.problem.now c.args.condition c.requires.condition,
 )
 
+-- the sender is another node than this, so the graph has two nodes and the sender has a slot
 pub frame_there-requires-clause-slot : goal.frame_there-requires-clause-slot
 frame_there-requires-clause-slot c =
     let is : c.node_of-sender.result ≡ node_of c.args.problem.now (process_of c.args.problem.now c.args.condition) =

@@ -5,6 +5,7 @@ use Rattle.cpg_scenario.specs.File.{scenario_of, values_of}
 use Rattle.cpg_scenario.proofs.Budget.{is_scenario, full_are, is_played}
 use Rattle.cpg_scenario.proofs.reading.read_played.Goals as goal
 
+-- with its values and counts this is the scenario of the document, which is one of the graph
 pub full-requires : goal.full-requires
 full-requires c =
     let is : c.set_values.new.scenario ≡ scenario_of c.args.problem.now (table_view c.args.document.now) =
@@ -15,6 +16,7 @@ full-requires c =
     subst (λ (s : Scenario). IsScenario c.args.problem.now s) (sym is)
     (is_scenario c.args.problem.now (table_view c.args.document.now) (sym c.if-not-set_faults.ensures.kept))
 
+-- the full lengths are the durations with the document's counts
 pub set_lengths-requires : goal.set_lengths-requires
 set_lengths-requires c =
     let is : c.set_values.new.scenario ≡ scenario_of c.args.problem.now (table_view c.args.document.now) =
@@ -25,6 +27,7 @@ set_lengths-requires c =
     c.in_ok-lengths.ensures ∙ ap (full_lengths c.args.problem.now) is
     ∙ full_are c.args.problem.now (table_view c.args.document.now)
 
+-- all checks have passed, so this is a scenario to play
 pub returns-clause-played : goal.returns-clause-played
 returns-clause-played c =
     let is : c.set_values.new.scenario ≡ scenario_of c.args.problem.now (table_view c.args.document.now) =

@@ -11,6 +11,7 @@ use Rattle.cpg_scenario.proofs.Budget.{scenario_is, budget_broken, budget_kept}
 use Rattle.std.proofs.lemmas.Int.{to_z-of_z}
 use Rattle.cpg_scenario.proofs.reading.set_faults.Goals as goal
 
+-- this count is below 0 or above the rest of the fault number, so the budget isn't kept
 pub returns-in_default-clause-kept : goal.returns-in_default-clause-kept
 returns-in_default-clause-kept c =
     let more = c.loop-process-test.true in
@@ -20,6 +21,7 @@ returns-in_default-clause-kept c =
     (subst (λ z. (is_natural z ≡ false) ⊎ (c.loop-process.left < natural z))
     (to_z-of_z w64 c.count_given.result (search rules)) c.in_default.ensures.none))
 
+-- one more process has its count, which is taken from the rest of the fault number
 pub loop-process-preserved : goal.loop-process-preserved
 loop-process-preserved c =
     let more = c.loop-process-test.true in
@@ -42,6 +44,7 @@ loop-process-preserved c =
       values = ap (λ (s : Scenario). s.values) c.set_fault.ensures ∙ c.loop-process.invariant.values;
     }
 
+-- all counts have been within the rest of the fault number, so the budget is kept
 pub returns-clause-kept : goal.returns-clause-kept
 returns-clause-kept c =
     let done = c.loop-process-test.false in
@@ -52,6 +55,7 @@ returns-clause-kept c =
     (subst (λ n. c.loop-process.left + sum_by (count_of c.args.problem.now (table_view c.args.document.now))
     (numbers_below n) ≡ c.args.problem.now.faults) count c.loop-process.invariant.total))
 
+-- all counts are filled in, so these are the faults of the document
 pub returns-clause-faults : goal.returns-clause-faults
 returns-clause-faults c =
     let done = c.loop-process-test.false in

@@ -6,6 +6,8 @@ use Rattle.cpg_scenario.specs.File.{count_given, count_of, is_natural}
 use Rattle.cpg_scenario.proofs.Filling.{FilledTo}
 use Rattle.cpg_scenario.proofs.reading.set_faults.Given as goal
 
+-- after each process: the counts so far are natural numbers, `left` and the counts so far make up the faults of the
+-- graph, the scenario has the counts so far, and its values are as before
 abbrev pub invariant-loop-process : goal.invariant-loop-process
 invariant-loop-process l = record {
   natural : (q : ℕ) → q < l.process → is_natural (count_given l.problem (table_view l.document) q) ≡ true;

@@ -10,6 +10,7 @@ use Rattle.cpg_scenario.proofs.Filling.{FilledTo, filled_first, filled_next, fil
 use Rattle.cpg_scenario.proofs.Filling.{one_fails}
 use Rattle.cpg_scenario.proofs.reading.set_lengths.Goals as goal
 
+-- at the start no length is filled in, and all lengths are full
 pub loop-process-init : goal.loop-process-init
 loop-process-init c =
     let longest =
@@ -22,6 +23,7 @@ loop-process-init c =
           ∙ get_or-map-below longest (process_count c.args.problem.now) q 0 l;
     }
 
+-- this length isn't from 1 to the full one, so the lengths aren't kept
 pub returns-in_default-clause-kept : goal.returns-in_default-clause-kept
 returns-in_default-clause-kept c =
     let more = c.loop-process-test.true in
@@ -36,6 +38,7 @@ returns-in_default-clause-kept c =
     (sym c.length_given.ensures)
     ∙ c.in_default.ensures.none))
 
+-- one more execution has its length, and the later ones are still full
 pub loop-process-preserved : goal.loop-process-preserved
 loop-process-preserved c =
     let more = c.loop-process-test.true in
@@ -61,6 +64,7 @@ loop-process-preserved c =
           ∙ c.loop-process.invariant.full q (omega arith) l;
     }
 
+-- each length has been in range, so the lengths are kept
 pub returns-clause-kept : goal.returns-clause-kept
 returns-clause-kept c =
     let done = c.loop-process-test.false in
@@ -69,6 +73,7 @@ returns-clause-kept c =
     (length_given c.args.problem.now (table_view c.args.document.now) q)) (process_count c.args.problem.now)
     (λ q l. c.loop-process.invariant.kept q (omega (arith, ap length c.processes.ensures.processes))))
 
+-- all lengths are filled in, so these are the lengths of the document
 pub returns-clause-lengths : goal.returns-clause-lengths
 returns-clause-lengths c =
     let done = c.loop-process-test.false in

@@ -6,6 +6,8 @@ use Rattle.cpg_scenario.specs.File.{count_of, length_given, length_or, is_length
 use Rattle.cpg_scenario.proofs.Filling.{FilledTo}
 use Rattle.cpg_scenario.proofs.reading.set_lengths.Given as goal
 
+-- `kept`: each length given so far is at most the duration. `filled`: the processes so far have the length given, or
+-- the full duration. `full`: the processes that are left have the full duration still
 abbrev pub invariant-loop-process : goal.invariant-loop-process
 invariant-loop-process l = record {
   kept : (q : ℕ) → q < l.process →

@@ -8,6 +8,7 @@ use Rattle.cpg_scenario.proofs.Filling.{FilledTo, filled_next, filled_all}
 use Rattle.cpg_scenario.proofs.Budget.{scenario_is}
 use Rattle.cpg_scenario.proofs.reading.set_values.Goals as goal
 
+-- the process of a condition is one of the graph
 pub value_given-given-requires : goal.value_given-given-requires
 value_given-given-requires c =
     let more = c.loop-condition-test.true in
@@ -18,6 +19,7 @@ value_given-given-requires c =
           (omega (arith, c.conditions-condition-end.ensures.count)),
     )
 
+-- one more condition has its value
 pub loop-condition-preserved : goal.loop-condition-preserved
 loop-condition-preserved c =
     let more = c.loop-condition-test.true in
@@ -36,6 +38,7 @@ loop-condition-preserved c =
       faults = ap (λ (s : Scenario). s.faults) c.set_value.ensures ∙ c.loop-condition.invariant.faults;
     }
 
+-- all values are filled in, so these are the values of the document
 pub returns : goal.returns
 returns c =
     let done = c.loop-condition-test.false in

@@ -5,6 +5,8 @@ use Rattle.cpg_scenario.specs.File.{value_given}
 use Rattle.cpg_scenario.proofs.Filling.{FilledTo}
 use Rattle.cpg_scenario.proofs.reading.set_values.Given as goal
 
+-- after each condition, the scenario has the value given for each condition so far, or false, and its faults are as
+-- before
 abbrev pub invariant-loop-condition : goal.invariant-loop-condition
 invariant-loop-condition l = record {
   filled : FilledTo (λ c. unwrap_or (value_given l.problem (table_view l.document) (process_of l.problem c)) false)

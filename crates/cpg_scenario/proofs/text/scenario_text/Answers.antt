@@ -6,11 +6,13 @@ use Rattle.cpg_scenario.specs.Pieces.{or_none}
 use Rattle.cpg_scenario.proofs.Pieces.{next_pieces, finished, pieces_some}
 use Rattle.cpg_scenario.proofs.text.scenario_text.Goals as goal
 
+-- the pieces of the next process are written behind those of the processes so far
 pub loop-process-preserved : goal.loop-process-preserved
 loop-process-preserved c = next_pieces (pieces_of c.args.problem.now c.args.scenario.now) c.loop-process.process
     (string_bytes c.loop-process.out)
     (string_bytes c.write_process.new.out) c.loop-process.invariant c.in_ok-write_process.ensures
 
+-- the pieces of all processes are written, so this is the text of the scenario
 pub returns : goal.returns
 returns c =
     let pieces = pieces_of c.args.problem.now c.args.scenario.now in

@@ -4,6 +4,7 @@ use Rattle.cpg_scenario.specs.Pieces.{with_pieces}
 use Rattle.cpg_scenario.specs.Text.{pieces_of}
 use Rattle.cpg_scenario.proofs.text.scenario_text.Given as goal
 
+-- after each process, the text has the pieces of the processes so far
 abbrev pub invariant-loop-process : goal.invariant-loop-process
 invariant-loop-process l =
     string_bytes l.out ≡ with_pieces [] (flat_map (pieces_of l.problem l.scenario) (numbers_below l.process))

@@ -9,6 +9,7 @@ add_acts-requires c = subst (All (IsActWithin c.args.problem.now)) (sym c.acts.e
     (acts_at c.args.cluster.now c.requires.playing c.args.problem.now c.requires.same c.loop-node.node
     (omega (arith, ap length c.nodes.ensures.nodes)))
 
+-- the acts and the ends of the next node are added
 pub loop-node-preserved : goal.loop-node-preserved
 loop-node-preserved c = one_node c.args.problem.now c.args.cluster.now.cluster.acts c.args.cluster.now.cluster.ends
     c.loop-node.node c.loop-node.events.items c.add_acts.new.events.items

@@ -4,6 +4,7 @@ use Rattle.cpg_label.specs.CubeText.{column_line}
 use Rattle.cpg_codec.proofs.Puts.{item_more, item_fails, Puts-failed}
 use Rattle.cpg_show.proofs.putting.put_columns.Goals as goal
 
+-- the line of the next column is put after those before
 pub loop-column-preserved : goal.loop-column-preserved
 loop-column-preserved g c = record {
   put = item_more (column_line c.args.labels.now) _ _ _ _ _ _ c.args.columns.now c.loop-column.column-index
@@ -13,6 +14,7 @@ loop-column-preserved g c = record {
   line = c.turn_into.ensures.line;
 }
 
+-- the line of this column failed, so a front of the text was put
 pub returns-in_err-put_column-clause-put : goal.returns-in_err-put_column-clause-put
 returns-in_err-put_column-clause-put g c =
     let p = err_from_is_err_and c.from_residual.result c.from_residual.ensures.1 in

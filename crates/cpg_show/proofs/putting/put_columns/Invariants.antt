@@ -5,6 +5,8 @@ use Rattle.cpg_label.specs.Lines.{IsLine}
 use Rattle.cpg_codec.specs.Writing.{IsPut}
 use Rattle.cpg_show.proofs.putting.put_columns.Given as goal
 
+-- After each column. `put`: the sink and the buffer together have grown by the lines of the columns so far. `kept`:
+-- the faults of the sink have not changed. `line`: the buffer for one line is still one of these labels.
 abbrev pub invariant-loop-column : goal.invariant-loop-column
 invariant-loop-column g l = record {
   put : IsPut (g.O.Sink.state l.fn.sink).taken (g.O.Sink.state l.sink).taken l.fn.buffer l.buffer

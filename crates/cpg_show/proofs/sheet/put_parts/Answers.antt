@@ -4,6 +4,7 @@ use Rattle.cpg_show.specs.Sheet.{part_text}
 use Rattle.cpg_codec.proofs.Puts.{item_more, item_fails, Puts-failed}
 use Rattle.cpg_show.proofs.sheet.put_parts.Goals as goal
 
+-- the next part is put after those before
 pub loop-part-preserved : goal.loop-part-preserved
 loop-part-preserved g c = record {
   put = item_more (part_text c.args.labels.now) _ _ _ _ _ _ c.args.parts.now c.loop-part.part-index c.part-item.result
@@ -13,6 +14,7 @@ loop-part-preserved g c = record {
   line = c.in_ok-put_part.ensures.line;
 }
 
+-- this part failed, so a front of the text was put
 pub returns-in_err-put_part-clause-put : goal.returns-in_err-put_part-clause-put
 returns-in_err-put_part-clause-put g c =
     let p = err_from_is_err_and c.from_residual.result c.from_residual.ensures.1 in

@@ -5,6 +5,8 @@ use Rattle.cpg_show.specs.Sheet.{part_text}
 use Rattle.cpg_codec.specs.Writing.{IsPut}
 use Rattle.cpg_show.proofs.sheet.put_parts.Given as goal
 
+-- After each part. `put`: the sink and the buffer together have grown by the text of the parts so far. `kept`: the
+-- faults of the sink have not changed. `line`: the buffer for one line is still one of these labels.
 abbrev pub invariant-loop-part : goal.invariant-loop-part
 invariant-loop-part g l = record {
   put : IsPut (g.O.Sink.state l.fn.sink).taken (g.O.Sink.state l.sink).taken l.fn.buffer l.buffer

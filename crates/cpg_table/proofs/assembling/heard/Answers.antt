@@ -10,9 +10,11 @@ use Rattle.cpg_table.specs.Writing.{row_for, IsWritable}
 use Rattle.cpg_table.proofs.NodeRows.{no_row, long, writable, slot_short}
 use Rattle.cpg_table.proofs.assembling.heard.Goals as goal
 
+-- there is a row for each item, and the item is one of the graph
 pub bounds-rows-item : goal.bounds-rows-item
 bounds-rows-item c = omega (arith, c.requires.item, long c.args.problem.now c.args.rows.now c.requires.rows)
 
+-- the times of a writable row leave room for a slot
 pub later-requires-clause-times : goal.later-requires-clause-times
 later-requires-clause-times c =
     let g = c.args.problem.now in
@@ -25,6 +27,7 @@ later-requires-clause-times c =
     (All-weaker (IsWritable g) (λ (e : Column). e.time < 2 ^ 59) (λ e w. w.time) (row_for rows x).columns
     (writable g rows c.requires.rows x c.requires.item))
 
+-- the length of a slot is below 2 ^ 59 in a graph within the limits
 pub later-requires-clause-delay : goal.later-requires-clause-delay
 later-requires-clause-delay c = subst (λ n. n < 2 ^ 59) (sym c.slot_length-delay.ensures)
     (slot_short c.args.problem.now c.nodes-nodes.ensures.within c.home.result)
@@ -33,6 +36,7 @@ same_row : (x : ℕ) (a b : List Column) → a ≡ b →
     (let row : Row = record { item = x; columns = a } in row) ≡ record { item = x; columns = b }
 same_row x a b e = cc
 
+-- the row that is made is that of the item, later by the sender's slot
 pub returns : goal.returns
 returns c =
     let g = c.args.problem.now in

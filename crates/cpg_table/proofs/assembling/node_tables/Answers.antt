@@ -11,6 +11,7 @@ use Rattle.cpg_table.proofs.OwnRows.{view_count, view_first, still_there, still_
 use Rattle.cpg_table.proofs.TablesWith.{table_pushed}
 use Rattle.cpg_table.proofs.assembling.node_tables.Goals as goal
 
+-- at the start there is no table, and all rows are left
 pub loop-heard-init : goal.loop-heard-init
 loop-heard-init c =
     let g = c.args.problem.now in
@@ -30,6 +31,7 @@ loop-heard-init c =
       items = all_known g rows c.requires.rows;
     }
 
+-- the rows of what the node starts and sends, and of what it hears, are the rows of its table
 pub node_table-requires : goal.node_table-requires
 node_table-requires c =
     let g = c.args.problem.now in
@@ -50,6 +52,7 @@ node_table-requires c =
     (sym (ap₂ (λ (xs ys : List Row). xs ++ ys) own heard ∙ node_rows g within node rows c.requires.rows))
     (are_rows g within rows c.requires.rows node l))
 
+-- the table of one more node is made, and the rows of the other nodes are left
 pub loop-heard-preserved : goal.loop-heard-preserved
 loop-heard-preserved c =
     let g = c.args.problem.now in
@@ -65,6 +68,7 @@ loop-heard-preserved c =
     let own : c.in_ok-own.field-0.own.items ≡ own_rows g node rows =
     c.in_ok-own.ensures.own ∙ inv.left node (omega arith) in
     let others = c.in_ok-own.ensures.others in
+    -- the new table is the one of the node, with its own rows and those that it hears
     let new : IsTableWith g rows node table = record {
       table = subst (λ h. IsTableOf h node table) c.requires.head c.in_ok-table.ensures.table;
       stands = c.in_ok-table.ensures.rows ∙ ap₂ (λ (xs ys : List Row). xs ++ ys) own first.0

@@ -6,6 +6,7 @@ use Rattle.cpg_table.specs.Writing.{has_own}
 use Rattle.cpg_table.proofs.OwnRows.{filter_moved, filter_left}
 use Rattle.cpg_table.proofs.assembling.parted.Goals as goal
 
+-- this row is of an item that the node starts or sends, and goes to its own rows
 pub loop-row-preserved-in-Continue-1 : goal.loop-row-preserved-in-Continue-1
 loop-row-preserved-in-Continue-1 c =
     let g = c.args.problem.now in
@@ -25,6 +26,7 @@ loop-row-preserved-in-Continue-1 c =
           (subst (All (λ (r : Row). r.item < item_count g)) is c.loop-row.invariant.known);
     }
 
+-- this row is of an item of another node, and goes to the other rows
 pub loop-row-preserved : goal.loop-row-preserved
 loop-row-preserved c =
     let g = c.args.problem.now in

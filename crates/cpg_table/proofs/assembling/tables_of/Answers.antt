@@ -3,6 +3,7 @@ use Rattle.cpg_table.specs.Lawful.{Tables, AreTablesOf}
 use Rattle.cpg_table.proofs.TablesWith.{lawful, tables_with}
 use Rattle.cpg_table.proofs.assembling.tables_of.Goals as goal
 
+-- the tables that are made are lawful tables under the head of the graph
 pub of-requires : goal.of-requires
 of-requires c =
     let g = c.args.problem.now in
@@ -10,6 +11,7 @@ of-requires c =
     (lawful g c.nodes-nodes.ensures.within c.requires.formed c.args.rows.items c.requires.rows c.in_ok-nodes.nodes.items
     c.in_ok-nodes.ensures)
 
+-- the tables under the head of the graph are the tables with the given rows
 pub returns : goal.returns
 returns c =
     let g = c.args.problem.now in

@@ -2,9 +2,11 @@ use Rattle.cpg_table.specs.Items.{starts_of}
 use Rattle.cpg_table.proofs.AfterItems.{these_where_nothing, these_never}
 use Rattle.cpg_table.proofs.counts.have_starts.Goals as goal
 
+-- the rows begin with the items that the node starts, so they are these exactly if nothing follows
 pub returns-in-Some : goal.returns-in-Some
 returns-in-Some c = these_where_nothing (starts_of c.args.head.now c.args.node) c.args.rows.now c.in-Some.rest.now
     c.in-Some.ensures c.is_empty.result c.is_empty.ensures
 
+-- the rows don't begin with the items that the node starts
 pub returns-in-None : goal.returns-in-None
 returns-in-None c = these_never (starts_of c.args.head.now c.args.node) c.args.rows.now c.in-None.ensures

@@ -2,6 +2,8 @@ use Rattle.std.proofs.Common.{◌≡◌, ◌≤◌, ◌+◌, ◌==◌, not, if�
 use Rattle.cpg_table.specs.Items.{numbers_where, first_broadcast, conditioned, after_items}
 use Rattle.cpg_table.proofs.items.after_broadcasts.Given as goal
 
+-- `few`: the number of the next broadcast can't overflow. `same`: the rows after all broadcasts are the rows after
+-- those that are left, from `rest` on
 abbrev pub invariant-loop-process : goal.invariant-loop-process
 invariant-loop-process l = record {
   few : l.item ≤ first_broadcast l.head + l.process-index;

@@ -3,9 +3,11 @@ use Rattle.cpg_table.specs.Items.{numbers_where, enters, first_message, first_br
 use Rattle.cpg_table.proofs.AfterItems.{after_both, after_neither}
 use Rattle.cpg_table.proofs.items.after_hears.Goals as goal
 
+-- the first part of the items doesn't stand there, so the whole doesn't
 pub returns-in_default : goal.returns-in_default
 returns-in_default c = search (rules, after_neither)
 
+-- the broadcasts of the other nodes come after the messages to this one
 pub returns : goal.returns
 returns c =
     let h = c.args.head.now in

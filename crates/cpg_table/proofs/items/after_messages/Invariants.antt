@@ -2,6 +2,8 @@ use Rattle.std.proofs.Common.{◌≡◌, ◌+◌, if◌then◌else◌, drop}
 use Rattle.cpg_table.specs.Items.{numbers_where, leaves, enters, first_message, after_items}
 use Rattle.cpg_table.proofs.items.after_messages.Given as goal
 
+-- `counted`: the item is the message of the next edge. `same`: the rows after all messages are the rows after those
+-- that are left, from `rest` on
 abbrev pub invariant-loop-edge : goal.invariant-loop-edge
 invariant-loop-edge l = record {
   counted : l.item ≡ first_message l.head + l.edge-index;

@@ -4,9 +4,11 @@ use Rattle.cpg_table.specs.Items.{numbers_where, leaves, first_message, first_br
 use Rattle.cpg_table.proofs.AfterItems.{after_both, after_neither}
 use Rattle.cpg_table.proofs.items.after_sends.Goals as goal
 
+-- the first part of the items doesn't stand there, so the whole doesn't
 pub returns-in_default : goal.returns-in_default
 returns-in_default c = search (rules, after_neither)
 
+-- with more than one node the broadcasts come after the messages
 pub returns-then-nodes-gt1 : goal.returns-then-nodes-gt1
 returns-then-nodes-gt1 c =
     let h = c.args.head.now in

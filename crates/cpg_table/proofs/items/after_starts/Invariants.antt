@@ -2,6 +2,8 @@ use Rattle.std.proofs.Common.{◌≡◌, ◌==◌, drop}
 use Rattle.cpg_table.specs.Items.{numbers_where, starts_of, after_items}
 use Rattle.cpg_table.proofs.items.after_starts.Given as goal
 
+-- `counted`: the item is the start of the next process. `same`: the rows after all starts are the rows after those
+-- that are left, from `rest` on
 abbrev pub invariant-loop-process : goal.invariant-loop-process
 invariant-loop-process l = record {
   counted : l.item ≡ l.process-index;

@@ -4,6 +4,7 @@ use Rattle.cpg_table.specs.Items.{first_broadcast}
 use Rattle.cpg_table.proofs.Broadcasts.{few_on, broadcasts_on}
 use Rattle.cpg_table.proofs.node_items.push_broadcasts.Goals as goal
 
+-- one more process is visited, and its broadcast is added if it is wanted
 pub loop-process-preserved : goal.loop-process-preserved
 loop-process-preserved c = record {
   few = rw c.next_number-item.ensures (few_on c.process-item.result.condition c.loop-process.item

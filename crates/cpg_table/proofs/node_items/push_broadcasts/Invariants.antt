@@ -2,6 +2,8 @@ use Rattle.std.proofs.Common.{◌≡◌, ◌≤◌, ◌+◌, ◌++◌, ◌==◌,
 use Rattle.cpg_table.specs.Items.{numbers_where, first_broadcast, conditioned}
 use Rattle.cpg_table.proofs.node_items.push_broadcasts.Given as goal
 
+-- `few`: the number of the next broadcast can't overflow. `same`: the items pushed so far and the broadcasts that are
+-- left are the items of before and all broadcasts
 abbrev pub invariant-loop-process : goal.invariant-loop-process
 invariant-loop-process l = record {
   few : l.item ≤ first_broadcast l.head + l.process-index;

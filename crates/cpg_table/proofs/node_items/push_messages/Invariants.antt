@@ -2,6 +2,8 @@ use Rattle.std.proofs.Common.{◌≡◌, ◌+◌, ◌++◌, if◌then◌else◌,
 use Rattle.cpg_table.specs.Items.{numbers_where, leaves, enters, first_message}
 use Rattle.cpg_table.proofs.node_items.push_messages.Given as goal
 
+-- `counted`: the item is the message of the next edge. `same`: the items pushed so far and the messages that are left
+-- are the items of before and all messages
 abbrev pub invariant-loop-edge : goal.invariant-loop-edge
 invariant-loop-edge l = record {
   counted : l.item ≡ first_message l.head + l.edge-index;

@@ -4,6 +4,7 @@ use Rattle.cpg_table.specs.Lawful.{IsLawfulRow}
 use Rattle.cpg_table.proofs.TableRows.{not_first, not_second, if_third}
 use Rattle.cpg_table.proofs.node_table.are_table_rows.Goals as goal
 
+-- a start row isn't lawful, so not all rows are
 pub returns-then-not-are_rows : goal.returns-then-not-are_rows
 returns-then-not-are_rows c =
     let t = c.args.table.now in
@@ -11,6 +12,7 @@ returns-then-not-are_rows c =
     (subst (λ (rows : List Row). IsTrue c.are_rows.result ↔ All (IsLawfulRow c.args.space) rows) c.starts.ensures.starts
     c.are_rows.ensures) c.if-not-are_rows.true
 
+-- a send row isn't lawful, so not all rows are
 pub returns-then-not-are_rows-2 : goal.returns-then-not-are_rows-2
 returns-then-not-are_rows-2 c =
     let t = c.args.table.now in
@@ -18,6 +20,7 @@ returns-then-not-are_rows-2 c =
     (subst (λ (rows : List Row). IsTrue c.are_rows-2.result ↔ All (IsLawfulRow c.args.space) rows) c.sends.ensures.sends
     c.are_rows-2.ensures) c.if-not-are_rows-2.true
 
+-- the first two kinds of rows are lawful, so the test of the third decides
 pub returns : goal.returns
 returns c =
     let t = c.args.table.now in

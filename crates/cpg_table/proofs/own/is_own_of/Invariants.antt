@@ -2,6 +2,8 @@ use Rattle.std.proofs.Common.{◌≡◌, ◌≤◌, drop}
 use Rattle.cpg_table.specs.Items.{own_from, own_of}
 use Rattle.cpg_table.proofs.own.is_own_of.Given as goal
 
+-- `counted`, `few`: the next process's number, and no more conditions than processes. `on`, `back`: the given list is
+-- the node's own exactly if its rest is the own list of the processes that are left
 abbrev pub invariant-loop-process : goal.invariant-loop-process
 invariant-loop-process l = record {
   counted : l.number ≡ l.process-index;

@@ -10,6 +10,7 @@ on_true : {P : Type 0} (b : Bool) → (b ≡ true → P) → OnTrue b P
 on_true true h = h refl
 on_true false h = tt
 
+-- the literals up to this one are on fault counts, if the test says so
 pub loop-literal-preserved : goal.loop-literal-preserved
 loop-literal-preserved c e =
     let parts = and_parts c.loop-literal.are c.is_count-are.result e in
@@ -17,6 +18,7 @@ loop-literal-preserved c e =
     (sym (take_more c.args.literals.now c.loop-literal.literal-index _ (omega (arith, c.loop-literal-test.true))))
     (All-push (IsCountLiteral c.args.space) _ _ (c.loop-literal.invariant parts.0) (c.is_count-are.ensures.0 parts.1))
 
+-- all literals are gone over, so each of them is one on a count
 pub returns : goal.returns
 returns c = on_true c.loop-literal.are (λ e. subst (All (IsCountLiteral c.args.space))
     (take_all c.loop-literal.literal-index c.args.literals.now (omega (arith, c.loop-literal-test.false)))

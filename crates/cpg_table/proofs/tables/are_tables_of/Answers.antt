@@ -5,6 +5,7 @@ use Rattle.std.proofs.lemmas.List.{get_or_default}
 use borrow.Author.Count.{below_more}
 use Rattle.cpg_table.proofs.tables.are_tables_of.Goals as goal
 
+-- this table is that of its node, as are those before it
 pub loop-table-preserved : goal.loop-table-preserved
 loop-table-preserved c =
     let h = c.args.head.now in

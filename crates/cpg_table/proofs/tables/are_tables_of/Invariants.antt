@@ -3,6 +3,7 @@ use Rattle.cpg_table.specs.Table.{table_at}
 use Rattle.cpg_table.specs.Lawful.{IsTableOf}
 use Rattle.cpg_table.proofs.tables.are_tables_of.Given as goal
 
+-- `node` is the number of the next table, and each table so far is one of the node with its number
 abbrev pub invariant-loop-table : goal.invariant-loop-table
 invariant-loop-table l = record {
   counted : l.node ≡ l.table-index;

@@ -37,6 +37,7 @@ on_true : (b : Bool) {P : Type 0} → (b ≡ true → P) → OnTrue b P
 on_true true h = h refl
 on_true false h = tt
 
+-- a process that runs, isn't reported and has run for some time may end now, with faults within the table's
 pub returns : goal.returns
 returns c =
     let d = c.args.node.now.dispatcher in

@@ -3,6 +3,7 @@ use Rattle.std.proofs.Common.{sym}
 use Rattle.cpg_node.specs.State.{EndsAt, ArrivesAt}
 use Rattle.cpg_tests.proofs.node_tests.take_turn.Goals as goal
 
+-- the time is the node's next one, and nothing ends or arrives at it
 pub turn-requires : goal.turn-requires
 turn-requires c = record {
   time = c.in_ok-time.time;

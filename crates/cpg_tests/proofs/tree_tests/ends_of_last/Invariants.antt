@@ -1,5 +1,6 @@
 use Rattle.std.proofs.Common.{◌≡◌}
 use Rattle.cpg_tests.proofs.tree_tests.ends_of_last.Given as goal
 
+-- the tree of the readiness is one for two faults still
 abbrev pub invariant-loop-process : goal.invariant-loop-process
 invariant-loop-process l = l.ready.faults ≡ 2

@@ -3,6 +3,7 @@ use Rattle.std.proofs.lemmas.List.Elements.{Contains-get_or}
 use Rattle.cpg_base.proofs.Inputs.{inputs_parts}
 use Rattle.cpg_tracks.proofs.keys.key_of.Goals as goal
 
+-- an input of the process is an edge of the graph
 pub source-requires : goal.source-requires
 source-requires c =
     let g = c.args.problem.now in

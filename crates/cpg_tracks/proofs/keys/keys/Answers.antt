@@ -7,6 +7,7 @@ use Rattle.cpg_tracks.proofs.TrackSteps.{at_index, key_set, keys_done}
 use Rattle.cpg_tracks.proofs.Keyed.{key_low, low_more}
 use Rattle.cpg_tracks.proofs.keys.keys.Goals as goal
 
+-- what stands in the order is a process of the graph
 pub key_of-key-requires-clause-process : goal.key_of-key-requires-clause-process
 key_of-key-requires-clause-process c =
     let g = c.args.problem.now in
@@ -15,6 +16,7 @@ key_of-key-requires-clause-process c =
     (omega (arith, ap length same, c.loop-process-test.true)) in
     rw same at.0
 
+-- the process of the order has a place among the keys
 pub index_mut-requires : goal.index_mut-requires
 index_mut-requires c =
     let g = c.args.problem.now in
@@ -23,6 +25,7 @@ index_mut-requires c =
     (omega (arith, ap length same, c.loop-process-test.true)) in
     rw same (omega (arith, at.0, c.loop-process.invariant.set.count))
 
+-- the key of one more process is set, and is within the next bound
 pub loop-process-preserved : goal.loop-process-preserved
 loop-process-preserved c =
     let g = c.args.problem.now in
@@ -53,6 +56,7 @@ loop-process-preserved c =
           omega (arith, h);
     }
 
+-- all processes have been visited, so all keys are set
 pub returns : goal.returns
 returns c =
     let g = c.args.problem.now in

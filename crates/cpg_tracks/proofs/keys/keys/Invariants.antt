@@ -3,6 +3,8 @@ use Rattle.cpg_tracks.specs.Walks.{KeysSoFar}
 use Rattle.cpg_tracks.specs.Keys.{AreLow}
 use Rattle.cpg_tracks.proofs.keys.keys.Given as goal
 
+-- the keys of the processes so far are set; each process adds at most 1 to the bound 2 ^ 60 of the starts, so no key
+-- overflows
 abbrev pub invariant-loop-process : goal.invariant-loop-process
 invariant-loop-process l = record {
   set : KeysSoFar l.problem l.order l.schedules l.keys.items l.process-index;

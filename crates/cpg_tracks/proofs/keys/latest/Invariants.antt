@@ -2,5 +2,6 @@ use Rattle.std.proofs.Common.{◌≡◌, take}
 use Rattle.cpg_tracks.specs.Keys.{latest}
 use Rattle.cpg_tracks.proofs.keys.latest.Given as goal
 
+-- `latest` is the latest start of the process in the schedules so far
 abbrev pub invariant-loop-starts : goal.invariant-loop-starts
 invariant-loop-starts l = l.latest ≡ latest (take l.starts-index l.schedules) l.process

@@ -5,6 +5,7 @@ use Rattle.cpg_tracks.proofs.TrackLaws.{order_of_tracks_topological}
 use Rattle.cpg_tracks.proofs.Keyed.{keys_long, has_order}
 use Rattle.cpg_tracks.proofs.order.merged_order.Goals as goal
 
+-- there are no more keys than processes, at most 128
 pub by_key-requires : goal.by_key-requires
 by_key-requires c =
     let g = c.args.admitted.now.graph in
@@ -16,6 +17,7 @@ by_key-requires c =
       c.problem-problem.ensures.admitted.limits.few_processes,
     )
 
+-- the processes by key are the track order, which is topological, so it isn't refused
 pub unreachable-requires : goal.unreachable-requires
 unreachable-requires c =
     let g = c.args.admitted.now.graph in
@@ -31,6 +33,7 @@ unreachable-requires c =
     (order_of_tracks_topological g c.problem-problem.ensures.admitted.well_formed
     c.in_ok-processes.processes.items order))
 
+-- the processes by key are the track order
 pub returns-clause-order : goal.returns-clause-order
 returns-clause-order c =
     let g = c.args.admitted.now.graph in

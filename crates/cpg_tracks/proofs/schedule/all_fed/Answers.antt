@@ -2,6 +2,7 @@ use Rattle.cpg_tracks.specs.Timing.{outcome_of}
 use Rattle.cpg_tracks.proofs.Feeding.{fed_below}
 use Rattle.cpg_tracks.proofs.schedule.all_fed.Goals as goal
 
+-- one more process is added, if it can be placed
 pub loop-process-preserved : goal.loop-process-preserved
 loop-process-preserved c = record {
   each = c.in_ok-feed.ensures.each c.loop-process.invariant.each;

@@ -4,6 +4,7 @@ use Rattle.cpg_tracks.specs.Timing.{outcome_of, IsFedAt}
 use Rattle.cpg_tracks.specs.declared.schedule.FedProcess.{FedProcess}
 use Rattle.cpg_tracks.proofs.schedule.all_fed.Given as goal
 
+-- the list has the processes so far that can be placed, each with the time from which it is ready
 abbrev pub invariant-loop-process : goal.invariant-loop-process
 invariant-loop-process l = record {
   each : (f : FedProcess) → Contains l.fed.items f → IsFedAt l.problem (outcome_of l.timing) l.starts f;

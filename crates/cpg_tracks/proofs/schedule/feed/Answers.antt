@@ -9,6 +9,7 @@ use Rattle.cpg_tracks.proofs.schedule.feed.Goals as goal
 pub index-requires : goal.index-requires
 index-requires c = omega (arith, c.requires.process, active_long c.args.problem.now c.args.timing.now c.requires.timing)
 
+-- an inactive process can't be placed, so nothing is added
 pub returns-then-not-index : goal.returns-then-not-index
 returns-then-not-index c =
     let is = c.index.ensures ∙ active_is c.args.problem.now c.args.timing.now c.requires.timing c.args.process
@@ -17,11 +18,13 @@ returns-then-not-index c =
     (λ f. both_ways (active c.args.problem.now (outcome_of c.args.timing.now) c.args.process)
     (sym is ∙ c.if-not-index.true) f.active)
 
+-- the mark of the process is true, and the marks say which processes are active
 pub ready_time-requires-clause-active : goal.ready_time-requires-clause-active
 ready_time-requires-clause-active c =
     sym (c.index.ensures ∙ active_is c.args.problem.now c.args.timing.now c.requires.timing c.args.process
     c.index.result.now c.requires.process) ∙ c.if-not-index.false
 
+-- a process that is ready can be placed, and is added
 pub returns-in_ok-push : goal.returns-in_ok-push
 returns-in_ok-push c =
     let o = outcome_of c.args.timing.now in

@@ -9,6 +9,7 @@ use Rattle.cpg_tracks.proofs.Feeding.{processes_of, AreTargetsFed, target_asked,
 use Rattle.cpg_tracks.proofs.schedule.feed_targets.Goals as goal
 use Rattle.cpg_tracks.proofs.schedule.feed_targets.Goals.{then-index+in_ok-feed, else-index}
 
+-- an output of the process is an edge of the graph, which the table has
 pub index-requires : goal.index-requires
 index-requires c =
     let g = c.args.problem.now in
@@ -22,6 +23,7 @@ index-requires c =
       live_long g c.args.timing.now c.requires.timing,
     )
 
+-- an output of the process is an edge of the graph
 pub target-requires : goal.target-requires
 target-requires c =
     let g = c.args.problem.now in
@@ -31,6 +33,7 @@ target-requires c =
     (outputs_parts g c.args.process e
     (subst (λ ys. Contains ys e) same (Contains-get_or xs c.loop-edge.edge-index 0 c.loop-edge-test.true))).0
 
+-- the target of a live output is added if it can be placed, and any other output is passed over
 pub loop-edge-preserved : goal.loop-edge-preserved
 loop-edge-preserved c =
     let g = c.args.problem.now in
@@ -73,6 +76,7 @@ loop-edge-preserved c =
           }
     ]
 
+-- the targets of all outputs have been asked, so what can be placed is complete
 pub returns : goal.returns
 returns c =
     let g = c.args.problem.now in

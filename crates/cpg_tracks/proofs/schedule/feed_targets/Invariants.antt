@@ -5,6 +5,7 @@ use Rattle.cpg_tracks.specs.declared.schedule.FedProcess.{FedProcess}
 use Rattle.cpg_tracks.proofs.Feeding.{AreTargetsFed}
 use Rattle.cpg_tracks.proofs.schedule.feed_targets.Given as goal
 
+-- all in the list can be placed; it has what it had before, and each target of the edges so far that can be placed
 abbrev pub invariant-loop-edge : goal.invariant-loop-edge
 invariant-loop-edge l = record {
   each : (f : FedProcess) → Contains l.fed.items f → IsFedAt l.problem (outcome_of l.timing) l.starts f;

@@ -9,6 +9,7 @@ pub index-requires : goal.index-requires
 index-requires c =
     omega (arith, c.source-source.ensures.within, durations_long c.args.problem.now c.args.timing.now c.requires.timing)
 
+-- a start and a duration fit a number of 64 bits
 pub overflow_add-end : goal.overflow_add-end
 overflow_add-end c =
     let g = c.args.problem.now in
@@ -21,6 +22,7 @@ overflow_add-end c =
       start_early c.args.starts.now p c.in-Some.start _ c.requires.starts.early c.in-Some.is,
     )
 
+-- an end and a round of the bus fit a number of 64 bits
 pub overflow_add-result : goal.overflow_add-result
 overflow_add-result c =
     let g = c.args.problem.now in
@@ -35,6 +37,7 @@ overflow_add-result c =
       round-le g c.requires.timing.limits,
     )
 
+-- a message is there one round after its source has ended
 pub returns-then-is_message : goal.returns-then-is_message
 returns-then-is_message c =
     let g = c.args.problem.now in
@@ -45,6 +48,7 @@ returns-then-is_message c =
     ∙ input_there g c.args.starts.now c.args.edge c.in-Some.start true (ap (λ p. get_or c.args.starts.now p None)
     (sym from) ∙ c.in-Some.is) (sym c.is_message.ensures ∙ c.if-is_message.true)
 
+-- an edge within a node is there when its source has ended
 pub returns : goal.returns
 returns c =
     let g = c.args.problem.now in

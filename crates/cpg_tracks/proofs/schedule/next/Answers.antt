@@ -8,17 +8,20 @@ use Rattle.cpg_tracks.specs.declared.schedule.FedProcess.{FedProcess}
 use Rattle.cpg_tracks.proofs.GreedySteps.{best_after, chosen, either_within}
 use Rattle.cpg_tracks.proofs.schedule.next.Goals as goal
 
+-- the best candidate so far is a process of the graph, and the order has all of these
 pub better-requires-clause-best : goal.better-requires-clause-best
 better-requires-clause-best c =
     let long = length_order (process_count c.args.problem.now) c.args.order.now c.requires.order.all in
     subst (λ n. IfSome c.loop-one.best (λ (c : Candidate). c.process < n)) (sym long) c.loop-one.invariant.within
 
+-- the order has a place for each process that can be placed
 pub better-requires-clause-other : goal.better-requires-clause-other
 better-requires-clause-other c =
     let long = length_order (process_count c.args.problem.now) c.args.order.now c.requires.order.all in
     let within = c.requires.within c.loop-one.one-index (record { process = 0; ready = 0 }) c.loop-one-test.true in
     omega (arith, long, c.candidate_of-other.ensures.process, within)
 
+-- the better of the best and one more candidate is the best so far
 pub loop-one-preserved : goal.loop-one-preserved
 loop-one-preserved c =
     let within = c.requires.within c.loop-one.one-index (record { process = 0; ready = 0 }) c.loop-one-test.true in
@@ -34,6 +37,7 @@ loop-one-preserved c =
           c.candidate_of-other.ensures.process c.candidate_of-other.ensures.start;
     }
 
+-- all have been compared, so the best is the process to place next
 pub returns : goal.returns
 returns c o starts free fed =
     let done =

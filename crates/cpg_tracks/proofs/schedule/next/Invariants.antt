@@ -3,6 +3,7 @@ use Rattle.cpg_base.specs.Graph.{process_count}
 use Rattle.cpg_tracks.specs.Timing.{AreFree, AreFed, IsBestOf}
 use Rattle.cpg_tracks.proofs.schedule.next.Given as goal
 
+-- `best` is the candidate that starts soonest among those so far, or the more urgent one of two that start together
 abbrev pub invariant-loop-one : goal.invariant-loop-one
 invariant-loop-one l = record {
   within : IfSome l.best (λ c. c.process < process_count l.problem);

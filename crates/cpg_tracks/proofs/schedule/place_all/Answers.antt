@@ -10,6 +10,7 @@ use Rattle.cpg_tracks.proofs.GreedySteps.{duration_at, durations_long}
 use Rattle.cpg_tracks.proofs.Feeding.{fed_next}
 use Rattle.cpg_tracks.proofs.schedule.place_all.Goals as goal
 
+-- at the start no process is placed
 pub loop-placed-init : goal.loop-placed-init
 loop-placed-init c =
     let g = c.args.problem.now in
@@ -26,6 +27,7 @@ loop-placed-init c =
           c.in_ok-fed.ensures);
     }
 
+-- there is a free time for each node
 pub next-requires-clause-free : goal.next-requires-clause-free
 next-requires-clause-free c =
     let g = c.args.problem.now in
@@ -37,6 +39,7 @@ next-requires-clause-free c =
     let h = c.loop-placed.invariant.placed in
     ap length c.as_slice-in-loop-placed.ensures.value ∙ frees_long g a.limits a.well_formed o s f n h
 
+-- what can be placed is a process of the graph
 pub next-requires-clause-within : goal.next-requires-clause-within
 next-requires-clause-within c =
     let g = c.args.problem.now in
@@ -45,6 +48,7 @@ next-requires-clause-within c =
     (fed_within g c.args.track.now.outcome c.loop-placed.starts.items c.loop-placed.fed.items
     c.loop-placed.invariant.fed)
 
+-- nothing can be placed any more, so the schedule is greedy
 pub returns-in_default-clause-greedy : goal.returns-in_default-clause-greedy
 returns-in_default-clause-greedy c =
     let g = c.args.problem.now in
@@ -60,6 +64,7 @@ returns-in_default-clause-greedy c =
     c.as_slice-in-loop-placed.ensures.value c.as_slice-in-loop-placed-2.ensures.value h.free c.loop-placed.invariant.fed
     c.next.ensures c.in_default.is)
 
+-- the chosen process has a duration in the table
 pub index-requires : goal.index-requires
 index-requires c =
     let g = c.args.problem.now in
@@ -74,6 +79,7 @@ index-requires c =
     c.next.ensures c.in-Some.is in
     omega (arith, next.0.fed.within, durations_long g c.in_ok-timing.timing c.in_ok-timing.ensures.timing)
 
+-- the end of the chosen process fits a number of 64 bits
 pub overflow_add-end : goal.overflow_add-end
 overflow_add-end c =
     let g = c.args.problem.now in
@@ -98,6 +104,7 @@ overflow_add-end c =
       duration-le g p g.faults a.limits next.0.fed.within a.limits.faults,
     )
 
+-- with the chosen process the schedule is still early enough to go on
 pub feed_targets-requires-clause-starts : goal.feed_targets-requires-clause-starts
 feed_targets-requires-clause-starts c =
     let g = c.args.problem.now in
@@ -120,6 +127,7 @@ feed_targets-requires-clause-starts c =
     (placed_open g a.limits a.well_formed o _ _ (n + 1) more
     (omega (arith, ap length c.processes-count.ensures.processes, c.loop-placed-test.true)))
 
+-- without the chosen process, only targets of its outputs may be missing from what can be placed
 pub feed_targets-requires-clause-fed : goal.feed_targets-requires-clause-fed
 feed_targets-requires-clause-fed c =
     let g = c.args.problem.now in
@@ -139,6 +147,7 @@ feed_targets-requires-clause-fed c =
     c.as_slice-in-loop-placed-3.result.now c.drop_placed.new.fed.items c.loop-placed.invariant.fed
     next.1 c.as_slice-in-loop-placed-3.ensures.value c.drop_placed.ensures)
 
+-- one more process is placed, and what can be placed is complete again
 pub loop-placed-preserved : goal.loop-placed-preserved
 loop-placed-preserved c =
     let g = c.args.problem.now in
@@ -165,6 +174,7 @@ loop-placed-preserved c =
           c.as_slice-in-loop-placed-3.ensures.value c.in_ok-feed_targets.ensures);
     }
 
+-- all processes have had their turn, so the schedule is greedy
 pub returns-clause-greedy : goal.returns-clause-greedy
 returns-clause-greedy c =
     let g = c.args.problem.now in
@@ -179,6 +189,7 @@ returns-clause-greedy c =
     placed_greedy g a.limits a.well_formed o s f n h c.args.order.now a.topological
     (placed_whole g a.limits a.well_formed o s f n h count)
 
+-- no start is later than 2^60
 pub returns-in_default-clause-early : goal.returns-in_default-clause-early
 returns-in_default-clause-early c =
     let g = c.args.problem.now in
@@ -191,6 +202,7 @@ returns-in_default-clause-early c =
     placed_early g a.limits a.well_formed o s f n h
     (omega (arith, ap length c.processes-count.ensures.processes, c.loop-placed-test.true))
 
+-- no start is later than 2^60
 pub returns-clause-early : goal.returns-clause-early
 returns-clause-early c =
     let g = c.args.problem.now in

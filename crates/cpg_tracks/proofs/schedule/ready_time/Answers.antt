@@ -13,6 +13,7 @@ use Rattle.cpg_tracks.proofs.GreedySteps.{fed_takes, fed_skips, not_fed}
 use Rattle.cpg_tracks.proofs.schedule.ready_time.Goals as goal
 use Rattle.cpg_tracks.proofs.schedule.ready_time.Goals.{then-index+in-Some, else-index}
 
+-- an input of the process is an edge of the graph, which the table has
 pub index-requires : goal.index-requires
 index-requires c =
     let g = c.args.problem.now in
@@ -25,6 +26,7 @@ index-requires c =
       live_long g c.args.timing.now c.requires.timing,
     )
 
+-- an input of the process is an edge of the graph
 pub input_time-requires-clause-edge : goal.input_time-requires-clause-edge
 input_time-requires-clause-edge c =
     let g = c.args.problem.now in
@@ -33,6 +35,7 @@ input_time-requires-clause-edge c =
     (inputs_parts g c.args.process e (subst (λ xs. Contains xs e) same
     (Contains-get_or c.inputs-edge-items.result.now c.loop-edge.edge-index 0 c.loop-edge-test.true))).0
 
+-- a live input isn't there, so the process can't be placed
 pub returns-in_default-clause-none : goal.returns-in_default-clause-none
 returns-in_default-clause-none c =
     let g = c.args.problem.now in
@@ -50,6 +53,7 @@ returns-in_default-clause-none c =
     (input_missing (λ _. input_ready g c.args.starts.now e) (get_or c.args.starts.now (source g e) None)
     (sym c.input_time.ensures ∙ c.in_default.is))
 
+-- a live input is one more that the process waits for, and any other input is passed over
 pub loop-edge-preserved : goal.loop-edge-preserved
 loop-edge-preserved c =
     let g = c.args.problem.now in
@@ -87,6 +91,7 @@ loop-edge-preserved c =
 pub returns-then-is_some-clause-none : goal.returns-then-is_some-clause-none
 returns-then-is_some-clause-none c f = true≢false (sym c.if-is_some.true ∙ c.is_some.ensures ∙ f.unplaced)
 
+-- all live inputs are there, so the process can be placed
 pub returns-clause-fed : goal.returns-clause-fed
 returns-clause-fed c =
     let g = c.args.problem.now in
@@ -100,6 +105,7 @@ returns-clause-fed c =
           (subst (λ es. Contains (filter (live g (outcome_of c.args.timing.now)) es) e) (sym done) k);
     }
 
+-- all live inputs are counted, so this is when the process is ready
 pub returns-clause-ready : goal.returns-clause-ready
 returns-clause-ready c =
     let g = c.args.problem.now in

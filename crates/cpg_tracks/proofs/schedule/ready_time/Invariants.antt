@@ -7,6 +7,7 @@ use Rattle.cpg_tracks.specs.Placing.{has_start}
 use Rattle.cpg_tracks.specs.Timing.{outcome_of}
 use Rattle.cpg_tracks.proofs.schedule.ready_time.Given as goal
 
+-- `ready` is the latest of the release and of the live inputs so far, and the source of each of these has its start
 abbrev pub invariant-loop-edge : goal.invariant-loop-edge
 invariant-loop-edge l = record {
   ready : l.ready ≡ greatest ((process_at l.problem l.process).release ∷ map (input_ready l.problem l.starts)

@@ -5,6 +5,7 @@ use Rattle.cpg_tracks.specs.Track.{Track, AreBy}
 use Rattle.cpg_tracks.proofs.Keyed.{schedules_more}
 use Rattle.cpg_tracks.proofs.schedule.schedules.Goals as goal
 
+-- the schedule of one more track is found
 pub loop-track-preserved : goal.loop-track-preserved
 loop-track-preserved c =
     let g = c.args.admitted.now.graph in

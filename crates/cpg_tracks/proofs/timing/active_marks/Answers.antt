@@ -5,6 +5,7 @@ use Rattle.cpg_tracks.proofs.GreedySteps.{active_at}
 use Rattle.cpg_tracks.proofs.Feeding.{mark_set, mark_only, marks_done}
 use Rattle.cpg_tracks.proofs.timing.active_marks.Goals as goal
 
+-- an active process of the track has a mark
 pub index_mut-requires : goal.index_mut-requires
 index_mut-requires c =
     let same = c.active-process-items.ensures in
@@ -12,6 +13,7 @@ index_mut-requires c =
     (omega (arith, ap length same, c.loop-process-test.true)) in
     rw same (omega (arith, a.0, c.loop-process.invariant.count))
 
+-- one more active process is marked
 pub loop-process-preserved : goal.loop-process-preserved
 loop-process-preserved c =
     let i = c.loop-process.process-index in
@@ -32,6 +34,7 @@ loop-process-preserved c =
           subst (λ xs. Contains xs q) (sym more) (mark_only marks (take i actives) p c.loop-process.invariant.only q k);
     }
 
+-- exactly the active processes are marked
 pub returns : goal.returns
 returns c =
     let actives = c.args.track.now.active in

@@ -2,6 +2,7 @@ use Rattle.std.proofs.Common.{ℕ, ◌≡◌, true, false, Contains, get_or, len
 use Rattle.cpg_base.specs.Graph.{process_count}
 use Rattle.cpg_tracks.proofs.timing.active_marks.Given as goal
 
+-- the marked processes are exactly the active ones so far
 abbrev pub invariant-loop-process : goal.invariant-loop-process
 invariant-loop-process l = record {
   count : length l.marks.items ≡ process_count l.problem;

@@ -3,5 +3,6 @@ use Rattle.cpg_base.specs.Numbers.{numbers_below}
 use Rattle.cpg_base.specs.Activity.{live}
 use Rattle.cpg_tracks.proofs.timing.live_edges.Given as goal
 
+-- the list says for each edge so far whether it is live
 abbrev pub invariant-loop-edge : goal.invariant-loop-edge
 invariant-loop-edge l = l.found.items ≡ map (live l.problem l.scenario.values) (numbers_below l.edge)

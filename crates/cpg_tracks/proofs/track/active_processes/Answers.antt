@@ -4,6 +4,7 @@ use Rattle.cpg_base.proofs.Lists.{filter_below_takes, filter_below_skips}
 use Rattle.cpg_tracks.proofs.track.active_processes.Goals as goal
 use Rattle.cpg_tracks.proofs.track.active_processes.Goals.{then-active+in_ok-push, else-active}
 
+-- an active process is listed, and an inactive one is passed over
 pub loop-process-preserved : goal.loop-process-preserved
 loop-process-preserved c = let a = c.requires.admitted in
     let is = sym (c.active.ensures.active c.args.problem.now a.0 a.1.guards) in

@@ -4,6 +4,7 @@ use Rattle.cpg_tracks.specs.Walks.{both_ways_at}
 use Rattle.cpg_tracks.specs.Track.{outcomes_of, HasValues}
 use Rattle.cpg_tracks.proofs.track.both_ways.Given as goal
 
+-- each outcome so far is there, and once more with the condition true if the condition's process is active
 abbrev pub invariant-loop-scenario : goal.invariant-loop-scenario
 invariant-loop-scenario l = record {
   ways : outcomes_of l.found.items

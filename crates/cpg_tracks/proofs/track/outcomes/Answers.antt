@@ -13,6 +13,7 @@ use Rattle.cpg_tracks.proofs.WalkSteps.{walk_takes, walk_skips, stopped_at, none
 use Rattle.cpg_tracks.proofs.track.outcomes.Goals as goal
 use Rattle.cpg_tracks.proofs.track.outcomes.Goals.{in-Some+in_ok-scenarios+else-len-gt-MOST_TRACKS, in_default}
 
+-- what stands in the order is a process of the graph
 pub condition_of-requires : goal.condition_of-requires
 condition_of-requires c =
     let same = c.processes-process-items.ensures.processes in
@@ -20,6 +21,7 @@ condition_of-requires c =
     (omega (arith, ap length same, c.loop-process-test.true)) in
     rw same (omega (arith, length_order (process_count c.args.problem.now) c.args.order.now c.requires.topological.all))
 
+-- there are too many outcomes already, and the conditions that are left make no fewer
 pub returns-then-len-gt-MOST_TRACKS-clause-many : goal.returns-then-len-gt-MOST_TRACKS-clause-many
 returns-then-len-gt-MOST_TRACKS-clause-many c =
     let g = c.args.problem.now in
@@ -39,6 +41,7 @@ returns-then-len-gt-MOST_TRACKS-clause-many c =
       length-map c.in_ok-scenarios.scenarios.items (λ (s : Scenario). s.values),
     ))
 
+-- a process with a condition makes outcomes, and any other process leaves them as they are
 pub loop-process-preserved : goal.loop-process-preserved
 loop-process-preserved c =
     let g = c.args.problem.now in
@@ -66,6 +69,7 @@ loop-process-preserved c =
       }
     ]
 
+-- all conditions have been visited, so the outcomes are the tracks
 pub returns-clause-tracks : goal.returns-clause-tracks
 returns-clause-tracks c =
     let g = c.args.problem.now in

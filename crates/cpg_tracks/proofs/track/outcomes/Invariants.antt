@@ -5,6 +5,7 @@ use Rattle.cpg_tracks.specs.Walks.{tracks_over}
 use Rattle.cpg_tracks.specs.Track.{outcomes_of, HasValues}
 use Rattle.cpg_tracks.proofs.track.outcomes.Given as goal
 
+-- the outcomes are those that the conditions of the processes so far can have, and are not too many to schedule
 abbrev pub invariant-loop-process : goal.invariant-loop-process
 invariant-loop-process l = record {
   walked : outcomes_of l.scenarios.items

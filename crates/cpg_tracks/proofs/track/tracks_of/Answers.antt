@@ -5,6 +5,7 @@ use Rattle.cpg_tracks.specs.Track.{IsTrackOf}
 use Rattle.cpg_tracks.proofs.WalkSteps.{outcomes_more}
 use Rattle.cpg_tracks.proofs.track.tracks_of.Goals as goal
 
+-- the track of one more outcome is found
 pub loop-scenario-preserved : goal.loop-scenario-preserved
 loop-scenario-preserved c = record {
   outcomes = outcomes_more c.args.scenarios.now c.loop-scenario.tracks.items c.push.new.self.items

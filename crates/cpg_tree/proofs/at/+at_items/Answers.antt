@@ -6,6 +6,7 @@ pub returns-in-Value : goal.returns-in-Value
 returns-in-Value g t c n are =
     at_leaf c.args.items.now n are c.args.scenario.now c.in-Value.value c.in-Value.ensures.shows
 
+-- the scenario's number is at most the cut, so its value is that of the side below
 pub returns-then-number-cut : goal.returns-then-number-cut
 returns-then-number-cut g t c n are =
     let shows = c.in-Cut.ensures.shows in
@@ -13,6 +14,7 @@ returns-then-number-cut g t c n are =
     c.at_items.result (omega (arith, c.number.ensures, c.if-number-cut.true))
     (c.at_items.ensures shows.0 shows.2)
 
+-- the scenario's number is above the cut, so its value is that of the side above
 pub returns-else-number-cut : goal.returns-else-number-cut
 returns-else-number-cut g t c n are =
     let shows = c.in-Cut.ensures.shows in

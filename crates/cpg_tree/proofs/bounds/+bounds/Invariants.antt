@@ -1,6 +1,7 @@
 use Rattle.std.proofs.Common.{◌+◌, ◌*◌, length}
 use Rattle.cpg_tree.proofs.bounds.+bounds.Given as goal
 
+-- a side of a fork has fewer items than the fork, and `push_bounds` calls `push_fork_bounds` with the same items
 abbrev pub decreases-push_bounds : goal.decreases-push_bounds
 decreases-push_bounds g l = length l.items.now * 2 + 1
 

@@ -8,6 +8,7 @@ on_true : {P : Type 0} (b : Bool) → (b ≡ true → P) → OnTrue b P
 on_true true h = h refl
 on_true false h = tt
 
+-- each number of the one list is at least the greatest of the other
 pub returns : goal.returns
 returns g c = on_true c.are_from.result (λ h n m are others.
     at_least_is (g.R.Reading.number c.args.read.now)

@@ -3,6 +3,7 @@ use Rattle.cpg_tree.specs.Bounds.{bounds_in, span_in}
 use Rattle.cpg_tree.proofs.BoundLaws.{forks_are}
 use Rattle.cpg_tree.proofs.bounds.sides.Goals as goal
 
+-- the spans of a fork are those of both sides and its own, and half the items of the side below are forks
 pub returns-clause-bounds : goal.returns-clause-bounds
 returns-clause-bounds g c number v cut x y is are =
     c.bounds_of_sides.ensures (bounds_in number x) (bounds_in number y) (span_in number (Fork v cut x y)) are

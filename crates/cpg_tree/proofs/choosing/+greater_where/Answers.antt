@@ -8,6 +8,7 @@ use Rattle.cpg_tree.proofs.WhereLaws.{where_both_sides, where_side_above, where_
 use Rattle.cpg_tree.proofs.WhereLaws.{where_value_on}
 use Rattle.cpg_tree.proofs.choosing.+greater_where.Goals as goal
 
+-- the space is closed below the cut, so the answer for the chooser's side above is the answer for the fork
 pub returns-then-not-is_open_below-clause-made : goal.returns-then-not-is_open_below-clause-made
 returns-then-not-is_open_below-clause-made g t c =
     let answers : g.row.T.Denot → g.row.U.Denot → g.row.V.Denot → Type 0 =
@@ -23,6 +24,7 @@ returns-then-not-is_open_below-clause-made g t c =
     (from_false c.is_open_below.result c.if-not-is_open_below.true c.is_open_below.ensures.none)
     (made shows.1 n m shows.3 own others))
 
+-- the space is closed above the cut, so the answer for the chooser's side below is the answer for the fork
 pub returns-then-not-is_open_above-clause-made : goal.returns-then-not-is_open_above-clause-made
 returns-then-not-is_open_above-clause-made g t c =
     let answers : g.row.T.Denot → g.row.U.Denot → g.row.V.Denot → Type 0 =
@@ -38,6 +40,7 @@ returns-then-not-is_open_above-clause-made g t c =
     (from_false c.is_open_above.result c.if-not-is_open_above.true c.is_open_above.ensures.none)
     (made shows.0 n m shows.2 own others))
 
+-- the chooser is true, so the answer is what `greater_by` makes of the two trees
 pub returns-then-is_on-clause-made : goal.returns-then-is_on-clause-made
 returns-then-is_on-clause-made g t c =
     let answers : g.row.T.Denot → g.row.U.Denot → g.row.V.Denot → Type 0 =
@@ -50,6 +53,7 @@ returns-then-is_on-clause-made g t c =
     c.args.chooser.now are n m c.args.out.now.items c.greater_by.new.out.items
     (c.in-Value.ensures.shows ∙ ap (λ b. flat (Leaf b)) c.if-is_on.true) (made n m own others))
 
+-- the chooser is false, so the one value is added
 pub returns-else-is_on-clause-made : goal.returns-else-is_on-clause-made
 returns-else-is_on-clause-made g t c =
     let answers : g.row.T.Denot → g.row.U.Denot → g.row.V.Denot → Type 0 =
@@ -62,6 +66,8 @@ returns-else-is_on-clause-made g t c =
     c.args.chooser.now are n m c.args.out.now.items c.put.new.list.items
     (c.in-Value.ensures.shows ∙ ap (λ b. flat (Leaf b)) c.if-is_on.false) added)
 
+-- Both sides are open: the answers for the chooser's two sides are joined by a fork. In between the highs are put
+-- back, so that the space above the cut is that of the spaces given.
 pub returns-in_ok-greater_where-in-Cut-2-clause-made : goal.returns-in_ok-greater_where-in-Cut-2-clause-made
 returns-in_ok-greater_where-in-Cut-2-clause-made g t c =
     let answers : g.row.T.Denot → g.row.U.Denot → g.row.V.Denot → Type 0 =

@@ -1,5 +1,6 @@
 use Rattle.std.proofs.Common.{length}
 use Rattle.cpg_tree.proofs.choosing.+greater_where.Given as goal
 
+-- each call goes to a side of the chooser's fork, which has fewer items
 abbrev pub decreases-greater_where : goal.decreases-greater_where
 decreases-greater_where g l = length l.chooser.now

@@ -5,6 +5,7 @@ use Rattle.cpg_tree.proofs.Forks.{from_true}
 use Rattle.cpg_tree.proofs.ForkLaws.{forks_same, forks_repeated}
 use Rattle.cpg_tree.proofs.fork.fork_by_sides.Goals as goal
 
+-- both sides are equal: the side above is cut off, and the side below alone is the fork
 pub returns-then-sides_are_same-clause-made : goal.returns-then-sides_are_same-clause-made
 returns-then-sides_are_same-clause-made g c before below above split =
     forks_same c.args.start c.args.middle c.args.out.now.items before below above split c.args.variable c.args.cut
@@ -14,6 +15,7 @@ returns-then-sides_are_same-clause-made g c before below above split =
     (from_true c.sides_are_same.result c.if-sides_are_same.true c.sides_are_same.ensures))
     c.truncate.ensures.items
 
+-- the side below is repeated on the side above: it is taken out, and the side above alone is the fork
 pub returns-then-above_repeats_below-clause-made : goal.returns-then-above_repeats_below-clause-made
 returns-then-above_repeats_below-clause-made g c before below above split =
     forks_repeated c.args.start c.args.middle c.args.out.now.items before below above split c.args.variable c.args.cut

@@ -2,6 +2,7 @@ use Rattle.cpg_tree.proofs.Forks.{of_answer}
 use Rattle.cpg_tree.proofs.ForkLaws.{forks_plain}
 use Rattle.cpg_tree.proofs.fork.fork_of.Goals as goal
 
+-- the cut that is pushed behind the two lists makes them the list of the fork
 pub returns-clause-made : goal.returns-clause-made
 returns-clause-made g c =
     of_answer c.push_cut.result _ _ c.push_cut.ensures

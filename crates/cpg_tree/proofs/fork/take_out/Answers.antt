@@ -5,6 +5,7 @@ use Rattle.cpg_tree.proofs.fork.take_out.Goals as goal
 pub loop-i-init : goal.loop-i-init
 loop-i-init g c = record { long = search rules; is = moved_none c.args.out.now.items c.args.from c.args.count }
 
+-- one item more is moved to its new place
 pub loop-i-preserved : goal.loop-i-preserved
 loop-i-preserved g c = record {
   long = search rules;
@@ -12,6 +13,7 @@ loop-i-preserved g c = record {
       (search rules) (search rules) c.loop-i.invariant.is c.index.ensures;
 }
 
+-- all items behind those taken out are moved, and what is left over at the end is cut off
 pub returns : goal.returns
 returns g c =
     let left : ℕ = c.len.result - c.args.count in

@@ -3,6 +3,7 @@ use Rattle.cpg_tree.proofs.Forks.{from_false}
 use Rattle.cpg_tree.proofs.GreaterLaws.{bounded_above, bounded_below}
 use Rattle.cpg_tree.proofs.greater.+bounded_part.Goals as goal
 
+-- the space is closed below the cut, so the part of the side above is that of the fork, with its spans
 pub returns-then-not-is_open_below-clause-part : goal.returns-then-not-is_open_below-clause-part
 returns-then-not-is_open_below-clause-part g t c n are =
     let shows = c.in-Cut.ensures.shows in
@@ -13,6 +14,7 @@ returns-then-not-is_open_below-clause-part g t c n are =
     (λ number e. (c.sides.ensures.bounds number c.in-Cut.variable c.in-Cut.cut shows.0 shows.1 shows.2 e).1)
     (c.bounded_part.ensures.part shows.1 (c.sides.ensures.above ∙ shows.3))
 
+-- the space is closed above the cut, so the part of the side below is that of the fork, with its spans
 pub returns-then-not-is_open_above-clause-part : goal.returns-then-not-is_open_above-clause-part
 returns-then-not-is_open_above-clause-part g t c n are =
     let shows = c.in-Cut.ensures.shows in

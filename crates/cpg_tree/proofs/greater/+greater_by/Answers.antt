@@ -11,6 +11,7 @@ use Rattle.cpg_tree.proofs.GreaterLaws.{added_above, added_below, added_fork, le
 use Rattle.cpg_tree.proofs.GreaterLaws.{part_bounded, side_bounded}
 use Rattle.cpg_tree.proofs.greater.+greater_by.Goals as goal
 
+-- by their spans the first tree is at least the second's part everywhere, so its own values are added
 pub returns-then-is_at_least-clause-made : goal.returns-then-is_at_least-clause-made
 returns-then-is_at_least-clause-made g t c =
     let number : g.row.T.Denot → ℕ = g.R.Reading.number c.args.how.now.read.now in
@@ -26,6 +27,7 @@ returns-then-is_at_least-clause-made g t c =
     (c.span_of-other_span.ensures part.0 part.1) c.is_at_least.ensures c.if-is_at_least.true)
     (made n are))
 
+-- by their spans the second tree's part is at least the first everywhere, so its values are added
 pub returns-then-is_at_least-2-clause-made : goal.returns-then-is_at_least-2-clause-made
 returns-then-is_at_least-2-clause-made g t c =
     let number : g.row.T.Denot → ℕ = g.R.Reading.number c.args.how.now.read.now in
@@ -41,6 +43,7 @@ returns-then-is_at_least-2-clause-made g t c =
     (c.span_of-own_span.ensures n are) c.is_at_least-2.ensures c.if-is_at_least-2.true)
     (made part.0 part.1))
 
+-- the first tree is one value, so the greater of that and each value of the second's part is added
 pub returns-in-Value-clause-made : goal.returns-in-Value-clause-made
 returns-in-Value-clause-made g t c =
     let number : g.row.T.Denot → ℕ = g.R.Reading.number c.args.how.now.read.now in
@@ -54,6 +57,7 @@ returns-in-Value-clause-made g t c =
     (flat-same n (Leaf c.in-Value.value) (sym are ∙ c.in-Value.ensures.shows)) c.number-number.ensures
     (made part.0 part.1))
 
+-- all scenarios go above the cut, so the answer for the side above is the answer for the fork
 pub returns-in_ok-greater_by-in-Above-clause-made : goal.returns-in_ok-greater_by-in-Above-clause-made
 returns-in_ok-greater_by-in-Above-clause-made g t c n m are others =
     let number : g.row.T.Denot → ℕ = g.R.Reading.number c.args.how.now.read.now in
@@ -71,6 +75,7 @@ returns-in_ok-greater_by-in-Above-clause-made g t c n m are others =
     c.args.own.items.now shows.4 are m part.0 part.2 c.args.out.now.items c.greater_by.new.out.items inner way.0
     (c.in_ok-greater_by-in-Above.ensures.made shows.1 part.0 (c.sides.ensures.above ∙ shows.3) part.1)
 
+-- all scenarios go below the cut, so the answer for the side below is the answer for the fork
 pub returns-in_ok-greater_by-in-Below-clause-made : goal.returns-in_ok-greater_by-in-Below-clause-made
 returns-in_ok-greater_by-in-Below-clause-made g t c n m are others =
     let number : g.row.T.Denot → ℕ = g.R.Reading.number c.args.how.now.read.now in
@@ -89,6 +94,8 @@ returns-in_ok-greater_by-in-Below-clause-made g t c n m are others =
     c.greater_by-in-Below.new.out.items inner way.0
     (c.in_ok-greater_by-in-Below.ensures.made shows.0 part.0 (c.sides.ensures.below ∙ shows.2) part.1)
 
+-- The scenarios go both ways: the answers for both sides are joined by a fork. In between the highs are put back, so
+-- that the spaces above the cut are those of the spaces given.
 pub returns-in_ok-greater_by-in-Both-2-clause-made : goal.returns-in_ok-greater_by-in-Both-2-clause-made
 returns-in_ok-greater_by-in-Both-2-clause-made g t c =
     let number : g.row.T.Denot → ℕ = g.R.Reading.number c.args.how.now.read.now in
@@ -122,6 +129,7 @@ returns-in_ok-greater_by-in-Both-2-clause-made g t c =
     (c.in_ok-greater_by-in-Both.ensures.made shows.0 part.0 (c.sides.ensures.below ∙ shows.2) part.1)
     (c.in_ok-greater_by-in-Both-2.ensures.made shows.1 part.0 (c.sides.ensures.above ∙ shows.3) part.1))
 
+-- the call for the side above: its list is shorter, and it and the second tree's part have the spans of their forks
 pub greater_by-requires : goal.greater_by-requires
 greater_by-requires g t c κs within =
     let number : g.row.T.Denot → ℕ = g.R.Reading.number c.args.how.now.read.now in
@@ -163,6 +171,7 @@ greater_by-requires g t c κs within =
       ),
     )
 
+-- the call for the side below, if all scenarios go there: its list is shorter, and the spans are those of its forks
 pub greater_by-requires-in-Below : goal.greater_by-requires-in-Below
 greater_by-requires-in-Below g t c κs within =
     let number : g.row.T.Denot → ℕ = g.R.Reading.number c.args.how.now.read.now in
@@ -204,6 +213,7 @@ greater_by-requires-in-Below g t c κs within =
       ),
     )
 
+-- the call for the side below, if scenarios go both ways: its list is shorter, and the spans are those of its forks
 pub greater_by-requires-in-Both : goal.greater_by-requires-in-Both
 greater_by-requires-in-Both g t c κs within =
     let number : g.row.T.Denot → ℕ = g.R.Reading.number c.args.how.now.read.now in
@@ -245,6 +255,7 @@ greater_by-requires-in-Both g t c κs within =
       ),
     )
 
+-- the call for the side above, if scenarios go both ways: its list is shorter, and the spans are those of its forks
 pub greater_by-requires-in-Both-2 : goal.greater_by-requires-in-Both-2
 greater_by-requires-in-Both-2 g t c κs within =
     let number : g.row.T.Denot → ℕ = g.R.Reading.number c.args.how.now.read.now in
@@ -290,6 +301,7 @@ pub returns-in_ok-greater_by-in-Both-2-clause-long : goal.returns-in_ok-greater_
 returns-in_ok-greater_by-in-Both-2-clause-long g t c =
     of_answer c.fork.result _ _ c.fork.ensures.long (λ u h. omega (arith, h, c.len-start.ensures, c.fork.new.out.ok.0))
 
+-- the highs and then the lows are put back, so in the end the spaces are those given
 pub returns-in_ok-greater_by-in-Both-2-clause-back : goal.returns-in_ok-greater_by-in-Both-2-clause-back
 returns-in_ok-greater_by-in-Both-2-clause-back g t c =
     let spaces : SpacePair = c.args.spaces.now in

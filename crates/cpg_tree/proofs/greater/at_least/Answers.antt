@@ -3,6 +3,7 @@ use Rattle.cpg_tree.specs.Added.{AddsTree, IsFilled}
 use Rattle.cpg_tree.proofs.Forks.{of_answer}
 use Rattle.cpg_tree.proofs.greater.at_least.Goals as goal
 
+-- what is made of a value and a leaf is what the function makes of the greater of the two numbers
 pub returns-clause-made : goal.returns-clause-made
 returns-clause-made g c =
     of_answer c.fill_items.result _ _ c.fill_items.ensures.made

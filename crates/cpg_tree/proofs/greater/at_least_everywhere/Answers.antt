@@ -4,6 +4,7 @@ use Rattle.cpg_tree.specs.Flat.{flat}
 use Rattle.cpg_tree.proofs.Forks.{of_answer}
 use Rattle.cpg_tree.proofs.greater.at_least_everywhere.Goals as goal
 
+-- what is made of a leaf is what the function makes of the greater of a value and the leaf's number
 pub returns-clause-made : goal.returns-clause-made
 returns-clause-made g c =
     of_answer c.map_items.result _ _ c.map_items.ensures.made

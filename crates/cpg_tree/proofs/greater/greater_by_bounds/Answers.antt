@@ -6,6 +6,7 @@ use Rattle.cpg_tree.proofs.Forks.{of_answer}
 use Rattle.cpg_tree.proofs.GreaterLaws.{joined_added}
 use Rattle.cpg_tree.proofs.greater.greater_by_bounds.Goals as goal
 
+-- what `greater_by` makes with one space both asked for and walked is made in that space
 pub returns-clause-made : goal.returns-clause-made
 returns-clause-made g c =
     let number : g.row.T.Denot → ℕ = g.R.Reading.number c.args.how.now.read.now in
@@ -17,6 +18,7 @@ returns-clause-made g c =
     c.greater_by.new.out.items (made n m are others) in
     (q.0, q.1 ∙ ap (λ (xs : List (TreeItem g.row.V.Denot)). xs ++ flat q.0) c.in_ok-reserve.ensures.items, q.2))
 
+-- cut at the number of the first tree's forks, the list of spans begins with those of the first tree
 pub greater_by-requires-clause-own : goal.greater_by-requires-clause-own
 greater_by-requires-clause-own g c =
     let n = c.requires.flat in
@@ -31,6 +33,7 @@ greater_by-requires-clause-own g c =
           (c.in_ok-push_bounds-2.ensures.bounds m.0 m.1) (c.len-forks.ensures ∙ c.push_bounds.new.bounds.ok.0),
     )
 
+-- the rest of the list holds the spans of the second tree
 pub greater_by-requires-clause-others : goal.greater_by-requires-clause-others
 greater_by-requires-clause-others g c =
     let n = c.requires.flat in

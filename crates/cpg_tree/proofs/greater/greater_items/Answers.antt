@@ -5,6 +5,7 @@ use Rattle.cpg_tree.proofs.Forks.{from_true, of_answer}
 use Rattle.cpg_tree.proofs.GreaterLaws.{first_added, first_whole, second_added, second_whole}
 use Rattle.cpg_tree.proofs.greater.greater_items.Goals as goal
 
+-- the first tree is one value, so the greater of that and each value of the second is added
 pub returns-in-Value-clause-made : goal.returns-in-Value-clause-made
 returns-in-Value-clause-made g c =
     let number : g.row.T.Denot → ℕ = g.R.Reading.number c.args.how.now.read.now in
@@ -16,6 +17,7 @@ returns-in-Value-clause-made g c =
     (flat-same n (Leaf c.in-Value.value) (sym are ∙ c.in-Value.ensures.shows)) c.number-number.ensures
     (c.requires.other_fit m others) (made m others))
 
+-- the second tree is one value, so the greater of that and each value of the first is added
 pub returns-in-Value-top_of-clause-made : goal.returns-in-Value-top_of-clause-made
 returns-in-Value-top_of-clause-made g c =
     let number : g.row.T.Denot → ℕ = g.R.Reading.number c.args.how.now.read.now in
@@ -28,6 +30,7 @@ returns-in-Value-top_of-clause-made g c =
     (flat-same m (Leaf c.in-Value-top_of.value) (sym others ∙ c.in-Value-top_of.ensures.shows))
     c.number-number-in-Value-top_of.ensures (c.requires.fit n are) (made n are))
 
+-- the first tree is at least the second everywhere, so its own values are added
 pub returns-then-is_at_least-clause-made : goal.returns-then-is_at_least-clause-made
 returns-then-is_at_least-clause-made g c =
     let number : g.row.T.Denot → ℕ = g.R.Reading.number c.args.how.now.read.now in
@@ -39,6 +42,7 @@ returns-then-is_at_least-clause-made g c =
     (from_true c.is_at_least.result c.if-is_at_least.true c.is_at_least.ensures n m are others)
     (c.requires.fit n are) (made n are))
 
+-- the second tree is at least the first everywhere, so its own values are added
 pub returns-then-is_at_least-2-clause-made : goal.returns-then-is_at_least-2-clause-made
 returns-then-is_at_least-2-clause-made g c =
     let number : g.row.T.Denot → ℕ = g.R.Reading.number c.args.how.now.read.now in

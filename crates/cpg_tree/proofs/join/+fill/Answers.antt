@@ -4,6 +4,7 @@ use Rattle.cpg_tree.proofs.Spaces.{above_reopened, lies_reopened}
 use Rattle.cpg_tree.proofs.JoinLaws.{fills_above, fills_below, fills_leaf, fills_fork}
 use Rattle.cpg_tree.proofs.join.+fill.Goals as goal
 
+-- the space is closed below the cut, so the answers for the side above are those for the fork
 pub fill_fork-returns-then-not-is_open_below-clause-made : goal.fill_fork-returns-then-not-is_open_below-clause-made
 fill_fork-returns-then-not-is_open_below-clause-made g t c =
     let shows = c.in-Cut.ensures.shows in
@@ -14,6 +15,7 @@ fill_fork-returns-then-not-is_open_below-clause-made g t c =
     c.args.value c.args.out.now.items c.fill_fork.new.out.items
     (from_false c.is_open_below.result c.if-not-is_open_below.true c.is_open_below.ensures.none) (made shows.1 shows.3))
 
+-- the space is closed above the cut, so the answers for the side below are those for the fork
 pub fill_fork-returns-then-not-is_open_above-clause-made : goal.fill_fork-returns-then-not-is_open_above-clause-made
 fill_fork-returns-then-not-is_open_above-clause-made g t c =
     let shows = c.in-Cut.ensures.shows in
@@ -24,6 +26,7 @@ fill_fork-returns-then-not-is_open_above-clause-made g t c =
     c.args.value c.args.out.now.items c.fill_fork-then-not-is_open_above.new.out.items
     (from_false c.is_open_above.result c.if-not-is_open_above.true c.is_open_above.ensures.none) (made shows.0 shows.2))
 
+-- the tree is one value, so the answer to it is added
 pub fill_items-returns-in-Value-clause-made : goal.fill_items-returns-in-Value-clause-made
 fill_items-returns-in-Value-clause-made g t c =
     of_answer c.put.result _ _ c.put.ensures
@@ -31,6 +34,7 @@ fill_items-returns-in-Value-clause-made g t c =
     g.F.Fn.post c.args.f.now (x, (y, tt)) z) c.args.space.now c.args.value c.in-Value.other c.f.result n
     c.args.items.now c.args.out.now.items c.put.new.list.items c.f.ensures c.in-Value.ensures.shows are added)
 
+-- the tree is one value, so the answer to it is added
 pub fill_fork-returns-in-Value-clause-made : goal.fill_fork-returns-in-Value-clause-made
 fill_fork-returns-in-Value-clause-made g t c =
     of_answer c.put.result _ _ c.put.ensures
@@ -38,6 +42,8 @@ fill_fork-returns-in-Value-clause-made g t c =
     g.F.Fn.post c.args.f.now (x, (y, tt)) z) c.args.space.now c.args.value c.in-Value.other c.f.result n
     c.args.items.now c.args.out.now.items c.put.new.list.items c.f.ensures c.in-Value.ensures.shows are added)
 
+-- Both sides are open: the answers for both are joined by a fork. In between the high is put back, so that the space
+-- above the cut is that of the space given.
 pub fill_fork-returns-in_ok-fill_items-in-Cut-2-clause-made :
     goal.fill_fork-returns-in_ok-fill_items-in-Cut-2-clause-made
 fill_fork-returns-in_ok-fill_items-in-Cut-2-clause-made g t c =

@@ -7,6 +7,8 @@ use Rattle.cpg_tree.proofs.Spaces.{above_reopened, lies_reopened}
 use Rattle.cpg_tree.proofs.JoinLaws.{joins_above, joins_below, joins_leaf, joins_fork, joins_whole}
 use Rattle.cpg_tree.proofs.join.+join.Goals as goal
 
+-- the space is closed below the cut, so the answers for the side above and the other tree's part are those for the
+-- fork
 pub join_items-returns-then-not-is_open_below-clause-made : goal.join_items-returns-then-not-is_open_below-clause-made
 join_items-returns-then-not-is_open_below-clause-made g t c =
     let shows = c.in-Cut.ensures.shows in
@@ -22,6 +24,8 @@ join_items-returns-then-not-is_open_below-clause-made g t c =
     (from_false c.is_open_below.result c.if-not-is_open_below.true c.is_open_below.ensures.none)
     (made shows.1 part.0 shows.3 part.1)))
 
+-- the space is closed above the cut, so the answers for the side below and the other tree's part are those for the
+-- fork
 pub join_items-returns-then-not-is_open_above-clause-made : goal.join_items-returns-then-not-is_open_above-clause-made
 join_items-returns-then-not-is_open_above-clause-made g t c =
     let shows = c.in-Cut.ensures.shows in
@@ -37,6 +41,7 @@ join_items-returns-then-not-is_open_above-clause-made g t c =
     (from_false c.is_open_above.result c.if-not-is_open_above.true c.is_open_above.ensures.none)
     (made shows.0 part.0 shows.2 part.1)))
 
+-- the first tree is one value, so the answers to that value and the other tree's part are added
 pub join_items-returns-in-Value-clause-made : goal.join_items-returns-in-Value-clause-made
 join_items-returns-in-Value-clause-made g t c =
     of_answer c.fill_items.result _ _ c.fill_items.ensures.made
@@ -50,6 +55,7 @@ join_items-returns-in-Value-clause-made g t c =
     c.args.out.now.items c.fill_items.new.out.items
     c.in-Value.ensures.shows are (made part.0 part.1)))
 
+-- the first tree is one value, so the answers to that value and the other tree's part are added
 pub join_side-returns-in-Value-clause-made : goal.join_side-returns-in-Value-clause-made
 join_side-returns-in-Value-clause-made g t c =
     of_answer c.fill_items.result _ _ c.fill_items.ensures.made
@@ -63,11 +69,13 @@ join_side-returns-in-Value-clause-made g t c =
     c.args.out.now.items c.fill_items.new.out.items
     c.in-Value.ensures.shows are (made part.0 part.1)))
 
+-- `fork` leaves what stood before the start, which is at least what stood there at first
 pub join_items-returns-in_ok-join_side-in-Cut-2-clause-long :
     goal.join_items-returns-in_ok-join_side-in-Cut-2-clause-long
 join_items-returns-in_ok-join_side-in-Cut-2-clause-long g t c =
     of_answer c.fork.result _ _ c.fork.ensures.long (λ u h. omega (arith, h, c.len-start.ensures, c.fork.new.out.ok.0))
 
+-- the high and then the low are put back, so in the end the space is the one given
 pub join_items-returns-in_ok-join_side-in-Cut-2-clause-back :
     goal.join_items-returns-in_ok-join_side-in-Cut-2-clause-back
 join_items-returns-in_ok-join_side-in-Cut-2-clause-back g t c =
@@ -79,6 +87,8 @@ join_items-returns-in_ok-join_side-in-Cut-2-clause-back g t c =
     ∙ ap (λ (r : Space). below_cut r c.in-Cut.variable c.close_above-most.result) c.in_ok-join_side-in-Cut.ensures.back
     ∙ c.close_above-most.ensures.back)
 
+-- Both sides are open: the answers for both are joined by a fork. In between the high is put back, so that the space
+-- above the cut is that of the space given.
 pub join_items-returns-in_ok-join_side-in-Cut-2-clause-made :
     goal.join_items-returns-in_ok-join_side-in-Cut-2-clause-made
 join_items-returns-in_ok-join_side-in-Cut-2-clause-made g t c =

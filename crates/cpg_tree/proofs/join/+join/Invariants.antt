@@ -1,6 +1,7 @@
 use Rattle.std.proofs.Common.{◌+◌, ◌*◌, length}
 use Rattle.cpg_tree.proofs.join.+join.Given as goal
 
+-- a side of a fork has fewer items than the fork, and `join_side` calls `join_items` with the same items
 abbrev pub decreases-join_items : goal.decreases-join_items
 decreases-join_items g l = length l.items.now * 2
 

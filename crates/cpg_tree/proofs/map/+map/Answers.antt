@@ -3,6 +3,7 @@ use Rattle.cpg_tree.proofs.Forks.{of_answer}
 use Rattle.cpg_tree.proofs.MapLaws.{maps_leaf, maps_fork}
 use Rattle.cpg_tree.proofs.map.+map.Goals as goal
 
+-- the tree is one value, so its answer is added
 pub map_items-returns-in-Value-clause-made : goal.map_items-returns-in-Value-clause-made
 map_items-returns-in-Value-clause-made g t c =
     of_answer c.put.result _ _ c.put.ensures
@@ -10,6 +11,7 @@ map_items-returns-in-Value-clause-made g t c =
     c.in-Value.value c.f.result n c.args.items.now c.args.out.now.items
     c.put.new.list.items c.f.ensures c.in-Value.ensures.shows are added)
 
+-- the tree is one value, so its answer is added
 pub map_fork-returns-in-Value-clause-made : goal.map_fork-returns-in-Value-clause-made
 map_fork-returns-in-Value-clause-made g t c =
     of_answer c.put.result _ _ c.put.ensures
@@ -17,6 +19,7 @@ map_fork-returns-in-Value-clause-made g t c =
     c.in-Value.value c.f.result n c.args.items.now c.args.out.now.items
     c.put.new.list.items c.f.ensures c.in-Value.ensures.shows are added)
 
+-- the answers for both sides are added one behind the other and joined by a fork
 pub map_fork-returns-in_ok-map_items-in-Cut-2-clause-made : goal.map_fork-returns-in_ok-map_items-in-Cut-2-clause-made
 map_fork-returns-in_ok-map_items-in-Cut-2-clause-made g t c =
     let shows = c.in-Cut.ensures.shows in

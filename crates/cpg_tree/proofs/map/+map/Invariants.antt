@@ -1,6 +1,7 @@
 use Rattle.std.proofs.Common.{◌+◌, ◌*◌, length}
 use Rattle.cpg_tree.proofs.map.+map.Given as goal
 
+-- a side of a fork has fewer items than the fork, and `map_items` calls `map_fork` with the same items
 abbrev pub decreases-map_items : goal.decreases-map_items
 decreases-map_items g l = length l.items.now * 2 + 1
 

@@ -2,6 +2,7 @@ use Rattle.cpg_tree.proofs.Forks.{from_false}
 use Rattle.cpg_tree.proofs.JoinLaws.{part_above, part_below}
 use Rattle.cpg_tree.proofs.part.+part.Goals as goal
 
+-- the space is closed below the cut, so the part of the side above is that of the fork
 pub part_in-returns-then-not-is_open_below-clause-part : goal.part_in-returns-then-not-is_open_below-clause-part
 part_in-returns-then-not-is_open_below-clause-part g t c n are =
     let shows = c.in-Cut.ensures.shows in
@@ -10,6 +11,7 @@ part_in-returns-then-not-is_open_below-clause-part g t c n are =
     (from_false c.is_open_below.result c.if-not-is_open_below.true c.is_open_below.ensures.none)
     (c.part_of.ensures.part shows.1 shows.3)
 
+-- the space is closed above the cut, so the part of the side below is that of the fork
 pub part_in-returns-then-not-is_open_above-clause-part : goal.part_in-returns-then-not-is_open_above-clause-part
 part_in-returns-then-not-is_open_above-clause-part g t c n are =
     let shows = c.in-Cut.ensures.shows in

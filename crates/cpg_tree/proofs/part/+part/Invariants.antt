@@ -1,6 +1,7 @@
 use Rattle.std.proofs.Common.{◌+◌, ◌*◌, length}
 use Rattle.cpg_tree.proofs.part.+part.Given as goal
 
+-- a side of a fork has fewer items than the fork, and `part_of` calls `part_in` with the same items
 abbrev pub decreases-part_in : goal.decreases-part_in
 decreases-part_in g l = length l.items.now * 2
 

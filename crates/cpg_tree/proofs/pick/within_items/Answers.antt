@@ -2,6 +2,7 @@ use Rattle.std.proofs.Common.{rules}
 use Rattle.cpg_tree.proofs.Forks.{of_answer}
 use Rattle.cpg_tree.proofs.pick.within_items.Goals as goal
 
+-- filling a tree with its own values gives a tree for the scenarios of the space
 pub returns-clause-made : goal.returns-clause-made
 returns-clause-made g c =
     of_answer c.fill_items.result _ _ c.fill_items.ensures.made

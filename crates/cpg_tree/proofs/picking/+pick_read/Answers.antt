@@ -9,6 +9,7 @@ use Rattle.cpg_tree.proofs.PickLaws.{picks_above, picks_below, picks_on, picks_o
 use Rattle.cpg_tree.proofs.Readings.{kept_read, part_read}
 use Rattle.cpg_tree.proofs.picking.+pick_read.Goals as goal
 
+-- the space is closed below the cut, so what the chooser's side above picks is what the fork picks
 pub returns-then-not-is_open_below-clause-made : goal.returns-then-not-is_open_below-clause-made
 returns-then-not-is_open_below-clause-made g t c =
     let number : g.row.T.Denot → ℕ = g.R.Reading.number c.args.read.now in
@@ -24,6 +25,7 @@ returns-then-not-is_open_below-clause-made g t c =
     (from_false c.is_open_below.result c.if-not-is_open_below.true c.is_open_below.ensures.none)
     (made shows.1 on.0 off.0 shows.3 on.1 off.1)))
 
+-- the space is closed above the cut, so what the chooser's side below picks is what the fork picks
 pub returns-then-not-is_open_above-clause-made : goal.returns-then-not-is_open_above-clause-made
 returns-then-not-is_open_above-clause-made g t c =
     let number : g.row.T.Denot → ℕ = g.R.Reading.number c.args.read.now in
@@ -42,6 +44,7 @@ returns-then-not-is_open_above-clause-made g t c =
     (from_false c.is_open_above.result c.if-not-is_open_above.true c.is_open_above.ensures.none)
     (made shows.0 on.0 off.0 shows.2 on.1 off.1)))
 
+-- the chooser is true, so the first tree is added as it is read: at least 0, its numbers are what they are
 pub returns-then-is_on-clause-made : goal.returns-then-is_on-clause-made
 returns-then-is_on-clause-made g t c =
     let number : g.row.T.Denot → ℕ = g.R.Reading.number c.args.read.now in
@@ -69,6 +72,7 @@ returns-then-is_on-clause-made g t c =
       },
     )))))
 
+-- the chooser is false, so the second tree is added for the space
 pub returns-else-is_on-clause-made : goal.returns-else-is_on-clause-made
 returns-else-is_on-clause-made g t c =
     let number : g.row.T.Denot → ℕ = g.R.Reading.number c.args.read.now in
@@ -86,6 +90,7 @@ pub returns-in_ok-pick_read-in-Cut-2-clause-long : goal.returns-in_ok-pick_read-
 returns-in_ok-pick_read-in-Cut-2-clause-long g t c =
     of_answer c.fork.result _ _ c.fork.ensures.long (λ u h. omega (arith, h, c.len-start.ensures, c.fork.new.out.ok.0))
 
+-- the high and then the low are put back, so in the end the space is the one given
 pub returns-in_ok-pick_read-in-Cut-2-clause-back : goal.returns-in_ok-pick_read-in-Cut-2-clause-back
 returns-in_ok-pick_read-in-Cut-2-clause-back g t c =
     of_answer c.fork.result _ _ c.fork.ensures.long
@@ -96,6 +101,8 @@ returns-in_ok-pick_read-in-Cut-2-clause-back g t c =
     ∙ ap (λ (r : Space). below_cut r c.in-Cut.variable c.close_above-most.result) c.in_ok-pick_read-in-Cut.ensures.back
     ∙ c.close_above-most.ensures.back)
 
+-- Both sides are open: what either side picks is joined by a fork. In between the high is put back, so that the space
+-- above the cut is that of the space given.
 pub returns-in_ok-pick_read-in-Cut-2-clause-made : goal.returns-in_ok-pick_read-in-Cut-2-clause-made
 returns-in_ok-pick_read-in-Cut-2-clause-made g t c =
     let number : g.row.T.Denot → ℕ = g.R.Reading.number c.args.read.now in

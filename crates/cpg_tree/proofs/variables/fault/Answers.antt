@@ -5,6 +5,7 @@ use Rattle.cpg_tree.proofs.Numbers.{some_whole, whole_counts, number_paths, coun
 use Rattle.cpg_tree.proofs.Passing.{paths_of_forks}
 use Rattle.cpg_tree.proofs.variables.fault.Goals as goal
 
+-- the tree of all counts from 0 on fits the space of all scenarios, so its list is good
 pub of-requires : goal.of-requires
 of-requires c =
     let w = some_whole c.args.k in
@@ -19,6 +20,7 @@ of-requires c =
       ),
     )
 
+-- in each path the tree has the count of the process, and its forks are on that count alone
 pub returns-clause-is : goal.returns-clause-is
 returns-clause-is c =
     let k : ℕ = c.args.k in
@@ -30,6 +32,7 @@ returns-clause-is c =
     (number_paths p k (λ (n : ℕ). n) r.0 (w.0, w.1, r.2.fit w.0 (whole_counts k w.0 p c.requires.process w.1))
     (λ s few. r.2.counts.value s (omega arith) (count_at_most k s few p c.requires.process)) r.2.counts.only)
 
+-- all forks are on the count, so what passes for it passes for the tree
 pub returns-clause-pass : goal.returns-clause-pass
 returns-clause-pass c test on =
     let r = c.in_ok-push_counts.ensures.made in

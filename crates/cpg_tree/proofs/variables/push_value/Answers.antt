@@ -3,6 +3,7 @@ use Rattle.cpg_tree.proofs.Forks.{of_answer}
 use Rattle.cpg_tree.proofs.VariableLaws.{adds_value}
 use Rattle.cpg_tree.proofs.variables.push_value.Goals as goal
 
+-- false and true are added, and then a fork of the two
 pub returns : goal.returns
 returns c =
     of_answer c.fork_of.result _ _ c.fork_of.ensures.made

@@ -6,6 +6,7 @@ use Rattle.cpg_tree.proofs.Numbers.{some_whole, number_paths, value_at_most}
 use Rattle.cpg_tree.proofs.Passing.{paths_of_forks}
 use Rattle.cpg_tree.proofs.variables.value.Goals as goal
 
+-- the tree of false and true fits the space of all scenarios, so its list is good
 pub of-requires : goal.of-requires
 of-requires c =
     let w = some_whole c.args.k in
@@ -15,6 +16,7 @@ of-requires c =
       (w.0, w.1, r.2.fit c.args.k w.0 w.1),
     )
 
+-- in each path the tree has the value of the condition, and its forks are on that value alone
 pub returns-clause-is : goal.returns-clause-is
 returns-clause-is c =
     let k : ℕ = c.args.k in
@@ -26,6 +28,7 @@ returns-clause-is c =
     (number_paths v k number_of_value r.0 (w.0, w.1, r.2.fit k w.0 w.1)
     (λ s few. r.2.value.value s (value_at_most k s few v (omega arith))) r.2.value.only)
 
+-- all forks are on the value, so what passes for it passes for the tree
 pub returns-clause-pass : goal.returns-clause-pass
 returns-clause-pass c test on =
     let r = c.in_ok-push_value.ensures in

@@ -7,6 +7,7 @@ use Rattle.cpg_tree_columns.specs.Columns.{columns_of_paths}
 use Rattle.cpg_tree_columns.proofs.AlongPaths.{sorted_columns}
 use Rattle.cpg_tree_columns.proofs.along.count_along.Goals as goal
 
+-- the forks stand along the order, so the columns of the paths stand by their least scenarios
 pub returns : goal.returns
 returns c =
     let root : TreeNode (Option ℕ) = c.items.ensures.flat.0 in

@@ -4,12 +4,14 @@ use Rattle.cpg_tree.specs.TreeNode.{Fork}
 use Rattle.cpg_tree_columns.proofs.ColumnsFound.{side_cuts, cut_fits, leaf_columns, fork_columns, above_of, above_again}
 use Rattle.cpg_tree_columns.proofs.listing.+push_columns.Goals as goal
 
+-- the cut leaves numbers above it, so the next number fits its type
 pub overflow_add-upper : goal.overflow_add-upper
 overflow_add-upper t c =
     let shows = c.in-Cut.ensures.shows in
     let cuts = c.requires.cuts (Fork c.in-Cut.variable c.in-Cut.cut shows.0 shows.1) shows.4 in
     omega (arith, cut_fits c.args.k c.in-Cut.variable c.in-Cut.cut c.ranges.k.fits cuts.1)
 
+-- the call for the side below: its list is shorter, and its cuts leave numbers above them
 pub push_columns-requires : goal.push_columns-requires
 push_columns-requires t c =
     let shows = c.in-Cut.ensures.shows in
@@ -18,6 +20,8 @@ push_columns-requires t c =
       ((shows.0, shows.2), λ n are. side_cuts c.args.k c.in-Cut.below.now shows.0 n shows.2 cuts.2 are),
     )
 
+-- the call for the side above, after the cube is exchanged: its list is shorter, and its cuts leave numbers above
+-- them
 pub push_columns-requires-then-exchange : goal.push_columns-requires-then-exchange
 push_columns-requires-then-exchange t c =
     let shows = c.in-Cut.ensures.shows in
@@ -26,6 +30,7 @@ push_columns-requires-then-exchange t c =
       ((shows.1, shows.3), λ n are. side_cuts c.args.k c.in-Cut.above.now shows.1 n shows.3 cuts.3 are),
     )
 
+-- the call for the side above, if nothing is below: its list is shorter, and its cuts leave numbers above them
 pub push_columns-requires-in-Some-high : goal.push_columns-requires-in-Some-high
 push_columns-requires-in-Some-high t c =
     let shows = c.in-Cut.ensures.shows in
@@ -34,16 +39,19 @@ push_columns-requires-in-Some-high t c =
       ((shows.1, shows.3), λ n are. side_cuts c.args.k c.in-Cut.above.now shows.1 n shows.3 cuts.3 are),
     )
 
+-- the tree is a leaf with a time, so its one column is added
 pub returns-in_ok-push-in-Value-clause-columns : goal.returns-in_ok-push-in-Value-clause-columns
 returns-in_ok-push-in-Value-clause-columns t c n are =
     leaf_columns c.args.k c.args.cube.now c.args.items.now n (Some c.in-Some.time) c.args.columns.now.items
     c.push.new.self.items (rw c.in-Some.is at c.in-Value.ensures.shows) are (search rules)
 
+-- the tree is a leaf without a time, so no column is added
 pub returns-in_default-clause-columns : goal.returns-in_default-clause-columns
 returns-in_default-clause-columns t c n are =
     leaf_columns c.args.k c.args.cube.now c.args.items.now n None c.args.columns.now.items c.args.columns.now.items
     (rw c.in_default.is at c.in-Value.ensures.shows) are (sym (append-nil c.args.columns.now.items))
 
+-- the cube has numbers on both sides, so the columns of both sides are added one behind the other
 pub returns-in_ok-push_columns-in-Some-low-2-clause-columns :
     goal.returns-in_ok-push_columns-in-Some-low-2-clause-columns
 returns-in_ok-push_columns-in-Some-low-2-clause-columns t c n are =
@@ -59,6 +67,7 @@ returns-in_ok-push_columns-in-Some-low-2-clause-columns t c n are =
     (c.in_ok-push_columns-in-Some-low.ensures.columns shows.0 shows.2)
     (c.in_ok-push_columns-in-Some-low-2.ensures.columns shows.1 shows.3)
 
+-- the cube has numbers only below the cut, so the columns of that side are those of the fork
 pub returns-else-exchange-clause-columns : goal.returns-else-exchange-clause-columns
 returns-else-exchange-clause-columns t c n are =
     let shows = c.in-Cut.ensures.shows in
@@ -73,6 +82,7 @@ returns-else-exchange-clause-columns t c n are =
     (c.in_ok-push_columns-in-Some-low.ensures.columns shows.0 shows.2)
     (sym (append-nil c.push_columns.new.columns.items))
 
+-- the cube has numbers only above the cut, so the columns of that side are those of the fork
 pub returns-in_ok-push_columns-in-None-clause-columns : goal.returns-in_ok-push_columns-in-None-clause-columns
 returns-in_ok-push_columns-in-None-clause-columns t c n are =
     let shows = c.in-Cut.ensures.shows in
@@ -86,6 +96,7 @@ returns-in_ok-push_columns-in-None-clause-columns t c n are =
     c.args.columns.now.items c.args.columns.now.items c.push_columns-in-Some-high.new.columns.items
     (sym (append-nil c.args.columns.now.items)) (c.in_ok-push_columns-in-None.ensures.columns shows.1 shows.3)
 
+-- the cube has numbers on neither side, so the fork has no columns
 pub returns-in_default-high-clause-columns : goal.returns-in_default-high-clause-columns
 returns-in_default-high-clause-columns t c n are =
     let shows = c.in-Cut.ensures.shows in

@@ -12,6 +12,7 @@ use Rattle.cpg_tree_columns.proofs.ColumnsFound.{all_columns}
 use Rattle.cpg_tree_columns.proofs.TidyColumns.{tidy_columns}
 use Rattle.cpg_tree_columns.proofs.listing.listed.Goals as goal
 
+-- the tree is good, so its cuts leave numbers above them
 pub push_columns-requires : goal.push_columns-requires
 push_columns-requires c =
     record {
@@ -20,6 +21,7 @@ push_columns-requires c =
           (good_cuts c.args.tree.now.faults n (c.items.ensures.good n are));
     }
 
+-- the columns that are added from the whole cube on are those of the tree's paths
 pub returns-clause-all : goal.returns-clause-all
 returns-clause-all c =
     let root : TreeNode (Option ℕ) = c.items.ensures.flat.0 in
@@ -32,6 +34,7 @@ returns-clause-all c =
     (ap₂ (λ (m : ℕ) (cube : List Literal). columns_from m cube root) c.faults.ensures c.whole-whole.ensures)
     ∙ all_columns k root good ∙ ap columns_of_paths (sym seen_paths)
 
+-- the columns are those of a good tree whose variables are the graph's, so they are tidy
 pub returns-clause-tidy : goal.returns-clause-tidy
 returns-clause-tidy c =
     let root : TreeNode (Option ℕ) = c.items.ensures.flat.0 in

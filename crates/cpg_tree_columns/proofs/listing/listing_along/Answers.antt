@@ -5,6 +5,7 @@ use Rattle.cpg_cube.specs.Keys.{AreByLows}
 use Rattle.cpg_tree_columns.specs.Columns.{columns_of_paths}
 use Rattle.cpg_tree_columns.proofs.listing.listing_along.Goals as goal
 
+-- the forks stand along the order, so the columns stand by their least scenarios
 pub returns-in_ok-columns-in-Some-clause-sorted : goal.returns-in_ok-columns-in-Some-clause-sorted
 returns-in_ok-columns-in-Some-clause-sorted c =
     subst (AreByLows (λ (d : Column). d.cube) c.args.problem.now c.args.order.now)

@@ -16,6 +16,7 @@ returns-in-Value-clause-met t c = leaf_met c.args.space.now c.in-Value.is' c.arg
 pub returns-in-Value-clause-never : goal.returns-in-Value-clause-never
 returns-in-Value-clause-never t c = leaf_never c.args.space.now c.in-Value.is' c.args.items.now c.in-Value.ensures.shows
 
+-- all scenarios go above, and the side there is true in one
 pub returns-then-not-is_open_below-clause-met : goal.returns-then-not-is_open_below-clause-met
 returns-then-not-is_open_below-clause-met t c =
     let shows = c.in-Cut.ensures.shows in
@@ -24,6 +25,7 @@ returns-then-not-is_open_below-clause-met t c =
     (flat-same n (Fork c.in-Cut.variable c.in-Cut.cut shows.0 shows.1) (sym are ∙ shows.4)) c.args.space.now
     (from_false c.is_open_below.result c.if-not-is_open_below.true c.is_open_below.ensures.none) (met shows.1 shows.3))
 
+-- all scenarios go above, and the side there is true in none
 pub returns-then-not-is_open_below-clause-never : goal.returns-then-not-is_open_below-clause-never
 returns-then-not-is_open_below-clause-never t c =
     let shows = c.in-Cut.ensures.shows in
@@ -33,6 +35,7 @@ returns-then-not-is_open_below-clause-never t c =
     (from_false c.is_open_below.result c.if-not-is_open_below.true c.is_open_below.ensures.none)
     (never shows.1 shows.3))
 
+-- all scenarios go below, and the side there is true in one
 pub returns-then-not-is_open_above-clause-met : goal.returns-then-not-is_open_above-clause-met
 returns-then-not-is_open_above-clause-met t c =
     let shows = c.in-Cut.ensures.shows in
@@ -41,6 +44,7 @@ returns-then-not-is_open_above-clause-met t c =
     (flat-same n (Fork c.in-Cut.variable c.in-Cut.cut shows.0 shows.1) (sym are ∙ shows.4)) c.args.space.now
     (from_false c.is_open_above.result c.if-not-is_open_above.true c.is_open_above.ensures.none) (met shows.0 shows.2))
 
+-- all scenarios go below, and the side there is true in none
 pub returns-then-not-is_open_above-clause-never : goal.returns-then-not-is_open_above-clause-never
 returns-then-not-is_open_above-clause-never t c =
     let shows = c.in-Cut.ensures.shows in
@@ -50,6 +54,7 @@ returns-then-not-is_open_above-clause-never t c =
     (from_false c.is_open_above.result c.if-not-is_open_above.true c.is_open_above.ensures.none)
     (never shows.0 shows.2))
 
+-- a scenario in which the side below is true is one of the fork
 pub returns-then-low-clause-met : goal.returns-then-low-clause-met
 returns-then-low-clause-met t c n are =
     let shows = c.in-Cut.ensures.shows in
@@ -60,6 +65,7 @@ returns-then-low-clause-met t c n are =
     (subst (λ (r : Space). IsTrueIn r shows.0) c.close_above-most.ensures.is
     (from_true c.holds_in-low.result c.if-low.true c.holds_in-low.ensures.met shows.0 shows.2))
 
+-- the high is put back, so a scenario in which the side above is true is one of the fork
 pub returns-else-low-clause-met : goal.returns-else-low-clause-met
 returns-else-low-clause-met t c =
     let shows = c.in-Cut.ensures.shows in
@@ -77,6 +83,7 @@ returns-else-low-clause-met t c =
     (sym c.is_open_above.ensures.is ∙ c.if-not-is_open_above.false)
     (subst (λ (r : Space). IsTrueIn r shows.1) upper (met shows.1 shows.3)))
 
+-- neither side is true in any scenario, so the fork is not either
 pub returns-else-low-clause-never : goal.returns-else-low-clause-never
 returns-else-low-clause-never t c =
     let shows = c.in-Cut.ensures.shows in

@@ -9,6 +9,7 @@ use Rattle.cpg_tree_columns.proofs.Meetings.{most_never, most_least, most_leaf, 
 use Rattle.cpg_tree.proofs.Spaces.{lies_reopened}
 use Rattle.cpg_tree_columns.proofs.meeting.+most_in_space.Goals as goal
 
+-- all scenarios go above, so the greatest number of the side above is that of the fork
 pub returns-then-not-is_open_below-clause-most : goal.returns-then-not-is_open_below-clause-most
 returns-then-not-is_open_below-clause-most t c n w are wanted =
     let shows = c.in-Cut.ensures.shows in
@@ -19,6 +20,7 @@ returns-then-not-is_open_below-clause-most t c n w are wanted =
     (from_false c.is_open_below.result c.if-not-is_open_below.true c.is_open_below.ensures.none)
     (c.most_in_space.ensures.most shows.1 w shows.3 wanted)
 
+-- all scenarios go below, so the greatest number of the side below is that of the fork
 pub returns-then-not-is_open_above-clause-most : goal.returns-then-not-is_open_above-clause-most
 returns-then-not-is_open_above-clause-most t c n w are wanted =
     let shows = c.in-Cut.ensures.shows in
@@ -29,12 +31,14 @@ returns-then-not-is_open_above-clause-most t c n w are wanted =
     (from_false c.is_open_above.result c.if-not-is_open_above.true c.is_open_above.ensures.none)
     (c.most_in_space-then-not-is_open_above.ensures.most shows.0 w shows.2 wanted)
 
+-- the leaf's number is no greater than the best, which stays
 pub returns-then-not-is_greater-clause-most : goal.returns-then-not-is_greater-clause-most
 returns-then-not-is_greater-clause-most t c n w are wanted =
     most_least c.args.space.now n w c.in-Value.number c.args.best
     (flat-same n (Leaf c.in-Value.number) (sym are ∙ c.in-Value.ensures.shows))
     (from_false c.is_greater.result c.if-not-is_greater.true c.is_greater.ensures.none)
 
+-- the leaf's number is greater than the best, and some scenario has it where the other tree is true
 pub returns-then-holds_in-clause-most : goal.returns-then-holds_in-clause-most
 returns-then-holds_in-clause-most t c n w are wanted =
     most_leaf c.args.space.now n w c.in-Value.number c.args.best
@@ -42,11 +46,14 @@ returns-then-holds_in-clause-most t c n w are wanted =
     (from_true c.is_greater.result c.if-not-is_greater.false c.is_greater.ensures.some)
     (from_true c.holds_in.result c.if-holds_in.true c.holds_in.ensures.met w wanted)
 
+-- the other tree is true in no scenario of the space, so the greatest number so far stays
 pub returns-else-holds_in-clause-most : goal.returns-else-holds_in-clause-most
 returns-else-holds_in-clause-most t c n w are wanted =
     most_never c.args.space.now n w c.args.best
     (from_false c.holds_in.result c.if-holds_in.false c.holds_in.ensures.never w wanted)
 
+-- One side after the other is looked at. In between the high is put back, so that the space above the cut is that of
+-- the space given.
 pub returns-else-not-is_open_above-clause-most : goal.returns-else-not-is_open_above-clause-most
 returns-else-not-is_open_above-clause-most t c n w are wanted =
     let shows = c.in-Cut.ensures.shows in

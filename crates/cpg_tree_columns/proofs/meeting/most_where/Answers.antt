@@ -4,6 +4,7 @@ use Rattle.cpg_tree.specs.TreeNode.{TreeNode}
 use Rattle.cpg_tree_columns.proofs.Meetings.{none_where, some_where}
 use Rattle.cpg_tree_columns.proofs.meeting.most_where.Goals as goal
 
+-- no number is found in the space of all scenarios, so callers see none where the other tree is true
 pub returns-clause-none : goal.returns-clause-none
 returns-clause-none c =
     let root : TreeNode (Option ℕ) = c.items.ensures.flat.0 in
@@ -20,6 +21,8 @@ returns-clause-none c =
     (λ s few. c.whole-space.ensures.lies s (subst (λ (k : ℕ). HasAtMostFaults k s) (sym c.faults.ensures) few))
     c.most_in_space.result (c.most_in_space.ensures.most root other are also)
 
+-- the number that is found in the space of all scenarios is the greatest that callers see where the other tree is
+-- true
 pub returns-clause-some : goal.returns-clause-some
 returns-clause-some c =
     let root : TreeNode (Option ℕ) = c.items.ensures.flat.0 in

@@ -7,6 +7,7 @@ use Rattle.cpg_tree_columns.proofs.peaks.+most_of.Goals as goal
 pub returns-in-Value : goal.returns-in-Value
 returns-in-Value t c n are = ap most_of (flat-same (Leaf c.in-Value.time) n (sym c.in-Value.ensures.shows ∙ are))
 
+-- the greatest number of a fork is the greater one of its sides
 pub returns-in-Cut : goal.returns-in-Cut
 returns-in-Cut t c n are =
     let shows = c.in-Cut.ensures.shows in

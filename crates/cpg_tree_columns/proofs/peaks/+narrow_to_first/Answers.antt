@@ -8,12 +8,14 @@ use Rattle.cpg_tree_columns.proofs.FirstColumns.{on_true, on_false, fork_below, 
 use Rattle.cpg_tree_columns.proofs.FirstColumns.{leaf_none}
 use Rattle.cpg_tree_columns.proofs.peaks.+narrow_to_first.Goals as goal
 
+-- the cut leaves numbers above it, so the next number fits its type
 pub overflow_add-upper : goal.overflow_add-upper
 overflow_add-upper t c =
     let shows = c.in-Cut.ensures.shows in
     let cuts = c.requires.cuts (Fork c.in-Cut.variable c.in-Cut.cut shows.0 shows.1) shows.4 in
     omega (arith, cut_fits c.args.k c.in-Cut.variable c.in-Cut.cut c.ranges.k.fits cuts.1)
 
+-- the call for the side below: its list is shorter, and its cuts leave numbers above them
 pub narrow_to_first-requires : goal.narrow_to_first-requires
 narrow_to_first-requires t c =
     let shows = c.in-Cut.ensures.shows in
@@ -22,6 +24,8 @@ narrow_to_first-requires t c =
       ((shows.0, shows.2), λ n are. side_cuts c.args.k c.in-Cut.below.now shows.0 n shows.2 cuts.2 are),
     )
 
+-- the call for the side above, after the cube is exchanged: its list is shorter, and its cuts leave numbers above
+-- them
 pub narrow_to_first-requires-then-exchange : goal.narrow_to_first-requires-then-exchange
 narrow_to_first-requires-then-exchange t c =
     let shows = c.in-Cut.ensures.shows in
@@ -30,6 +34,7 @@ narrow_to_first-requires-then-exchange t c =
       ((shows.1, shows.3), λ n are. side_cuts c.args.k c.in-Cut.above.now shows.1 n shows.3 cuts.3 are),
     )
 
+-- the call for the side above, if nothing is below: its list is shorter, and its cuts leave numbers above them
 pub narrow_to_first-requires-in-Some-high : goal.narrow_to_first-requires-in-Some-high
 narrow_to_first-requires-in-Some-high t c =
     let shows = c.in-Cut.ensures.shows in
@@ -38,18 +43,21 @@ narrow_to_first-requires-in-Some-high t c =
       ((shows.1, shows.3), λ n are. side_cuts c.args.k c.in-Cut.above.now shows.1 n shows.3 cuts.3 are),
     )
 
+-- the leaf has the number, so its cube is the first
 pub returns-in-Value-clause-some : goal.returns-in-Value-clause-some
 returns-in-Value-clause-some t c = on_true c.is_some.result (λ on n are.
     leaf_first c.args.wanted c.args.k c.args.cube.now c.in-Value.time n
     (flat-same n (Leaf c.in-Value.time) (sym are ∙ c.in-Value.ensures.shows))
     (sym (c.is_some.ensures ∙ ap is_some c.if_wanted.ensures) ∙ on))
 
+-- the leaf does not have the number
 pub returns-in-Value-clause-none : goal.returns-in-Value-clause-none
 returns-in-Value-clause-none t c = on_false c.is_some.result (λ off n are.
     leaf_none c.args.wanted c.args.k c.args.cube.now c.in-Value.time n
     (flat-same n (Leaf c.in-Value.time) (sym are ∙ c.in-Value.ensures.shows))
     (sym (c.is_some.ensures ∙ ap is_some c.if_wanted.ensures) ∙ off))
 
+-- the first column with the number is on the side below
 pub returns-then-branch-clause-some : goal.returns-then-branch-clause-some
 returns-then-branch-clause-some t c n are =
     let shows = c.in-Cut.ensures.shows in
@@ -59,6 +67,7 @@ returns-then-branch-clause-some t c n are =
     (from_true c.in_ok-narrow_to_first-in-Some.field-0 c.if-branch.true c.in_ok-narrow_to_first-in-Some.ensures.some
     shows.0 shows.2)
 
+-- no column with the number is on the side below, and the first is on the side above
 pub returns-then-branch-2-clause-some : goal.returns-then-branch-2-clause-some
 returns-then-branch-2-clause-some t c n are =
     let shows = c.in-Cut.ensures.shows in
@@ -74,6 +83,7 @@ returns-then-branch-2-clause-some t c n are =
     (from_true c.in_ok-narrow_to_first-in-Some-2.field-0 c.if-branch-2.true
     c.in_ok-narrow_to_first-in-Some-2.ensures.some shows.1 shows.3)
 
+-- no column with the number is on either side
 pub returns-else-branch-2-clause-none : goal.returns-else-branch-2-clause-none
 returns-else-branch-2-clause-none t c n are =
     let shows = c.in-Cut.ensures.shows in
@@ -89,6 +99,7 @@ returns-else-branch-2-clause-none t c n are =
     (from_false c.in_ok-narrow_to_first-in-Some-2.field-0 c.if-branch-2.false
     c.in_ok-narrow_to_first-in-Some-2.ensures.none shows.1 shows.3)
 
+-- no column with the number is on the side below, and the cube has no numbers above the cut
 pub returns-else-exchange-clause-none : goal.returns-else-exchange-clause-none
 returns-else-exchange-clause-none t c n are =
     let shows = c.in-Cut.ensures.shows in
@@ -101,6 +112,7 @@ returns-else-exchange-clause-none t c n are =
     (from_false c.in_ok-narrow_to_first-in-Some.field-0 c.if-branch.false c.in_ok-narrow_to_first-in-Some.ensures.same)
     c.if-exchange.ensures.none refl
 
+-- the cube has no numbers below the cut, and the first column with the number is on the side above
 pub returns-then-branch-3-clause-some : goal.returns-then-branch-3-clause-some
 returns-then-branch-3-clause-some t c n are =
     let shows = c.in-Cut.ensures.shows in
@@ -115,6 +127,7 @@ returns-then-branch-3-clause-some t c n are =
     (from_true c.in_ok-narrow_to_first-in-None.field-0 c.if-branch-3.true c.in_ok-narrow_to_first-in-None.ensures.some
     shows.1 shows.3)
 
+-- the cube has no numbers below the cut, and no column with the number is on the side above
 pub returns-else-branch-3-clause-none : goal.returns-else-branch-3-clause-none
 returns-else-branch-3-clause-none t c n are =
     let shows = c.in-Cut.ensures.shows in
@@ -128,6 +141,7 @@ returns-else-branch-3-clause-none t c n are =
     (from_false c.in_ok-narrow_to_first-in-None.field-0 c.if-branch-3.false c.in_ok-narrow_to_first-in-None.ensures.none
     shows.1 shows.3)
 
+-- the cube has numbers on neither side, so the fork has no columns
 pub returns-in_default-clause-none : goal.returns-in_default-clause-none
 returns-in_default-clause-none t c n are =
     let shows = c.in-Cut.ensures.shows in

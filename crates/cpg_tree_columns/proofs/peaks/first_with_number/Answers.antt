@@ -13,6 +13,7 @@ use Rattle.cpg_cube.proofs.KeyOrder.{permutation_of_equal}
 use Rattle.cpg_tree_columns.proofs.Leasts.{no_numbers, column_met, least_of_columns}
 use Rattle.cpg_tree_columns.proofs.peaks.first_with_number.Goals as goal
 
+-- there are no columns, so no path has a number
 pub returns-in_default-clause-none : goal.returns-in_default-clause-none
 returns-in_default-clause-none c k d l =
     no_numbers c.args.tree.now.paths c.in_ok-columns.columns.items (permutation_of_equal
@@ -20,6 +21,7 @@ returns-in_default-clause-none c k d l =
     (sym c.as_slice-columns.ensures.value ∙ rw c.in_default.is at c.in_ok-place.ensures.none)
     (get_or c.args.tree.now.paths k d) (Contains-get_or c.args.tree.now.paths k d l)
 
+-- the column with the first lows has the least scenario that has a number
 pub returns-clause-some : goal.returns-clause-some
 returns-clause-some c =
     let g = c.args.problem.now in

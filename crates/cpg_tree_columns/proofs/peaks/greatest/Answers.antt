@@ -7,6 +7,7 @@ use Rattle.cpg_tree.specs.TreeNode.{TreeNode}
 use Rattle.cpg_tree_columns.proofs.MostLaws.{no_most, not_without, greatest_of}
 use Rattle.cpg_tree_columns.proofs.peaks.greatest.Goals as goal
 
+-- the tree has no greatest number, so no path has a number
 pub returns-in_default-clause-none : goal.returns-in_default-clause-none
 returns-in_default-clause-none c k d l =
     let root : TreeNode (Option ℕ) = c.items.ensures.flat.0 in
@@ -18,6 +19,7 @@ returns-in_default-clause-none c k d l =
     (subst (λ (paths : List (Path (Option ℕ))). Contains paths path) seen_paths
     (Contains-get_or c.args.tree.now.paths k d l))
 
+-- the greatest number is that of a path, so some scenario has it
 pub unreachable-requires : goal.unreachable-requires
 unreachable-requires c =
     let root : TreeNode (Option ℕ) = c.items.ensures.flat.0 in
@@ -28,6 +30,7 @@ unreachable-requires c =
     (subst (All (λ (p : Path (Option ℕ)). p.1 ≢ Some c.in-Some.most)) seen_paths
     (rw c.in-None.is at c.in_ok-least.ensures.none))
 
+-- the greatest number with its least scenario is what is asked for
 pub returns-clause-some : goal.returns-clause-some
 returns-clause-some c =
     let root : TreeNode (Option ℕ) = c.items.ensures.flat.0 in

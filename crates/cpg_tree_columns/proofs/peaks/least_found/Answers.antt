@@ -15,6 +15,7 @@ use Rattle.cpg_tree_columns.proofs.ColumnsFound.{columns_seen}
 use Rattle.cpg_tree_columns.proofs.FirstColumns.{first_known, first_met, first_least}
 use Rattle.cpg_tree_columns.proofs.peaks.least_found.Goals as goal
 
+-- the tree is good, so its cuts leave numbers above them
 pub narrow_to_first-requires : goal.narrow_to_first-requires
 narrow_to_first-requires c =
     record {
@@ -23,6 +24,7 @@ narrow_to_first-requires c =
           (good_cuts c.args.tree.now.faults n (c.items.ensures.good n are));
     }
 
+-- no column has the number, so there is no first one
 pub returns-then-not-branch-clause-is : goal.returns-then-not-branch-clause-is
 returns-then-not-branch-clause-is c =
     let root : TreeNode (Option ℕ) = c.items.ensures.flat.0 in
@@ -36,6 +38,7 @@ returns-then-not-branch-clause-is c =
     (sym (from_false c.in_ok-narrow_to_first.field-0 c.if-not-branch.true c.in_ok-narrow_to_first.ensures.none root are)
     ∙ ap (first_with c.args.wanted) seen)
 
+-- some scenario of the graph matches the first column with the number
 pub least-requires : goal.least-requires
 least-requires c =
     let root : TreeNode (Option ℕ) = c.items.ensures.flat.0 in
@@ -55,6 +58,7 @@ least-requires c =
           seen_paths c.requires.faults c.requires.known c.args.wanted cube first;
     }
 
+-- the lows of the first column with the number are what is returned
 pub returns-clause-is : goal.returns-clause-is
 returns-clause-is c =
     let root : TreeNode (Option ℕ) = c.items.ensures.flat.0 in
@@ -75,6 +79,7 @@ returns-clause-is c =
     c.requires.faults c.requires.known c.args.wanted cube first)
     ∙ sym (ap (option_map (lows g)) first)
 
+-- if the columns stand along an order, the lows of the first with the number are the least scenario that has it
 pub returns-clause-least : goal.returns-clause-least
 returns-clause-least c =
     let root : TreeNode (Option ℕ) = c.items.ensures.flat.0 in

@@ -14,12 +14,14 @@ use Rattle.cpg_tree_columns.specs.Greatest.{HasNumberAt, HasValueAt}
 use Rattle.cpg_tree_columns.proofs.MostLaws.{listed_none, listed_some}
 use Rattle.cpg_tree_columns.proofs.peaks.least_listed.Goals as goal
 
+-- the tree of the number alone has forks of the tree only, so its variables are known
 pub first_with_number-requires-clause-known : goal.first_with_number-requires-clause-known
 first_with_number-requires-clause-known c =
     let g = c.args.problem.now in
     known_from g c.in_ok-alone.alone.paths
     (c.in_ok-alone.ensures.pass (is_variable g) (known_passes g c.args.tree.now.paths c.requires.known))
 
+-- the tree of the number alone has none, so no path has the number
 pub returns-clause-none : goal.returns-clause-none
 returns-clause-none c =
     let root : TreeNode (Option ℕ) = c.items-items.ensures.flat.0 in
@@ -44,6 +46,7 @@ returns-clause-none c =
     (subst (λ (t : TreeState (Option ℕ)). All (λ (p : Path (Option ℕ)). IsKnown g p.0) t.paths)
     (sym is) c.requires.known))
 
+-- the least scenario of the tree of the number alone is the least that has the number
 pub returns-clause-some : goal.returns-clause-some
 returns-clause-some c =
     let root : TreeNode (Option ℕ) = c.items-items.ensures.flat.0 in

@@ -9,6 +9,7 @@ use Rattle.cpg_tree_columns.specs.Greatest.{HasValueAt, IsLeastWhereSorted}
 use Rattle.cpg_tree_columns.proofs.FirstColumns.{none_first, some_sorted}
 use Rattle.cpg_tree_columns.proofs.peaks.least_with.Goals as goal
 
+-- the columns stand along the order, and none has the number
 pub returns-then-branch-clause-none : goal.returns-then-branch-clause-none
 returns-then-branch-clause-none c =
     let g = c.args.problem.now in
@@ -18,6 +19,7 @@ returns-then-branch-clause-none c =
     (λ (r : Option Scenario). IfNone r (All (λ (p : Path (Option ℕ)). p.1 ≢ Some c.args.wanted) paths))
     c.least_found.ensures.is (none_first g paths c.args.wanted)
 
+-- the columns stand along the order, so the first with the number has the least scenario
 pub returns-then-branch-clause-some : goal.returns-then-branch-clause-some
 returns-then-branch-clause-some c =
     let g = c.args.problem.now in

@@ -7,6 +7,7 @@ use Rattle.cpg_tree.specs.TreeNode.{TreeNode}
 use Rattle.cpg_tree_columns.proofs.MostLaws.{most_none, most_some}
 use Rattle.cpg_tree_columns.proofs.peaks.most.Goals as goal
 
+-- no greatest number is found, so no path has a number
 pub returns-clause-none : goal.returns-clause-none
 returns-clause-none c =
     let root : TreeNode (Option ℕ) = c.items.ensures.flat.0 in
@@ -17,6 +18,7 @@ returns-clause-none c =
     IfNone c.most_of.result (All (λ (p : Path (Option ℕ)). p.1 ≡ None) paths)) (sym seen_paths)
     (most_none c.args.tree.now.faults root c.most_of.result most)
 
+-- the number that is found is the greatest of the paths that callers see
 pub returns-clause-some : goal.returns-clause-some
 returns-clause-some c =
     let root : TreeNode (Option ℕ) = c.items.ensures.flat.0 in

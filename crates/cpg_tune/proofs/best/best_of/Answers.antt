@@ -4,6 +4,7 @@ use Rattle.cpg_tune.proofs.Fewest.{takes_next, keeps_best, best_is_fewest}
 use Rattle.cpg_tune.proofs.best.best_of.Goals as goal
 use Rattle.cpg_tune.proofs.best.best_of.Goals.{then-duration-least, else-duration-least}
 
+-- a number of parts that lasts less becomes the best, and any other leaves it
 pub loop-parts-preserved : goal.loop-parts-preserved
 loop-parts-preserved c =
     let some = c.loop-parts.auto.parts in
@@ -22,6 +23,7 @@ loop-parts-preserved c =
       }
     ]
 
+-- the best of the numbers up to the units of work is the best of all
 pub returns : goal.returns
 returns c =
     let within = c.requires.within.1 in

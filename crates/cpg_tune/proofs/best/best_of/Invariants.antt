@@ -3,6 +3,7 @@ use Rattle.std.specs.List.{range_with_len}
 use Rattle.cpg_tune.specs.Best.{duration_in, shorter}
 use Rattle.cpg_tune.proofs.best.best_of.Given as goal
 
+-- `best` is the best of the numbers of parts below `parts`, and `least` is its duration with `faults` faults
 abbrev pub invariant-loop-parts : goal.invariant-loop-parts
 invariant-loop-parts l = record {
   best : l.best ≡ fold (shorter l.process l.faults) 1 (range_with_len 1 (l.parts - 1));

@@ -5,6 +5,7 @@ use Rattle.cpg_tune.specs.Best.{best_of, IsBest}
 use Rattle.cpg_tune.proofs.Fewest.{best_is_best}
 use Rattle.cpg_tune.proofs.best.best_parts.Goals as goal
 
+-- the number that is found for the process is its best one
 pub returns-clause-best : goal.returns-clause-best
 returns-clause-best c =
     let p = process_at c.args.problem.now c.args.process in

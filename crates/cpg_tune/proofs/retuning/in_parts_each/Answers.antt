@@ -4,6 +4,7 @@ use Rattle.cpg_tune.specs.Retuned.{in_parts_each}
 use Rattle.cpg_tune.proofs.AsBefore.{each_whole}
 use Rattle.cpg_tune.proofs.retuning.in_parts_each.Goals as goal
 
+-- the processes or the parts are used up, so all copies are made
 pub returns : goal.returns
 returns c =
     each_whole (iter_rest c.loop-process.process-iterator.a) (iter_rest c.loop-process.process-iterator.b)

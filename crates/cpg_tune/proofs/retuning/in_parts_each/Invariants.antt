@@ -3,6 +3,7 @@ use Rattle.std.specs.Slice.Iter.{iter_rest}
 use Rattle.cpg_tune.specs.Retuned.{in_parts_each}
 use Rattle.cpg_tune.proofs.retuning.in_parts_each.Given as goal
 
+-- the copies so far and those of the processes still to come are the copies of all processes
 abbrev pub invariant-loop-process : goal.invariant-loop-process
 invariant-loop-process l =
     in_parts_each l.fn.processes l.fn.parts ≡ l.copies.items

@@ -6,12 +6,13 @@ use Rattle.cpg_tune.specs.Retuned.{retuned}
 use Rattle.cpg_tune.proofs.AsBefore.{retuned_within, orderless_within}
 use Rattle.cpg_tune.proofs.retuning.retuned.Goals as goal
 
--- what holds of a view of what is there holds of it
+-- what holds of the view of an optional value holds of the value
 of_view : {X Y : Type 0} (f : X → Y) (P : Y → Type 0) (r : Option X) (o : Option Y) → option_map f r ≡ o → IfSome o P →
     IfSome r (λ x. P (f x))
 of_view f P None o e h = tt
 of_view f P (Some x) o e h = subst (λ q. IfSome q P) (sym e) h
 
+-- the retuned graph without its order is within the limits
 pub of-retuned-requires : goal.of-retuned-requires
 of-retuned-requires c =
     let made : Graph = record {
@@ -30,6 +31,7 @@ of-retuned-requires c =
     c.requires.faults in
     rw is (orderless_within (retuned c.args.problem.now c.args.parts.now c.args.faults) whole)
 
+-- the order of the graph fits the retuned graph, which has as many processes
 pub with_order-requires : goal.with_order-requires
 with_order-requires c =
     let g = c.args.problem.now in

@@ -2,6 +2,7 @@ use Rattle.std.proofs.Common.{rules}
 use Rattle.cpg_tune.proofs.AsBefore.{best_parts_push}
 use Rattle.cpg_tune.proofs.tuning.best_of_each.Goals as goal
 
+-- the best parts of one more process are found
 pub loop-process-preserved : goal.loop-process-preserved
 loop-process-preserved c =
     rw c.in_ok-push.ensures.items

@@ -2,6 +2,7 @@ use Rattle.std.proofs.Common.{◌+◌, ◌*◌}
 use Rattle.cpg_rules.specs.Trees.{size_of}
 use Rattle.cpg_violation.proofs.activity.+activity.Given as goal
 
+-- a side of a fork is smaller than the fork, and `least_where` calls `least_at` with the same tree
 abbrev pub decreases-least_at : goal.decreases-least_at
 decreases-least_at l = size_of l.tree.now * 2
 

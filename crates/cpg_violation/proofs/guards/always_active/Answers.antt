@@ -7,6 +7,7 @@ use Rattle.cpg_violation.proofs.SpaceLaws.{few_of}
 use Rattle.cpg_violation.proofs.SureLaws.{marked_push}
 use Rattle.cpg_violation.proofs.guards.always_active.Goals as goal
 
+-- the mark of the next process is right: if it is set, the process is active in every scenario
 pub loop-process-preserved : goal.loop-process-preserved
 loop-process-preserved c =
     let g = c.args.admitted.now.graph in

@@ -5,6 +5,7 @@ use Rattle.cpg_tree.proofs.Passes.{of_true}
 use Rattle.cpg_violation.proofs.GuardLaws.{idle_source, other_value}
 use Rattle.cpg_violation.proofs.guards.is_edge_idle.Goals as goal
 
+-- the source's condition has the other value in the whole space, so the edge isn't live
 pub returns-then-is_refused : goal.returns-then-is_refused
 returns-then-is_refused c s law lies =
     let g = c.args.admitted.now.graph in
@@ -12,6 +13,7 @@ returns-then-is_refused c s law lies =
     other_value (active g s.values (source g e)) (takes (edge_at g e).when (value_of g s.values (source g e)))
     (rw c.problem-problem.ensures.problem at (OnTrue_at c.if-is_refused.true c.is_refused.ensures s lies))
 
+-- the source is never active in the space, so the edge is never live
 pub returns : goal.returns
 returns c =
     let g = c.args.admitted.now.graph in

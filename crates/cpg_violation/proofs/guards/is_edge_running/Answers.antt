@@ -5,6 +5,7 @@ use Rattle.cpg_tree.proofs.Passes.{of_true}
 use Rattle.cpg_violation.proofs.GuardLaws.{both_there}
 use Rattle.cpg_violation.proofs.guards.is_edge_running.Goals as goal
 
+-- the source is active and has the value in the whole space, so the edge is live
 pub returns : goal.returns
 returns c =
     let g = c.args.admitted.now.graph in

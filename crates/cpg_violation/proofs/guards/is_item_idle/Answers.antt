@@ -4,12 +4,14 @@ use Rattle.cpg_violation.specs.declared.sources.ItemSource.{ItemSource}
 use Rattle.cpg_violation.proofs.GuardLaws.{as_source}
 use Rattle.cpg_violation.proofs.guards.is_item_idle.Goals as goal
 
+-- an item with no source is never active
 pub returns-in-Nothing : goal.returns-in-Nothing
 returns-in-Nothing c s law lies =
     let g = c.args.admitted.now.graph in
     as_source g c.args.item c.item_source.result ItemSource.Nothing
     (rw c.problem.ensures.problem at c.item_source.ensures.active) c.in-Nothing.is s.values
 
+-- the item is active exactly if its process is, and the process is idle
 pub returns-in-Process : goal.returns-in-Process
 returns-in-Process c =
     let g = c.args.admitted.now.graph in
@@ -17,6 +19,7 @@ returns-in-Process c =
     (rw c.problem.ensures.problem at c.item_source.ensures.active) c.in-Process.is in
     of_true c.is_idle.result c.is_idle.ensures (λ told s law lies. active s.values ∙ told s law lies)
 
+-- the item is active exactly if its edge is live, and the edge is idle
 pub returns-in-Edge : goal.returns-in-Edge
 returns-in-Edge c =
     let g = c.args.admitted.now.graph in

@@ -4,6 +4,7 @@ use Rattle.cpg_violation.specs.declared.sources.ItemSource.{ItemSource}
 use Rattle.cpg_violation.proofs.GuardLaws.{as_source}
 use Rattle.cpg_violation.proofs.guards.is_item_running.Goals as goal
 
+-- the item is active exactly if its process is, and the process is running
 pub returns-in-Process : goal.returns-in-Process
 returns-in-Process c =
     let g = c.args.admitted.now.graph in
@@ -11,6 +12,7 @@ returns-in-Process c =
     (rw c.problem.ensures.problem at c.item_source.ensures.active) c.in-Process.is in
     of_true c.is_running.result c.is_running.ensures (λ told s law lies. active s.values ∙ told s law lies)
 
+-- the item is active exactly if its edge is live, and the edge is running
 pub returns-in-Edge : goal.returns-in-Edge
 returns-in-Edge c =
     let g = c.args.admitted.now.graph in

@@ -4,6 +4,7 @@ use Rattle.cpg_tree.proofs.Passes.{of_true}
 use Rattle.cpg_violation.proofs.GuardLaws.{refused_of}
 use Rattle.cpg_violation.proofs.guards.is_refused.Goals as goal
 
+-- the space implies the literal of the other value, so the edge's value isn't there
 pub returns : goal.returns
 returns c =
     let g = c.args.problem.now in

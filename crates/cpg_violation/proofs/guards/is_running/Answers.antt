@@ -5,6 +5,7 @@ use Rattle.cpg_tree.proofs.Passes.{of_true}
 use Rattle.cpg_violation.proofs.GuardLaws.{running_of}
 use Rattle.cpg_violation.proofs.guards.is_running.Goals as goal
 
+-- the conditions of the guards are few, and the guard of the process tests no others
 pub is_never-requires : goal.is_never-requires
 is_never-requires c =
     let few : c.guards.result.now.conditions ≤ MOST_CONDITIONS =
@@ -16,6 +17,7 @@ is_never-requires c =
     ) in
     (c.guards.result.now.conditions, few, c.guard_of.ensures.below)
 
+-- the guard never comes to inactivity in the space, so the process is active in each of its scenarios
 pub returns : goal.returns
 returns c =
     let tree : c.guard_of.result.now ≡ tree_of c.args.admitted.now.guards c.args.process =

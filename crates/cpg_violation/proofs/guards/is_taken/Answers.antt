@@ -4,6 +4,7 @@ use Rattle.cpg_tree.proofs.Passes.{of_true}
 use Rattle.cpg_violation.proofs.GuardLaws.{taken_of}
 use Rattle.cpg_violation.proofs.guards.is_taken.Goals as goal
 
+-- the space implies the literal of the value that the edge asks for, so it is there
 pub returns : goal.returns
 returns c =
     let g = c.args.problem.now in

@@ -5,6 +5,7 @@ use Rattle.cpg_head.specs.Head.{AreExtras}
 use Rattle.cpg_violation.proofs.ExtraLists.{extras_more, extras_whole}
 use Rattle.cpg_violation.proofs.heads.are_same_extras.Goals as goal
 
+-- the next process has what the head says of it, so one process more has
 pub loop-process-preserved : goal.loop-process-preserved
 loop-process-preserved c =
     extras_more c.args.problem.now.processes c.loop-process.process c.in-Some.extra.now c.index-processes-process.result
@@ -14,6 +15,7 @@ loop-process-preserved c =
     ap (λ (ps : List Process). extra_of (get_or ps c.loop-process.process c.index-processes-process.result))
     c.processes-processes.ensures.processes) c.loop-process.invariant
 
+-- the loop has seen all processes
 pub returns : goal.returns
 returns c =
     let past : length c.args.problem.now.processes ≤ c.loop-process.process =

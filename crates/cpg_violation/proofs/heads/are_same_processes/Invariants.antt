@@ -1,5 +1,6 @@
 use Rattle.std.proofs.Common.{◌≡◌, take}
 use Rattle.cpg_violation.proofs.heads.are_same_processes.Given as goal
 
+-- the processes up to here are the same
 abbrev pub invariant-loop-place : goal.invariant-loop-place
 invariant-loop-place l = take l.place l.processes ≡ take l.place l.others

@@ -5,6 +5,7 @@ use Rattle.cpg_cube.specs.declared.column.Column.{Column}
 use Rattle.cpg_violation.proofs.LineLaws.{fold_more, not_before_more}
 use Rattle.cpg_violation.proofs.lines.first_time.Goals as goal
 
+-- the lesser of the time so far and the next column's is the first of one column more
 pub loop-column-preserved : goal.loop-column-preserved
 loop-column-preserved c = record {
   first = fold_more (λ (time : ℕ) (d : Column). min time d.time) c.loop-column.first c.min-first.result
@@ -16,6 +17,7 @@ loop-column-preserved c = record {
       (omega (arith, c.min-first.ensures)) (omega (arith, c.min-first.ensures));
 }
 
+-- no column is left, so `first` is the first time of all
 pub returns-clause-first : goal.returns-clause-first
 returns-clause-first c = sym (ap (fold (λ (time : ℕ) (d : Column). min time d.time) c.loop-column.first)
     (drop_all c.loop-column.column-index c.args.columns.now c.loop-column-test.false)) ∙

@@ -3,6 +3,7 @@ use Rattle.std.specs.List.{fold}
 use Rattle.cpg_violation.specs.Lines.{first_time}
 use Rattle.cpg_violation.proofs.lines.first_time.Given as goal
 
+-- no column so far is before `first`, and the first time of all is that of `first` and the columns still to come
 abbrev pub invariant-loop-column : goal.invariant-loop-column
 invariant-loop-column l = record {
   first : fold (λ time d. min time d.time) l.first (drop l.column-index l.columns) ≡ first_time l.columns;

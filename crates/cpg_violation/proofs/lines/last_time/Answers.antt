@@ -5,6 +5,7 @@ use Rattle.cpg_cube.specs.declared.column.Column.{Column}
 use Rattle.cpg_violation.proofs.LineLaws.{fold_more, not_after_more}
 use Rattle.cpg_violation.proofs.lines.last_time.Goals as goal
 
+-- the greater of the time so far and the next column's is the last of one column more
 pub loop-column-preserved : goal.loop-column-preserved
 loop-column-preserved c = record {
   last = fold_more (λ (time : ℕ) (d : Column). max time d.time) c.loop-column.last c.max-last.result c.args.columns.now
@@ -16,6 +17,7 @@ loop-column-preserved c = record {
       (omega (arith, c.max-last.ensures)) (omega (arith, c.max-last.ensures));
 }
 
+-- no column is left, so `last` is the last time of all
 pub returns-clause-last : goal.returns-clause-last
 returns-clause-last c = sym (ap (fold (λ (time : ℕ) (d : Column). max time d.time) c.loop-column.last)
     (drop_all c.loop-column.column-index c.args.columns.now c.loop-column-test.false)) ∙

@@ -3,6 +3,7 @@ use Rattle.std.specs.List.{fold}
 use Rattle.cpg_violation.specs.Lines.{last_time}
 use Rattle.cpg_violation.proofs.lines.last_time.Given as goal
 
+-- no column so far is after `last`, and the last time of all is that of `last` and the columns still to come
 abbrev pub invariant-loop-column : goal.invariant-loop-column
 invariant-loop-column l = record {
   last : fold (λ time d. max time d.time) l.last (drop l.column-index l.columns) ≡ last_time l.columns;

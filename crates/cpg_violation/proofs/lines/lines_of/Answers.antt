@@ -2,6 +2,7 @@ use Rattle.std.proofs.Common.{arith, ap, length}
 use Rattle.cpg_table.proofs.RowColumns.{columns_few}
 use Rattle.cpg_violation.proofs.lines.lines_of.Goals as goal
 
+-- lawful tables have few enough columns for each item
 pub line_of-requires : goal.line_of-requires
 line_of-requires c = omega (
   arith,

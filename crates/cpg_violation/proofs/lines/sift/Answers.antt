@@ -7,6 +7,7 @@ pub sift-requires : goal.sift-requires
 sift-requires c = rw c.columns_of.ensures.columns
     (columns_few c.args.tables.now.head c.args.tables.now.nodes c.columns_of.ensures.lawful c.args.item)
 
+-- sifted anew, the line still has the columns of its item, and all other lines are as before
 pub returns : goal.returns
 returns c = λ items. lines_sifted c.args.tables.now.nodes items c.args.lines.now c.args.item c.index-lines-item.result
     c.sift.new.self (omega (arith, c.if-item-lines.false))

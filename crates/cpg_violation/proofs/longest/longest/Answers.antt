@@ -4,6 +4,7 @@ use Rattle.cpg_base.proofs.NumbersOf.{number_of-fault}
 use Rattle.cpg_violation.proofs.Durations.{duration_grows, fault_within}
 use Rattle.cpg_violation.proofs.longest.longest.Goals as goal
 
+-- the process has no more faults than the space allows, and with fewer it takes no longer
 pub returns-clause-most : goal.returns-clause-most
 returns-clause-most c s law lies =
     let g = c.args.problem.now in

@@ -14,6 +14,7 @@ use Rattle.cpg_violation.proofs.quick_due.all_end_in_time.Goals as goal
 abbrev Ends : Graph → ℕ → Column → Type 0
 Ends g p d = (s : Scenario) → IsScenario g s → matches d.cube s ≡ true → d.time + duration g p (fault_of s p) ≤ due g p
 
+-- even the longest execution from the next column ends by the due
 pub loop-column-preserved-then-saturating_add-due : goal.loop-column-preserved-then-saturating_add-due
 loop-column-preserved-then-saturating_add-due c =
     let g = c.args.problem.now in
@@ -31,6 +32,7 @@ loop-column-preserved-then-saturating_add-due c =
       c.due-due.ensures,
     ))
 
+-- one more column ends in time, as `ends_in_time` says
 pub loop-column-preserved : goal.loop-column-preserved
 loop-column-preserved c =
     each_more (Ends c.args.problem.now c.args.process) c.args.columns.now c.loop-column.column-index

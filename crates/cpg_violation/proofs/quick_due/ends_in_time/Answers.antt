@@ -4,12 +4,14 @@ use Rattle.cpg_violation.proofs.SureLaws.{on_le}
 use Rattle.cpg_violation.proofs.TimeLaws.{by_due}
 use Rattle.cpg_violation.proofs.quick_due.ends_in_time.Goals as goal
 
+-- the column has no space, so no scenario of the graph matches it
 pub returns-in_default : goal.returns-in_default
 returns-in_default c s law m =
     absurd (not_none c.args.problem.now c.faults.result c.faults.ensures.faults s law c.args.column.now.cube
     c.literals.result.now c.literals.ensures.literals m c.of.result c.in_default.is
     c.of.ensures.none)
 
+-- a scenario that the column matches lies in the space, where the longest execution ends by the due
 pub returns : goal.returns
 returns c = on_le c.saturating_add-end.result c.due.result (λ e s law m.
     let g = c.args.problem.now in

@@ -7,6 +7,7 @@ use Rattle.cpg_tree.proofs.Passes.{of_true}
 use Rattle.cpg_violation.proofs.TimeLaws.{due_sure}
 use Rattle.cpg_violation.proofs.quick_due.is_sure.Goals as goal
 
+-- all columns of the item end by the due, so it keeps V9
 pub returns : goal.returns
 returns c =
     let g = c.args.problem.now in

@@ -2,6 +2,7 @@ use Rattle.cpg_table.specs.declared.rule.Rule.{Rule}
 use Rattle.cpg_violation.proofs.SureLaws.{one_more}
 use Rattle.cpg_violation.proofs.quick_frozen.frozen_marks.Goals as goal
 
+-- the mark of one more item is as sure as `is_sure` says
 pub loop-item-preserved : goal.loop-item-preserved
 loop-item-preserved c = rw c.in_ok-push.ensures.items
     (one_more c.args.admitted.now.graph c.args.tables.now.nodes Rule.Frozen c.loop-item.item c.loop-item.marks.items

@@ -3,6 +3,7 @@ use Rattle.cpg_cube.specs.declared.column.Column.{Column}
 use Rattle.cpg_violation.proofs.SureLaws.{each_all}
 use Rattle.cpg_violation.proofs.quick_frozen.is_one_time.Goals as goal
 
+-- the loop has gone over all columns, so all have the time of the first one
 pub returns : goal.returns
 returns c = (
   c.in-Some.first.now.time,

@@ -5,6 +5,7 @@ use Rattle.cpg_violation.specs.Parts.{ArePartsOf}
 use Rattle.cpg_violation.proofs.SieveLaws.{sifts_cut}
 use Rattle.cpg_violation.proofs.sieve.+sifted.Goals as goal
 
+-- the places of both sides are sifted, so the cut sifts all
 pub returns : goal.returns
 returns t c =
     let low : c.in_ok-below-2.below.value ≡ c.in_ok-below.below = search rules in

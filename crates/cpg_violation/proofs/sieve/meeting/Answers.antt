@@ -3,6 +3,7 @@ use Rattle.cpg_violation.proofs.ApartLaws.{meets_push, meets_skip, meets_all}
 use Rattle.cpg_violation.proofs.sieve.meeting.Goals as goal
 use Rattle.cpg_violation.proofs.sieve.meeting.Goals.{then-column_may_meet+in_ok-push, else-column_may_meet}
 
+-- the next place is kept, or its column never matches together with the cube
 pub loop-place-preserved : goal.loop-place-preserved
 loop-place-preserved c = elim c.if-column_may_meet.branch [
   | then-column_may_meet+in_ok-push w ↦

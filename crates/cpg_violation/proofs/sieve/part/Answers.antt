@@ -3,6 +3,7 @@ use Rattle.cpg_violation.proofs.SieveLaws.{keeps_push, keeps_skip, keeps_all}
 use Rattle.cpg_violation.proofs.sieve.part.Goals as goal
 use Rattle.cpg_violation.proofs.sieve.part.Goals.{then-column_goes+in_ok-push, else-column_goes}
 
+-- the next place is kept, or its column never matches on the side
 pub loop-place-preserved : goal.loop-place-preserved
 loop-place-preserved c = elim c.if-column_goes.branch [
   | then-column_goes+in_ok-push w ↦
@@ -16,6 +17,7 @@ loop-place-preserved c = elim c.if-column_goes.branch [
       c.loop-place-test.true w.if-column_goes.ensures c.loop-place.invariant)
 ]
 
+-- the loop has gone over all places, so each column that goes to this side is kept
 pub returns : goal.returns
 returns c = keeps_all c.args.columns.now c.args.cut.variable c.args.cut.most c.args.below c.args.places.now
     c.loop-place.kept.items c.loop-place.place-index c.loop-place-test.false

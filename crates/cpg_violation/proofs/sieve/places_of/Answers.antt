@@ -3,6 +3,7 @@ use Rattle.std.proofs.lemmas.Bool.{cases_lt}
 use Rattle.std.proofs.lemmas.List.Elements.{Contains-append_left, Contains-push}
 use Rattle.cpg_violation.proofs.sieve.places_of.Goals as goal
 
+-- the next place was added after those before
 pub loop-place-preserved : goal.loop-place-preserved
 loop-place-preserved c = λ i l. rw c.in_ok-push.ensures.items (elim (cases_lt i c.loop-place.place) [
   | inl lt ↦ Contains-append_left c.loop-place.places.items (c.loop-place.place ∷ []) i (c.loop-place.invariant i lt)

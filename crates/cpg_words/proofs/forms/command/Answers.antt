@@ -2,6 +2,7 @@ use Rattle.cpg_words.proofs.WholeLine.{no_such_form}
 use Rattle.cpg_words.specs.Forms.{forms}
 use Rattle.cpg_words.proofs.forms.command.Goals as goal
 
+-- the name is none of the ten, so no form has it
 pub returns-in_default : goal.returns-in_default
 returns-in_default c = let d = c.in_default in no_such_form forms _ _ (
   d.not-show,

@@ -2,6 +2,7 @@ use Rattle.std.proofs.Common.{◌∙◌, sym}
 use Rattle.cpg_words.proofs.Pairing.{pairs_step, pairs_odd}
 use Rattle.cpg_words.proofs.forms.pairs.Goals as goal
 
+-- one more pair is read, and all pairs stay the same
 pub loop-left-preserved : goal.loop-left-preserved
 loop-left-preserved c = pairs_step c.loop-left.left.now _ c.loop-left.pairs.items c.push.new.self.items
     (record { period = c.in-Some.period; graph = c.in_ok-graph.graph }) _

@@ -5,6 +5,7 @@ use Rattle.cpg_words.specs.Forms.{command_named, forms}
 use Rattle.cpg_words.proofs.Asks.{answers_as, values_got}
 use Rattle.cpg_words.proofs.reading.asked.Goals as goal
 
+-- the words and the values that were found are those of the rule
 pub returns : goal.returns
 returns c = answers_as _ _ c.command.result
     (ap₂ (λ (ps ts : List Text). command_named forms c.args.name.now (record { positionals = ps; turns = ts }))

@@ -3,6 +3,7 @@ use Rattle.cpg_words.specs.Matches.{command_at}
 use Rattle.cpg_words.proofs.Asks.{answered, answered_bad, answers_as, entered_rows}
 use Rattle.cpg_words.proofs.reading.read_words.Goals as goal
 
+-- the subcommand and its rows ask for what the words ask for
 pub returns-in-Some : goal.returns-in-Some
 returns-in-Some c =
     let asked = answers_as _ _ c.asked.result

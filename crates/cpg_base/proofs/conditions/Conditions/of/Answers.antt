@@ -7,6 +7,7 @@ use Rattle.cpg_base.proofs.conditions.Conditions.of.Goals as goal
 use Rattle.cpg_base.proofs.conditions.Conditions.of.Goals.{then-found-process+else-count-eq-MOST_CONDITIONS}
 use Rattle.cpg_base.proofs.conditions.Conditions.of.Goals.{else-found-process}
 
+-- 32 conditions were found before this process, which has one more
 pub returns-then-count-eq-MOST_CONDITIONS-clause-many :
     goal.returns-then-count-eq-MOST_CONDITIONS-clause-many
 returns-then-count-eq-MOST_CONDITIONS-clause-many c =
@@ -18,6 +19,7 @@ returns-then-count-eq-MOST_CONDITIONS-clause-many c =
     (ap length (sym same) ∙ ap length (sym c.loop-process.invariant.found) ∙ sym c.count.ensures.count
     ∙ c.if-count-eq-MOST_CONDITIONS.true)
 
+-- a process that is marked is added, and no other
 pub loop-process-preserved : goal.loop-process-preserved
 loop-process-preserved c = elim c.if-found-process.branch [
   | then-found-process+else-count-eq-MOST_CONDITIONS w ↦ record {
@@ -38,6 +40,7 @@ loop-process-preserved c = elim c.if-found-process.branch [
   }
 ]
 
+-- the marked processes below the count are those that have a conditional output
 pub returns-clause-found : goal.returns-clause-found
 returns-clause-found c =
     let at : c.loop-process.process ≡ c.args.processes = omega arith in

@@ -2,6 +2,7 @@ use Rattle.std.proofs.Common.{◌≡◌, ◌≤◌, false, filter, get_or, lengt
 use Rattle.cpg_base.specs.Numbers.{numbers_below}
 use Rattle.cpg_base.proofs.conditions.Conditions.of.Given as goal
 
+-- the conditions so far are those of the marked processes below `process`, and there are at most 32
 abbrev pub invariant-loop-process : goal.invariant-loop-process
 invariant-loop-process l = record {
   found : l.conditions ≡ filter (λ p. get_or l.found p false) (numbers_below l.process);

@@ -4,6 +4,7 @@ use Rattle.cpg_base.specs.Scenario.{fault_of}
 use Rattle.cpg_base.proofs.Lists.{map_below_push}
 use Rattle.cpg_base.proofs.lengths.Lengths.full.Goals as goal
 
+-- one more process has its longest execution
 pub loop-process-preserved : goal.loop-process-preserved
 loop-process-preserved c =
     map_below_push (λ p. duration c.args.problem.now p (fault_of c.args.scenario.now p)) c.loop-process.lengths.items

@@ -4,6 +4,7 @@ use Rattle.cpg_base.specs.Order.{place}
 use Rattle.cpg_base.proofs.Standing.{process_within, place_at}
 use Rattle.cpg_base.proofs.order.Order.at.Goals as goal
 
+-- at each place of an order stands one of its processes
 pub returns-clause-within : goal.returns-clause-within
 returns-clause-within c =
     let h : c.args.at < length c.self.inside.processes.items =
@@ -13,6 +14,7 @@ returns-clause-within c =
     let w = process_within c.self.inside.processes.items c.self.invariant.lawful c.args.at (omega arith) in
     omega (arith, c.index.ensures))
 
+-- the place of the process at a place is that place
 pub returns-clause-back : goal.returns-clause-back
 returns-clause-back c =
     let h : c.args.at < length c.self.inside.processes.items =

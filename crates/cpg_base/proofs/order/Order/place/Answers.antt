@@ -3,6 +3,7 @@ use Rattle.std.proofs.lemmas.List.{get_or_default}
 use Rattle.cpg_base.proofs.Standing.{at_place}
 use Rattle.cpg_base.proofs.order.Order.place.Goals as goal
 
+-- at the place of a process stands the process
 pub returns-clause-there : goal.returns-clause-there
 returns-clause-there c =
     let h : c.args.process < length c.self.inside.processes.items =

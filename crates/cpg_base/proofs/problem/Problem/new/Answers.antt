@@ -5,9 +5,11 @@ use Rattle.cpg_base.specs.Graph.{Graph, disjunctions}
 use Rattle.cpg_base.proofs.Found.{conditions_found}
 use Rattle.cpg_base.proofs.problem.Problem.new.Goals as goal
 
+-- no number is both at most another and above it
 above : (a b : ℕ) → a ≤ b → b < a → ⊥
 above a b h l = omega arith
 
+-- more conditions than 32 were found, and these are those of the graph
 pub returns-in_default-clause-refused : goal.returns-in_default-clause-refused
 returns-in_default-clause-refused c =
     let g : Graph = record {
@@ -30,6 +32,7 @@ returns-in_default-clause-refused c =
     let over : 32 < length (disjunctions g) = rw found at many in
     λ w. above (length (disjunctions g)) 32 w.few_conditions over
 
+-- each limit was tested, and the conditions that were found are those of the graph
 pub invariant_of-result : goal.invariant_of-result
 invariant_of-result c =
     let g : Graph = record {
@@ -65,6 +68,7 @@ invariant_of-result c =
       found,
     )
 
+-- each limit was tested
 pub returns-clause-within : goal.returns-clause-within
 returns-clause-within c =
     let g : Graph = record {

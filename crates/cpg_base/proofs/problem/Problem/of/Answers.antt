@@ -5,6 +5,7 @@ use Rattle.cpg_base.specs.Graph.{Graph, disjunctions}
 use Rattle.cpg_base.proofs.Found.{conditions_found}
 use Rattle.cpg_base.proofs.problem.Problem.of.Goals as goal
 
+-- the conditions that are found are those of the graph, of which there are at most 32
 pub unreachable-requires : goal.unreachable-requires
 unreachable-requires c =
     let g : Graph = record {
@@ -26,6 +27,7 @@ unreachable-requires c =
     let over : 32 < length (disjunctions g) = rw found at many in
     omega (arith, c.requires.few_conditions, over)
 
+-- the graph was judged before, and the conditions that are found are its own
 pub invariant_of-result : goal.invariant_of-result
 invariant_of-result c =
     let g : Graph = record {

@@ -4,6 +4,7 @@ use Rattle.std.proofs.lemmas.List.Sums.{sum_by-le}
 use Rattle.cpg_base.specs.Graph.{Slot}
 use Rattle.cpg_base.proofs.problem.Problem.round.Goals as goal
 
+-- there are at most 16 slots, each no longer than the limit
 pub round_of-requires : goal.round_of-requires
 round_of-requires c =
     let within = c.self.invariant.0 in

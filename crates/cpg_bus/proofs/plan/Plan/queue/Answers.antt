@@ -6,6 +6,7 @@ use Rattle.cpg_base.proofs.Lists.{get_or-map-below}
 use Rattle.cpg_bus.specs.Plan.{queue_of}
 use Rattle.cpg_bus.proofs.plan.Plan.queue.Goals as goal
 
+-- the plan has a queue for each process
 pub index-queue-requires : goal.index-queue-requires
 index-queue-requires c =
     let is = ap length (ap (λ p. p.queues) (c.self.view_is ∙ c.requires.plan)) in
@@ -16,6 +17,7 @@ index-queue-requires c =
       c.requires.process,
     )
 
+-- the queue at the place of the process is the one of the plan
 pub returns : goal.returns
 returns c =
     let is = ap (λ p. p.queues) (c.self.view_is ∙ c.requires.plan) in

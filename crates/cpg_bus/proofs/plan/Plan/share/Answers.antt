@@ -8,6 +8,7 @@ use Rattle.cpg_bus.specs.Share.{share_of}
 use Rattle.cpg_bus.specs.Plan.{share_if}
 use Rattle.cpg_bus.proofs.plan.Plan.share.Goals as goal
 
+-- the plan has a place for the share of each node
 pub index-requires : goal.index-requires
 index-requires c =
     let is = ap length (ap (λ p. p.shares) (c.self.view_is ∙ c.requires.plan)) in
@@ -18,6 +19,7 @@ index-requires c =
       c.requires.node,
     )
 
+-- the share at the place of the node is the one of the plan
 pub returns-in-Some : goal.returns-in-Some
 returns-in-Some c =
     let is = ap (λ p. p.shares) (c.self.view_is ∙ c.requires.plan) in

@@ -10,6 +10,7 @@ use Rattle.cpg_check_heard.proofs.Bounded.{heard_is, literal_more}
 use Rattle.cpg_check_heard.proofs.Endings.{ended_heard}
 use Rattle.cpg_check_heard.proofs.hearing.Hearing.add_literal.Goals as goal
 
+-- the literal's process has ended, so the literal is heard and adds nothing that is untold
 pub returns-then-has_ended-clause-unheard : goal.returns-then-has_ended-clause-unheard
 returns-then-has_ended-clause-unheard c = λ s law m.
     let g = c.args.self.now.admitted.now.graph in
@@ -23,6 +24,7 @@ returns-then-has_ended-clause-unheard c = λ s law m.
     (from_all (holds s) c.args.column.now.cube l m c.requires.literal) in
     sym (ap (λ x. old || x) heard ∙ or-false old)
 
+-- the literal is unheard exactly if its low or its high is untold, which were added if they may be
 pub returns-clause-unheard : goal.returns-clause-unheard
 returns-clause-unheard c = λ s law m.
     let g = c.args.self.now.admitted.now.graph in

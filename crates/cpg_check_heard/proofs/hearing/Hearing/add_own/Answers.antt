@@ -10,6 +10,7 @@ use Rattle.cpg_check_heard.proofs.Facts.{own_can}
 use Rattle.cpg_check_heard.proofs.TellerLists.{teller_at}
 use Rattle.cpg_check_heard.proofs.hearing.Hearing.add_own.Goals as goal
 
+-- the row of the variable's process can tell the bound
 pub add_row-requires-clause-can : goal.add_row-requires-clause-can
 add_row-requires-clause-can c =
     let g = c.args.self.now.admitted.now.graph in
@@ -28,6 +29,7 @@ add_row-requires-clause-can c =
       is.telling,
     ) (own_can g tables c.args.time c.args.bound (record { values = []; faults = [] }) p own (sym here))
 
+-- the columns of the process's row are on variables of the graph
 pub add_row-requires-clause-columns : goal.add_row-requires-clause-columns
 add_row-requires-clause-columns c =
     let g = c.args.self.now.admitted.now.graph in
@@ -42,6 +44,7 @@ add_row-requires-clause-columns c =
     rw (c.problem-problem.ensures.problem, is.line.all)
     (columns_known c.requires.hearing.admitted tables c.requires.hearing.tables p)
 
+-- the row is that of the process
 pub add_row-requires-clause-line : goal.add_row-requires-clause-line
 add_row-requires-clause-line c =
     let g = c.args.self.now.admitted.now.graph in
@@ -55,6 +58,7 @@ add_row-requires-clause-line c =
     (item_count g) c.args.self.now.tellers.items p t c.requires.hearing.tellers below c.index-teller.ensures in
     subst (λ columns. IsLine columns t.line.now) (sym is.line.all) is.line
 
+-- the process is on the node, so its row tells all that the node's own ends tell
 pub returns-clause-told : goal.returns-clause-told
 returns-clause-told c =
     let g = c.args.self.now.admitted.now.graph in

@@ -16,6 +16,7 @@ use Rattle.cpg_check_heard.proofs.PartLaws.{row_more}
 use Rattle.cpg_check_heard.proofs.TellerLists.{teller_at}
 use Rattle.cpg_check_heard.proofs.hearing.Hearing.arrivals.Goals as goal
 
+-- an item that is heard is one of the graph, so it has a row
 pub index-teller-requires : goal.index-teller-requires
 index-teller-requires c =
     let g = c.args.self.now.admitted.now.graph in
@@ -24,6 +25,7 @@ index-teller-requires c =
     heard_below g c.args.node x (c.requires.items c.loop-item.item-index 0 c.loop-item-test.true) in
     omega (arith, below, c.requires.hearing.tellers.count)
 
+-- the row is that of the item, and its columns are on variables of the graph
 pub add_row-requires : goal.add_row-requires
 add_row-requires c =
     let g = c.args.self.now.admitted.now.graph in
@@ -35,6 +37,7 @@ add_row-requires c =
     (item_count g) c.args.self.now.tellers.items x t c.requires.hearing.tellers below c.index-teller.ensures in
     subst (λ columns. IsLine columns t.line.now) (sym is.line.all) is.line
 
+-- with the next item's row, the columns tell what the rows of one item more tell
 pub loop-item-preserved : goal.loop-item-preserved
 loop-item-preserved c =
     let g = c.args.self.now.admitted.now.graph in

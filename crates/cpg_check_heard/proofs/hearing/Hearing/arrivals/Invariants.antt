@@ -7,6 +7,8 @@ use Rattle.cpg_check_heard.specs.Arrivals.{IsArrival, do_tell}
 use Rattle.cpg_check_heard.specs.Untold.{item_tells}
 use Rattle.cpg_check_heard.proofs.hearing.Hearing.arrivals.Given as goal
 
+-- After each item. `each`: every arrival is one of the graph. `told`: in the scenarios of the cube the arrivals say a
+-- bound by the time exactly if one of the items so far does.
 abbrev pub invariant-loop-item : goal.invariant-loop-item
 invariant-loop-item l = record {
   each : All (IsArrival l.self.admitted.now.graph) l.arrivals.items;

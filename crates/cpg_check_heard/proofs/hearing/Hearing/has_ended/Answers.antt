@@ -7,6 +7,7 @@ use Rattle.cpg_check_heard.proofs.Endings.{ended_by}
 use Rattle.cpg_check_heard.proofs.TellerLists.{teller_at}
 use Rattle.cpg_check_heard.proofs.hearing.Hearing.has_ended.Goals as goal
 
+-- the last column of the process and its longest execution end by the time, so all do
 pub returns : goal.returns
 returns c =
     let g = c.args.self.now.admitted.now.graph in

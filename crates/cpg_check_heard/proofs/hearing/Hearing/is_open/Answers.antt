@@ -11,6 +11,7 @@ use Rattle.cpg_check_heard.proofs.Sides.{variable_within}
 use Rattle.cpg_check_heard.proofs.Untolds.{fewer_left, own_told}
 use Rattle.cpg_check_heard.proofs.hearing.Hearing.is_open.Goals as goal
 
+-- if the own ends' parts leave nothing of the cube, the bound is told wherever it matches
 pub returns : goal.returns
 returns c =
     let g = c.args.self.now.admitted.now.graph in

@@ -9,6 +9,7 @@ pub earlier-found-requires-clause-order : goal.earlier-found-requires-clause-ord
 earlier-found-requires-clause-order c =
     rw (c.order-order.ensures.order, c.problem-problem.ensures.problem) (long_order c.order-order.ensures.admitted)
 
+-- the earlier of the answer so far and the next bound's is the first of one bound more
 pub loop-bound-preserved : goal.loop-bound-preserved
 loop-bound-preserved c =
     let g = c.args.self.now.admitted.now.graph in

@@ -4,6 +4,8 @@ use Rattle.cpg_cube.specs.Cube.{matches}
 use Rattle.cpg_check_heard.specs.Unheard.{is_one_untold}
 use Rattle.cpg_check_heard.proofs.hearing.Hearing.least_of_bounds.Given as goal
 
+-- after each bound, `found` is the first scenario of the column in which one of the bounds so far is not told (none
+-- if there is none)
 abbrev pub invariant-loop-bound : goal.invariant-loop-bound
 invariant-loop-bound l = IsFirst l.self.admitted.now.graph l.self.admitted.now.order
     (λ s. matches l.column.cube s && is_one_untold l.self.admitted.now.graph l.self.tables.now.nodes l.node

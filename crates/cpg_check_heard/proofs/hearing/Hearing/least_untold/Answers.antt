@@ -12,6 +12,7 @@ use Rattle.cpg_check_heard.proofs.Sides.{variable_within}
 use Rattle.cpg_check_heard.proofs.Untolds.{untold_first, untold_nowhere, told_all, told_heard}
 use Rattle.cpg_check_heard.proofs.hearing.Hearing.least_untold.Goals as goal
 
+-- one column tells the bound wherever the cube matches, so it is never untold
 pub returns-then-tells_one_whole : goal.returns-then-tells_one_whole
 returns-then-tells_one_whole c =
     let g = c.args.self.now.admitted.now.graph in
@@ -31,6 +32,7 @@ returns-then-tells_one_whole c =
     (sym c.requires.items))
     (sym (c.requires.arrivals.told b s m) ∙ tell s i m))
 
+-- the least scenario that the told parts leave of the cube is the least in which the bound is untold
 pub returns : goal.returns
 returns c =
     let g = c.args.self.now.admitted.now.graph in

@@ -4,6 +4,7 @@ use Rattle.std.proofs.lemmas.List.Folds.{list_any_more}
 use Rattle.cpg_check_heard.specs.Unheard.{is_literal_unheard}
 use Rattle.cpg_check_heard.proofs.hearing.Hearing.open_bounds.Goals as goal
 
+-- the literal is one of the column's
 pub add_literal-requires-clause-literal : goal.add_literal-requires-clause-literal
 add_literal-requires-clause-literal c =
     let cube = c.args.column.now.cube in
@@ -13,6 +14,7 @@ add_literal-requires-clause-literal c =
     rw c.literals-literal-items.ensures.literals
     (Contains-get_or cube i (record { variable = 0; low = 0; high = 0 }) within)
 
+-- with the next literal's open bounds, one literal more is heard exactly if no bound is untold
 pub loop-literal-preserved : goal.loop-literal-preserved
 loop-literal-preserved c =
     let g = c.args.self.now.admitted.now.graph in

@@ -8,6 +8,8 @@ use Rattle.cpg_check_heard.specs.Bounds.{variable_of}
 use Rattle.cpg_check_heard.specs.Unheard.{is_literal_unheard, is_one_untold}
 use Rattle.cpg_check_heard.proofs.hearing.Hearing.open_bounds.Given as goal
 
+-- After each literal. `known`: each bound is of a variable of the graph. `unheard`: in the scenarios of the column
+-- one of the bounds is not told exactly if one of the literals so far is unheard.
 abbrev pub invariant-loop-literal : goal.invariant-loop-literal
 invariant-loop-literal l = record {
   known : All (λ (b : LiteralBound). IsVariable l.self.admitted.now.graph (variable_of b)) l.bounds.items;

@@ -7,6 +7,7 @@ use Rattle.cpg_check_heard.specs.declared.frames.RowRank.{RowRank}
 use Rattle.cpg_check_heard.proofs.Framed.{heard_below}
 use Rattle.cpg_check_heard.proofs.hearing.Hearing.ranks.Goals as goal
 
+-- an item that is heard is one of the graph, so it has a row
 pub index-teller-requires : goal.index-teller-requires
 index-teller-requires c =
     let g = c.args.self.now.admitted.now.graph in

@@ -16,6 +16,7 @@ pub left_open-requires-clause-arrivals : goal.left_open-requires-clause-arrivals
 left_open-requires-clause-arrivals c =
     rw (c.problem-problem.ensures.problem, c.as_slice.ensures.value) c.in_ok-arrivals.ensures.each
 
+-- the bounds that the next row's frames tell wherever the column matches are told, so they needn't be left
 pub loop-rank-preserved : goal.loop-rank-preserved
 loop-rank-preserved c =
     let g = c.args.self.now.admitted.now.graph in

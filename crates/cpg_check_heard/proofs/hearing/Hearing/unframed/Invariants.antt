@@ -7,6 +7,8 @@ use Rattle.cpg_check_heard.specs.Bounds.{variable_of}
 use Rattle.cpg_check_heard.specs.Unheard.{is_one_untold}
 use Rattle.cpg_check_heard.proofs.hearing.Hearing.unframed.Given as goal
 
+-- After each rank. `known`: each bound left is of a variable of the graph. `untold`: in the scenarios of the column
+-- one of the bounds left is not told exactly if one of all the bounds isn't.
 abbrev pub invariant-loop-rank : goal.invariant-loop-rank
 invariant-loop-rank l = record {
   known : All (λ (b : LiteralBound). IsVariable l.self.admitted.now.graph (variable_of b)) l.left.items;

@@ -7,6 +7,7 @@ use Rattle.cpg_check_quick.specs.Courses.{IsOverAt}
 use Rattle.cpg_check_quick.proofs.OrderLaws.{told_at}
 use Rattle.cpg_check_quick.proofs.before.BeforePairTest.passes.Goals as goal
 
+-- the column that was looked up is the one at the place, and the other item is over from it by its time
 pub returns : goal.returns
 returns c = of_true c.is_over_from.result c.is_over_from.ensures (λ all s lies.
     subst (λ (o : Option ℕ). IfSome o

@@ -7,6 +7,7 @@ use Rattle.cpg_check_quick.specs.Courses.{IsOverAt}
 use Rattle.cpg_check_quick.proofs.OrderLaws.{told_at}
 use Rattle.cpg_check_quick.proofs.before.BeforePairTest.passes_with_any.Goals as goal
 
+-- the item is over by the time of the column at the place, by its last column, whatever the second place is
 pub returns : goal.returns
 returns c = of_true c.has_come.result c.has_come.ensures (λ early second s.
     subst (λ (o : Option ℕ).

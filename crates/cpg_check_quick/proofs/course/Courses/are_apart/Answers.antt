@@ -7,6 +7,7 @@ use Rattle.cpg_check_quick.proofs.OrderLaws.{apart_all}
 use Rattle.cpg_violation.proofs.SureLaws.{each_all, each_more}
 use Rattle.cpg_check_quick.proofs.course.Courses.are_apart.Goals as goal
 
+-- the items are apart from the next column, too
 pub loop-column-preserved : goal.loop-column-preserved
 loop-column-preserved c = λ g tables lasts x s are is law.
     each_more (λ (d : Column). matches d.cube s ≡ true → All (λ y. IsApartAt tables (lasts y s) y (lasts x s) d.time s)
@@ -15,6 +16,7 @@ loop-column-preserved c = λ g tables lasts x s are is law.
     (c.loop-column.invariant g tables lasts x s are is law)
     (OnTrue_at c.if-not-are_apart_at.false c.are_apart_at.ensures g tables lasts x s are is law)
 
+-- the loop has gone over all of them, so what holds of those so far holds of all
 pub returns : goal.returns
 returns c = λ g tables lasts x are is.
     apart_all lasts g tables x c.args.other.now.columns.now c.args.items.now is.columns (λ s law.

@@ -8,6 +8,8 @@ use Rattle.cpg_check_quick.specs.Courses.{AreCourses, IsCourse}
 use Rattle.cpg_check_quick.specs.Order.{IsApartAt}
 use Rattle.cpg_check_quick.proofs.course.Courses.are_apart.Given as goal
 
+-- in each scenario, each column so far that matches is apart from the items: each item is over by the column's time,
+-- or begins no earlier than the other one, begun at that time, is over
 abbrev pub invariant-loop-column : goal.invariant-loop-column
 invariant-loop-column l = (g : Graph) (tables : List NodeTable) (lasts : ℕ → Scenario → ℕ) (x : ℕ) (s : Scenario) →
     AreCourses lasts g tables l.self → IsCourse g tables (lasts x) x l.other →

@@ -6,6 +6,7 @@ use Rattle.cpg_check_quick.proofs.OrderLaws.{course_at}
 use Rattle.cpg_violation.proofs.SureLaws.{each_all}
 use Rattle.cpg_check_quick.proofs.course.Courses.are_apart_in.Goals as goal
 
+-- the next item is apart from the other at its time, by the course that was looked up
 pub loop-item-preserved : goal.loop-item-preserved
 loop-item-preserved c =
     λ g tables lasts x s are is law lies. All-more (λ y. IsApartAt tables (lasts y s) y (lasts x s) c.args.time s)
@@ -17,6 +18,7 @@ loop-item-preserved c =
     c.deref.ensures.value c.in-Some.ensures.lookup.3.0 c.in-Some.ensures.lookup.1) is law
     lies)
 
+-- the loop has gone over all of them, so what holds of those so far holds of all
 pub returns : goal.returns
 returns c =
     λ g tables lasts x s are is law lies. each_all (λ y. IsApartAt tables (lasts y s) y (lasts x s) c.args.time s)

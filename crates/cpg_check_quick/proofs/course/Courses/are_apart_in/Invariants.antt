@@ -7,6 +7,8 @@ use Rattle.cpg_check_quick.specs.Courses.{AreCourses, IsCourse}
 use Rattle.cpg_check_quick.specs.Order.{IsApartAt}
 use Rattle.cpg_check_quick.proofs.course.Courses.are_apart_in.Given as goal
 
+-- in each scenario of the space, each item so far is over by `time`, or begins no earlier than the other one, begun
+-- at `time`, is over
 abbrev pub invariant-loop-item : goal.invariant-loop-item
 invariant-loop-item l = (g : Graph) (tables : List NodeTable) (lasts : ℕ → Scenario → ℕ) (x : ℕ) (s : Scenario) →
     AreCourses lasts g tables l.self → IsCourse g tables (lasts x) x l.other →

@@ -6,6 +6,7 @@ use Rattle.cpg_check_quick.proofs.OrderLaws.{course_at}
 use Rattle.cpg_violation.proofs.SureLaws.{each_all}
 use Rattle.cpg_check_quick.proofs.course.Courses.are_early.Goals as goal
 
+-- the next item is over by the time, by its last column
 pub loop-item-preserved : goal.loop-item-preserved
 loop-item-preserved c = λ g tables lasts s are law. All-more (λ y. IsOverBy tables (lasts y s) y c.args.time s)
     c.args.items.now c.loop-item.item-index 0 c.loop-item-test.true
@@ -15,6 +16,7 @@ loop-item-preserved c = λ g tables lasts s are law. All-more (λ y. IsOverBy ta
     (course_at are (get_or c.args.items.now c.loop-item.item-index 0) c.in-Some.course.now c.deref.result.now
     c.deref.ensures.value c.in-Some.ensures.lookup.3.0 c.in-Some.ensures.lookup.1) law)
 
+-- the loop has gone over all of them, so what holds of those so far holds of all
 pub returns : goal.returns
 returns c = λ g tables lasts s are law. each_all (λ y. IsOverBy tables (lasts y s) y c.args.time s) c.args.items.now
     c.loop-item.item-index c.loop-item-test.false

@@ -3,6 +3,7 @@ use Rattle.std.proofs.lemmas.Bool.{OnTrue_at}
 use Rattle.cpg_check_quick.proofs.OrderLaws.{course_at, turn_step}
 use Rattle.cpg_check_quick.proofs.course.Courses.are_in_turn.Goals as goal
 
+-- the items from the start on are over before the next one, which is the new start if it is always active
 pub loop-place-preserved : goal.loop-place-preserved
 loop-place-preserved c = turn_step c.args.self.now c.args.items.now c.loop-place.place c.loop-place.start
     c.next_start-start.result c.in-Some.course.now.is_always c.next_start-start.ensures
@@ -18,6 +19,7 @@ loop-place-preserved c = turn_step c.args.self.now c.args.items.now c.loop-place
     (get_or c.args.items.now c.loop-place.place 0) are course)
     c.loop-place.invariant
 
+-- all places are gone over, so all items are in turn
 pub returns : goal.returns
 returns c = λ g tables lasts are present i j h k.
     c.loop-place.invariant.before g tables lasts are present i j h (omega (arith, k, c.loop-place-test.false))

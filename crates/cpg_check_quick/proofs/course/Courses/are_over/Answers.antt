@@ -6,6 +6,7 @@ use Rattle.cpg_check_quick.proofs.OrderLaws.{course_at}
 use Rattle.cpg_violation.proofs.SureLaws.{each_all}
 use Rattle.cpg_check_quick.proofs.course.Courses.are_over.Goals as goal
 
+-- the next item is over by the time in the space, by the course that was looked up
 pub loop-item-preserved : goal.loop-item-preserved
 loop-item-preserved c = λ g tables lasts s are law lies. All-more (λ y. IsOverBy tables (lasts y s) y c.args.time s)
     c.args.items.now c.loop-item.item-index 0 c.loop-item-test.true
@@ -16,6 +17,7 @@ loop-item-preserved c = λ g tables lasts s are law lies. All-more (λ y. IsOver
     c.deref.ensures.value c.in-Some.ensures.lookup.3.0 c.in-Some.ensures.lookup.1) law
     lies)
 
+-- the loop has gone over all of them, so what holds of those so far holds of all
 pub returns : goal.returns
 returns c = λ g tables lasts s are law lies. each_all (λ y. IsOverBy tables (lasts y s) y c.args.time s)
     c.args.items.now c.loop-item.item-index c.loop-item-test.false

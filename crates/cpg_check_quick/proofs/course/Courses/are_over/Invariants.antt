@@ -7,6 +7,7 @@ use Rattle.cpg_check_quick.specs.Courses.{AreCourses}
 use Rattle.cpg_check_quick.specs.Order.{IsOverBy}
 use Rattle.cpg_check_quick.proofs.course.Courses.are_over.Given as goal
 
+-- in each scenario of the space, each item so far is over by `time`
 abbrev pub invariant-loop-item : goal.invariant-loop-item
 invariant-loop-item l = (g : Graph) (tables : List NodeTable) (lasts : ℕ → Scenario → ℕ) (s : Scenario) →
     AreCourses lasts g tables l.self → IsScenario g s → IsInSpace l.space s →

@@ -7,6 +7,7 @@ use Rattle.cpg_check_quick.proofs.OrderLaws.{over_all}
 use Rattle.cpg_violation.proofs.SureLaws.{each_all, each_more}
 use Rattle.cpg_check_quick.proofs.course.Courses.come_before.Goals as goal
 
+-- the items are over by the time of the next column, too
 pub loop-column-preserved : goal.loop-column-preserved
 loop-column-preserved c = λ g tables lasts s are law.
     each_more
@@ -16,6 +17,7 @@ loop-column-preserved c = λ g tables lasts s are law.
     (c.loop-column.invariant g tables lasts s are law)
     (OnTrue_at c.if-not-are_over_at.false c.are_over_at.ensures g tables lasts s are law)
 
+-- the loop has gone over all of them, so what holds of those so far holds of all
 pub returns : goal.returns
 returns c = λ g tables lasts x are same. over_all lasts g tables x c.args.columns.now c.args.items.now same (λ s law.
     each_all

@@ -8,6 +8,7 @@ use Rattle.cpg_check_quick.specs.Courses.{AreCourses}
 use Rattle.cpg_check_quick.specs.Order.{IsOverBy}
 use Rattle.cpg_check_quick.proofs.course.Courses.come_before.Given as goal
 
+-- in each scenario, all items are over by the time of each column so far that matches
 abbrev pub invariant-loop-column : goal.invariant-loop-column
 invariant-loop-column l = (g : Graph) (tables : List NodeTable) (lasts : ℕ → Scenario → ℕ) (s : Scenario) →
     AreCourses lasts g tables l.self → IsScenario g s →

@@ -6,6 +6,7 @@ use Rattle.cpg_check_quick.proofs.OrderLaws.{course_at}
 use Rattle.cpg_violation.proofs.SureLaws.{each_all}
 use Rattle.cpg_check_quick.proofs.course.Courses.end_before.Goals as goal
 
+-- the next item ends before the other, by the course that was looked up
 pub loop-item-preserved : goal.loop-item-preserved
 loop-item-preserved c = λ g tables lasts x are is there.
     let item = get_or c.args.items.now c.loop-item.item-index 0 in
@@ -15,6 +16,7 @@ loop-item-preserved c = λ g tables lasts x are is there.
     (course_at are item c.in-Some.one.now c.deref.result.now c.deref.ensures.value c.in-Some.ensures.lookup.3.0
     c.in-Some.ensures.lookup.1) is there)
 
+-- the loop has gone over all of them, so what holds of those so far holds of all
 pub returns : goal.returns
 returns c = λ g tables lasts x are is there.
     each_all (λ y. IsOver lasts g tables y x) c.args.items.now c.loop-item.item-index c.loop-item-test.false

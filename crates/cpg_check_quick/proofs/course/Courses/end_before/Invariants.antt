@@ -6,6 +6,7 @@ use Rattle.cpg_check_quick.specs.Courses.{AreCourses, IsCourse}
 use Rattle.cpg_check_quick.specs.Order.{IsOver}
 use Rattle.cpg_check_quick.proofs.course.Courses.end_before.Given as goal
 
+-- each item so far is over before the item of the other course, wherever columns of both match
 abbrev pub invariant-loop-item : goal.invariant-loop-item
 invariant-loop-item l = (g : Graph) (tables : List NodeTable) (lasts : ℕ → Scenario → ℕ) (x : ℕ) →
     AreCourses lasts g tables l.self → IsCourse g tables (lasts x) x l.course →

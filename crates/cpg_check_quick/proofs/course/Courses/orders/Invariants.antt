@@ -8,6 +8,7 @@ use Rattle.cpg_check_quick.specs.Courses.{AreCourses}
 use Rattle.cpg_check_quick.specs.Order.{IsInTurn}
 use Rattle.cpg_check_quick.proofs.course.Courses.orders.Given as goal
 
+-- if the rule Present holds, each order listed so far is in turn: each of its items is over before each later one
 abbrev pub invariant-loop-group : goal.invariant-loop-group
 invariant-loop-group l = (g : Graph) (tables : List NodeTable) (lasts : ℕ → Scenario → ℕ) →
     AreCourses lasts g tables l.self → Holds g tables Rule.Present →

@@ -11,6 +11,7 @@ use Rattle.cpg_check_quick.proofs.HeardLaws.{heard_sure}
 use Rattle.cpg_check_quick.proofs.OwnLaws.{known_sure}
 use Rattle.cpg_check_quick.proofs.heard.Hall.is_sure.Goals as goal
 
+-- all literals of the item's columns are on variables of own processes that have ended, so V4 holds
 pub returns-then-are_all_known : goal.returns-then-are_all_known
 returns-then-are_all_known c = λ tables turns frames rules sent is.
     known_sure c.args.self.now.admitted.now.graph tables rules c.args.item c.requires.item
@@ -19,6 +20,7 @@ returns-then-are_all_known c = λ tables turns frames rules sent is.
     (subst (All (λ (d : Column). All (λ (l : Literal). get_or c.own_ended-known.result l.variable false ≡ true) d.cube))
     is (OnTrue_at c.if-are_all_known.true c.are_all_known.ensures))
 
+-- the listener has heard all literals of the item's columns, so V4 holds
 pub returns : goal.returns
 returns c = of_true c.in_ok-heard.heard c.in_ok-heard.ensures (λ all tables turns frames rules sent is.
     let g = c.args.self.now.admitted.now.graph in

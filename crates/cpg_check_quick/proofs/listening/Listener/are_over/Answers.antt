@@ -5,6 +5,7 @@ use Rattle.cpg_violation.proofs.SureLaws.{each_all}
 use Rattle.cpg_check_quick.specs.Hearing.{IsOwnOver}
 use Rattle.cpg_check_quick.proofs.listening.Listener.are_over.Goals as goal
 
+-- the process of the next literal's variable is over by the time, too
 pub loop-literal-preserved : goal.loop-literal-preserved
 loop-literal-preserved c =
     λ tables s turns law lies. All-more (λ (m : Literal). IsOwnOver c.args.self.now.admitted.now.graph tables
@@ -13,6 +14,7 @@ loop-literal-preserved c =
     (c.loop-literal.invariant tables s turns law lies)
     (OnTrue_at c.if-not-is_own_over.false c.is_own_over.ensures tables s turns law lies)
 
+-- the loop has gone over all of them, so what holds of those so far holds of all
 pub returns : goal.returns
 returns c = λ tables s turns law lies. each_all (λ (m : Literal). IsOwnOver c.args.self.now.admitted.now.graph tables
     c.args.self.now.node m.variable c.args.time s) c.args.literals.now

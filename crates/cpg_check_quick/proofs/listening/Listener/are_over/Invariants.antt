@@ -8,6 +8,8 @@ use Rattle.cpg_check_quick.specs.Order.{execution}
 use Rattle.cpg_check_quick.specs.Turns.{AreTurns}
 use Rattle.cpg_check_quick.proofs.listening.Listener.are_over.Given as goal
 
+-- in each scenario of the space, each literal so far is on a variable of a process on the listener's own node that is
+-- over by `time`
 abbrev pub invariant-loop-literal : goal.invariant-loop-literal
 invariant-loop-literal l = (tables : List NodeTable) (s : Scenario) →
     AreTurns (execution l.self.admitted.now.graph) l.self.admitted.now.graph tables l.self.turns.now →

@@ -13,12 +13,14 @@ use Rattle.cpg_check_quick.proofs.BoundLaws.{all_wider, column_heard}
 use Rattle.cpg_check_quick.proofs.OwnLaws.{known_heard, left_heard}
 use Rattle.cpg_check_quick.proofs.listening.Listener.hears.Goals as goal
 
+-- no scenario of the space matches the column, so there is nothing to show
 pub returns-then-not-narrow_to : goal.returns-then-not-narrow_to
 returns-then-not-narrow_to c = λ tables x is rules k l h s law m.
     let none = rw c.literals-literals.ensures.literals at
     (from_false c.narrow_to.result c.if-not-narrow_to.true c.narrow_to.ensures.none) in
     absurd (true≢false (sym m ∙ none s (is.turns.courses.everywhere.lies s law)))
 
+-- each bound of the column is told by a frame, or is on a variable of a process that is over; so all are heard
 pub returns : goal.returns
 returns c = of_true c.are_over.result c.are_over.ensures (λ over tables x is rules k.
     let g = c.args.self.now.admitted.now.graph in

@@ -5,6 +5,7 @@ use Rattle.cpg_check_quick.specs.Hearing.{IsAllHeard}
 use Rattle.cpg_violation.proofs.SureLaws.{each_all, each_more}
 use Rattle.cpg_check_quick.proofs.listening.Listener.hears_all.Goals as goal
 
+-- the literals of the next column are heard, too
 pub loop-column-preserved : goal.loop-column-preserved
 loop-column-preserved c =
     λ tables x is rules all. each_more (IsAllHeard c.args.self.now.admitted.now.graph tables c.args.self.now.node)
@@ -14,6 +15,7 @@ loop-column-preserved c =
     (subst (λ (cs : List Column). Contains cs c.column-item.result) all
     (c.loop-column.column-index, c.loop-column-test.true, sym c.column-item.is)))
 
+-- the loop has gone over all of them, so what holds of those so far holds of all
 pub returns : goal.returns
 returns c =
     λ tables x is rules all. each_all (IsAllHeard c.args.self.now.admitted.now.graph tables c.args.self.now.node)

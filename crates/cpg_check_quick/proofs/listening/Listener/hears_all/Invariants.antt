@@ -5,6 +5,7 @@ use Rattle.cpg_check_quick.specs.Hearing.{IsAllHeard}
 use Rattle.cpg_check_quick.specs.Listening.{IsListener}
 use Rattle.cpg_check_quick.proofs.listening.Listener.hears_all.Given as goal
 
+-- the listener's node has heard all literals of each column so far, by the time of that column
 abbrev pub invariant-loop-column : goal.invariant-loop-column
 invariant-loop-column l = (tables : List NodeTable) (x : ℕ) → IsListener tables x l.self →
     AllHold l.self.admitted.now.graph tables row_rules → l.columns ≡ columns_of tables x →

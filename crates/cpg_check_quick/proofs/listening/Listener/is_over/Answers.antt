@@ -4,6 +4,7 @@ use Rattle.cpg_check_quick.specs.Order.{execution}
 use Rattle.cpg_check_quick.proofs.OrderLaws.{course_at}
 use Rattle.cpg_check_quick.proofs.listening.Listener.is_over.Goals as goal
 
+-- the execution is over by the time in each scenario, so in those of the space
 pub returns-then-is_early : goal.returns-then-is_early
 returns-then-is_early c = λ tables s turns law lies.
     let g = c.args.self.now.admitted.now.graph in
@@ -11,6 +12,7 @@ returns-then-is_early c = λ tables s turns law lies.
     (course_at turns.courses c.args.process c.in-Some.course.now c.deref.result.now c.deref.ensures.value
     c.in-Some.ensures.lookup.3.0 c.in-Some.ensures.lookup.1) law
 
+-- the execution is over by the time in each scenario of the space
 pub returns : goal.returns
 returns c = of_true c.is_over.result c.is_over.ensures (λ over tables s turns law lies.
     let g = c.args.self.now.admitted.now.graph in

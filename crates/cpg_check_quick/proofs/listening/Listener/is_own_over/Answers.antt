@@ -3,6 +3,7 @@ use Rattle.cpg_base.specs.Graph.{node_of}
 use Rattle.cpg_tree.proofs.Passes.{of_true}
 use Rattle.cpg_check_quick.proofs.listening.Listener.is_own_over.Goals as goal
 
+-- the variable's owner is on the listener's node, and over by the time
 pub returns : goal.returns
 returns c = of_true c.is_over.result c.is_over.ensures (λ over tables s turns law lies. record {
   process = c.in-Some.process;

@@ -5,10 +5,12 @@ use Rattle.cpg_check_quick.specs.Speakers.{IsSpeaker}
 use Rattle.cpg_check_quick.proofs.SpeakerLaws.{left_first, left_more}
 use Rattle.cpg_check_quick.proofs.listening.Listener.listen.Goals as goal
 
+-- no speaker is gone over yet, so all wanted literals are left
 pub loop-speaker-init : goal.loop-speaker-init
 loop-speaker-init c =
     λ g tables all wider lies. left_first g tables c.args.self.now.node c.args.column.now c.args.wanted.now.items
 
+-- the literals left by the next speaker, of those left before, are left of the wanted ones
 pub loop-speaker-preserved : goal.loop-speaker-preserved
 loop-speaker-preserved c = λ g tables all wider lies.
     let before = c.loop-speaker.invariant g tables all wider lies in

@@ -8,6 +8,8 @@ use Rattle.cpg_check_quick.specs.Hearing.{AreLeft}
 use Rattle.cpg_check_quick.specs.Speakers.{AreToldIn, IsSpeaker}
 use Rattle.cpg_check_quick.proofs.listening.Listener.listen.Given as goal
 
+-- after each speaker, `wanted` has the literals that are left: the node has heard each of the others by the column's
+-- time
 abbrev pub invariant-loop-speaker : goal.invariant-loop-speaker
 invariant-loop-speaker l = (g : Graph) (tables : List NodeTable) →
     All (IsSpeaker g tables l.self.node) l.self.speakers.items → AreToldIn l.column.cube l.fn.wanted.items →

@@ -2,6 +2,7 @@ use Rattle.std.proofs.Common.{◌-◌, arith, get_or}
 use Rattle.cpg_violation.proofs.SureLaws.{on_le}
 use Rattle.cpg_check_quick.proofs.span.ItemSpan.is_past.Goals as goal
 
+-- the greatest number that the variable has in the space gives a length that is past by the time
 pub returns : goal.returns
 returns c = on_le (get_or c.args.self.now.lengths c.most-most.result 0) (c.args.time - c.args.start)
     (λ l s lies. record {

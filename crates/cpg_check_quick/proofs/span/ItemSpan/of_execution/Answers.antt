@@ -3,6 +3,7 @@ use Rattle.cpg_base.specs.Duration.{duration}
 use Rattle.cpg_check_quick.proofs.OrderLaws.{span_of}
 use Rattle.cpg_check_quick.proofs.span.ItemSpan.of_execution.Goals as goal
 
+-- each length is the duration with that many faults, or with as many as there may be
 pub returns : goal.returns
 returns c =
     let g = c.args.problem.now in

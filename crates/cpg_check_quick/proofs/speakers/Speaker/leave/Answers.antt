@@ -4,6 +4,7 @@ use Rattle.cpg_check_quick.specs.Speakers.{IsToldIn}
 use Rattle.cpg_check_quick.proofs.SpeakerLaws.{told_alone}
 use Rattle.cpg_check_quick.proofs.speakers.Speaker.leave.Goals as goal
 
+-- the column is at the only place, so what it tells is told at all places
 pub returns-in_ok-leave_by-in-Some-clause-told : goal.returns-in_ok-leave_by-in-Some-clause-told
 returns-in_ok-leave_by-in-Some-clause-told c m h = elim (c.in_ok-leave_by-in-Some.ensures.told m h) [
   | inl kept ↦ inl kept

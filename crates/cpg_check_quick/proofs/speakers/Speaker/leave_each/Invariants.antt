@@ -3,6 +3,8 @@ use Rattle.cpg_cube.specs.declared.literal.Literal.{Literal}
 use Rattle.cpg_check_quick.specs.Speakers.{IsTold}
 use Rattle.cpg_check_quick.proofs.speakers.Speaker.leave_each.Given as goal
 
+-- each literal left is one that is wanted, and each wanted literal so far is left, or the frame implies it: the frame
+-- carries its value, or the column at each of the places implies it
 abbrev pub invariant-loop-literal : goal.invariant-loop-literal
 invariant-loop-literal l = record {
   among : (m : Literal) → Contains l.left.items m → Contains l.wanted m;

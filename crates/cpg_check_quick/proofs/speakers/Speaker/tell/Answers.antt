@@ -2,6 +2,7 @@ use Rattle.std.proofs.lemmas.Bool.{OnTrue_at}
 use Rattle.cpg_check_quick.proofs.SpeakerLaws.{left_untold}
 use Rattle.cpg_check_quick.proofs.speakers.Speaker.tell.Goals as goal
 
+-- a wanted literal that isn't left is told by the speaker's frame, so the node has heard it
 pub returns : goal.returns
 returns c = λ g tables node is wider lies.
     left_untold is c.gather.new.found.items c.args.column.now c.args.wanted.now c.leave.new.left.items wider

@@ -4,6 +4,7 @@ use Rattle.cpg_check_quick.specs.Order.{IsApart}
 use Rattle.cpg_check_quick.proofs.OrderLaws.{course_at, known_apart}
 use Rattle.cpg_check_quick.proofs.turns.Turns.are_apart.Goals as goal
 
+-- the items that the order says nothing about are apart by their courses, so all are
 pub returns-in-Some : goal.returns-in-Some
 returns-in-Some c = of_true c.are_apart.result c.are_apart.ensures (λ all g tables lasts are.
     let course = course_at are.courses c.args.other c.in-Some.course.now c.deref.result.now c.deref.ensures.value

@@ -4,6 +4,7 @@ use Rattle.cpg_check_quick.proofs.OrderLaws.{before_in, order_at}
 use Rattle.cpg_check_quick.specs.Order.{StandsBefore}
 use Rattle.cpg_check_quick.proofs.turns.Turns.is_before.Goals as goal
 
+-- an order has both items, and the first stands before the second in it
 pub returns-in-Some : goal.returns-in-Some
 returns-in-Some c = of_true c.stands_before.result c.stands_before.ensures (λ stands g tables lasts are.
     before_in lasts g tables c.in-Some.order.now.items c.args.first c.args.second

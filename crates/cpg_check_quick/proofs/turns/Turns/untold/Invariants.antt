@@ -6,6 +6,7 @@ use Rattle.cpg_check_quick.specs.Order.{IsApart}
 use Rattle.cpg_check_quick.specs.Turns.{AreTurns}
 use Rattle.cpg_check_quick.proofs.turns.Turns.untold.Given as goal
 
+-- each item so far is in the list of those that are left, or is apart from the other one
 abbrev pub invariant-loop-item : goal.invariant-loop-item
 invariant-loop-item l =
     (g : Graph) (tables : List NodeTable) (lasts : ℕ → Scenario → ℕ) → AreTurns lasts g tables l.self →

@@ -4,6 +4,7 @@ use Rattle.cpg_table.specs.Table.{NodeTable}
 use Rattle.cpg_check_quick.specs.Inputs.{IsInputOver, IsWaiting}
 use Rattle.cpg_check_quick.proofs.waiting.Waiting.are_early.Given as goal
 
+-- in each scenario, each input so far is over by `time`
 abbrev pub invariant-loop-edge : goal.invariant-loop-edge
 invariant-loop-edge l = (tables : List NodeTable) (s : Scenario) → IsWaiting l.self.admitted.now.graph tables l.self →
     IsScenario l.self.admitted.now.graph s →

@@ -5,6 +5,7 @@ use Rattle.cpg_check_quick.specs.Inputs.{IsInputThere, IsLateEnough}
 use Rattle.cpg_violation.proofs.SureLaws.{each_all, each_more}
 use Rattle.cpg_check_quick.proofs.waiting.Waiting.are_late_enough.Goals as goal
 
+-- the next column is no earlier than the release, and the inputs are there by its time
 pub loop-column-preserved : goal.loop-column-preserved
 loop-column-preserved c =
     λ tables w rules. each_more (IsLateEnough c.args.self.now.admitted.now.graph tables c.args.edges.now c.args.release)
@@ -17,6 +18,7 @@ loop-column-preserved c =
           (OnTrue_at c.if-not-are_there.false c.are_there.ensures tables w rules) k;
     })
 
+-- the loop has gone over all of them, so what holds of those so far holds of all
 pub returns : goal.returns
 returns c =
     λ tables w rules. each_all (IsLateEnough c.args.self.now.admitted.now.graph tables c.args.edges.now c.args.release)

@@ -4,6 +4,7 @@ use Rattle.cpg_violation.specs.Violation.{AllHold, row_rules}
 use Rattle.cpg_check_quick.specs.Inputs.{IsLateEnough, IsWaiting}
 use Rattle.cpg_check_quick.proofs.waiting.Waiting.are_late_enough.Given as goal
 
+-- each column so far is no earlier than the release, nor than the inputs
 abbrev pub invariant-loop-column : goal.invariant-loop-column
 invariant-loop-column l = (tables : List NodeTable) → IsWaiting l.self.admitted.now.graph tables l.self →
     AllHold l.self.admitted.now.graph tables row_rules →

@@ -6,6 +6,7 @@ use Rattle.cpg_check_quick.specs.Inputs.{IsInputOver}
 use Rattle.cpg_violation.proofs.SureLaws.{each_all}
 use Rattle.cpg_check_quick.proofs.waiting.Waiting.are_over.Goals as goal
 
+-- this turn's test shows it of one more
 pub loop-edge-preserved : goal.loop-edge-preserved
 loop-edge-preserved c =
     λ tables s w law lies. All-more (λ e. live c.args.self.now.admitted.now.graph s.values e ≡ true →
@@ -13,6 +14,7 @@ loop-edge-preserved c =
     c.args.edges.now c.loop-edge.edge-index 0 c.loop-edge-test.true
     (c.loop-edge.invariant tables s w law lies) (OnTrue_at c.if-not-is_over.false c.is_over.ensures tables s w law lies)
 
+-- the loop has gone over all of them, so what holds of those so far holds of all
 pub returns : goal.returns
 returns c = λ tables s w law lies. each_all (λ e. live c.args.self.now.admitted.now.graph s.values e ≡ true →
     IsInputOver c.args.self.now.admitted.now.graph tables e c.args.time s) c.args.edges.now

@@ -6,6 +6,7 @@ use Rattle.cpg_tree.specs.Space.{IsInSpace}
 use Rattle.cpg_check_quick.specs.Inputs.{IsInputOver, IsWaiting}
 use Rattle.cpg_check_quick.proofs.waiting.Waiting.are_over.Given as goal
 
+-- in each scenario of the space, each input so far that is live is over by `time`
 abbrev pub invariant-loop-edge : goal.invariant-loop-edge
 invariant-loop-edge l = (tables : List NodeTable) (s : Scenario) → IsWaiting l.self.admitted.now.graph tables l.self →
     IsScenario l.self.admitted.now.graph s → IsInSpace l.space s →

@@ -4,6 +4,7 @@ use Rattle.cpg_tree.proofs.Passes.{of_true}
 use Rattle.cpg_check_quick.specs.Order.{IsBefore, execution}
 use Rattle.cpg_check_quick.proofs.waiting.Waiting.is_from_before.Goals as goal
 
+-- the edge is no message, and its source is before the process in the order of their node
 pub returns : goal.returns
 returns c = of_true c.is_before.result c.is_before.ensures (λ before tables w.
     let g = c.args.self.now.admitted.now.graph in

@@ -6,6 +6,7 @@ use Rattle.cpg_tree.proofs.Passes.{of_true}
 use Rattle.cpg_check_quick.proofs.WaitingLaws.{input_over}
 use Rattle.cpg_check_quick.proofs.waiting.Waiting.is_over.Goals as goal
 
+-- the source of the edge isn't active in the space, so the edge isn't live there
 pub returns-then-is_refused : goal.returns-then-is_refused
 returns-then-is_refused c = λ tables s w law lies on.
     let g = c.args.self.now.admitted.now.graph in
@@ -13,6 +14,7 @@ returns-then-is_refused c = λ tables s w law lies on.
     absurd (true≢false (sym (and_parts (active g s.values (source g c.args.edge)) _ on).1
     ∙ OnTrue_at c.if-is_refused.true refused s lies))
 
+-- the course of the input is over by the time in each scenario of the space
 pub returns-in-Some : goal.returns-in-Some
 returns-in-Some c = of_true c.is_over.result c.is_over.ensures
     (λ over tables s w law lies on. input_over (c.in-Some.ensures tables w) c.args.time s

@@ -7,6 +7,7 @@ use Rattle.cpg_check_quick.specs.Inputs.{IsFromBefore}
 use Rattle.cpg_check_quick.proofs.InputLaws.{others_push, others_skip}
 use Rattle.cpg_check_quick.proofs.waiting.Waiting.others.Goals as goal
 
+-- the next input is from before, so it needn't be kept
 pub loop-edge-preserved-then-is_from_before : goal.loop-edge-preserved-then-is_from_before
 loop-edge-preserved-then-is_from_before c = record {
   edges = c.loop-edge.invariant.edges;
@@ -17,6 +18,7 @@ loop-edge-preserved-then-is_from_before c = record {
       (λ d j. c.loop-edge.invariant.known tables d w j) e k;
 }
 
+-- the next input is kept
 pub loop-edge-preserved : goal.loop-edge-preserved
 loop-edge-preserved c = rw c.in_ok-push.ensures.items (record {
   edges = All-push (λ e. e < edge_count c.args.self.now.admitted.now.graph) c.loop-edge.others.items
@@ -28,6 +30,7 @@ loop-edge-preserved c = rw c.in_ok-push.ensures.items (record {
       (λ d j. c.loop-edge.invariant.known tables d w j) e k;
 })
 
+-- the loop has gone over all of them, so what holds of those so far holds of all
 pub returns-clause-known : goal.returns-clause-known
 returns-clause-known c = λ tables e w k. c.loop-edge.invariant.known tables e w
     (subst (λ xs. Contains xs e) (sym (take_all c.loop-edge.edge-index c.args.edges.now c.loop-edge-test.false)) k)

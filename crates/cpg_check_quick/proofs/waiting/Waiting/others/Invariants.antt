@@ -4,6 +4,8 @@ use Rattle.cpg_table.specs.Table.{NodeTable}
 use Rattle.cpg_check_quick.specs.Inputs.{IsFromBefore, IsWaiting}
 use Rattle.cpg_check_quick.proofs.waiting.Waiting.others.Given as goal
 
+-- the others are edges of the graph, and each input so far is among them, or it comes from the same node and is
+-- always over before the process begins
 abbrev pub invariant-loop-edge : goal.invariant-loop-edge
 invariant-loop-edge l = record {
   edges : All (λ e. e < edge_count l.self.admitted.now.graph) l.others.items;

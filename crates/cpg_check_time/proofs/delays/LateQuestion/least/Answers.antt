@@ -12,6 +12,7 @@ returns-in_ok-found-in-Execution-clause-first c = λ order.
     c.args.beside.now s) c.in_ok-found-in-Execution.found) (sym c.in-Execution.is)
     (c.in_ok-found-in-Execution.ensures.first order)
 
+-- a slot takes the same time in every scenario, so the column is late wherever both cubes match
 pub returns-in_ok-found-in-Slot-clause-first : goal.returns-in_ok-found-in-Slot-clause-first
 returns-in_ok-found-in-Slot-clause-first c = λ order.
     let late = c.args.self.now in

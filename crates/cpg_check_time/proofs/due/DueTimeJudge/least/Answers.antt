@@ -8,6 +8,7 @@ use Rattle.cpg_check_time.specs.Lateness.{ends_after}
 use Rattle.cpg_check_time.proofs.DueLaws.{due_first}
 use Rattle.cpg_check_time.proofs.due.DueTimeJudge.least.Goals as goal
 
+-- the least scenario of the part in which the execution ends after the due is the least that breaks V9
 pub returns : goal.returns
 returns c =
     let g = c.args.admitted.now.graph in

@@ -7,6 +7,7 @@ use Rattle.cpg_check_time.specs.Frozen.{frozen_time}
 use Rattle.cpg_check_time.proofs.FrozenLaws.{frozen_none, frozen_same, frozen_first, time_at}
 use Rattle.cpg_check_time.proofs.frozen.FrozenStartsTimeJudge.least.Goals as goal
 
+-- there is a time for each item
 pub index-requires : goal.index-requires
 index-requires c = omega (
   arith,
@@ -30,6 +31,7 @@ returns-then-time-column c =
     λ s _. frozen_same c.args.admitted.now.graph c.args.admitted.now.order c.args.tables.now.nodes c.args.item
     c.args.column.now c.in-Some.time (sym at ∙ c.in-Some.is) c.if-time-column.true s
 
+-- the item's time is another than the column's, so the column breaks V8 wherever it matches
 pub returns : goal.returns
 returns c =
     let at = c.index.ensures ∙ time_at c.args.admitted.now.graph c.args.tables.now.nodes c.args.self.now.times.items

@@ -11,6 +11,7 @@ use Rattle.cpg_check_time.specs.Inputs.{lacks_input}
 use Rattle.cpg_check_time.proofs.InputLaws.{first_released, first_input, first_send}
 use Rattle.cpg_check_time.proofs.inputs.WaitedInputsTimeJudge.least.Goals as goal
 
+-- the producer of an item is a process of the graph
 pub least_delay-requires-clause-item : goal.least_delay-requires-clause-item
 least_delay-requires-clause-item c =
     let is : c.producer-process.result ≡ producer c.args.admitted.now.graph c.args.item =
@@ -22,6 +23,7 @@ least_delay-requires-clause-item c =
           c.requires.item,
     )
 
+-- so the delay is the execution of a process that there is
 pub least_delay-requires-clause-delay : goal.least_delay-requires-clause-delay
 least_delay-requires-clause-delay c =
     let is : c.producer-process.result ≡ producer c.args.admitted.now.graph c.args.item =
@@ -33,6 +35,7 @@ least_delay-requires-clause-delay c =
           c.requires.item,
     )
 
+-- the item is a send, which breaks V5 exactly if its producer ends after the column's time
 pub returns-then-item-processes : goal.returns-then-item-processes
 returns-then-item-processes c =
     let send : process_count c.args.admitted.now.graph ≤ c.args.item =
@@ -46,6 +49,7 @@ returns-then-item-processes c =
     first_send c.problem-problem.ensures.admitted c.args.tables.now.nodes c.requires.suits.rules c.args.item
     c.args.column.now c.in_ok-least.least c.requires.item send c.requires.place found
 
+-- the item is a process, and the column is before its release, so it breaks V5 wherever it matches
 pub returns-then-column-release : goal.returns-then-column-release
 returns-then-column-release c =
     let g = c.args.admitted.now.graph in
@@ -67,6 +71,7 @@ returns-then-column-release c =
     first_released c.problem-problem.ensures.admitted c.args.tables.now.nodes c.requires.suits.rules c.args.item
     c.args.column.now c.in_ok-least-2.least start early first
 
+-- the inputs of a process are edges of the graph
 pub least_of_lacking-requires-clause-edges : goal.least_of_lacking-requires-clause-edges
 least_of_lacking-requires-clause-edges c =
     let g = c.args.admitted.now.graph in
@@ -78,6 +83,7 @@ least_of_lacking-requires-clause-edges c =
     (Contains-filter_parts (λ e. target g e == c.args.item) (numbers_below (edge_count g)) e k).0)
     (inputs g c.args.item) (All-contains_itself (inputs g c.args.item)))
 
+-- the column is not before the release, so it breaks V5 exactly if an input is missing
 pub returns : goal.returns
 returns c =
     let g = c.args.admitted.now.graph in

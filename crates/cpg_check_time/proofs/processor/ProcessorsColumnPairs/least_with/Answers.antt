@@ -10,6 +10,7 @@ use Rattle.cpg_check_time.proofs.Judging.{columns_are}
 use Rattle.cpg_check_time.proofs.ProcessorLaws.{overlaps_both, starts_late, ends_early, other_node}
 use Rattle.cpg_check_time.proofs.processor.ProcessorsColumnPairs.least_with.Goals as goal
 
+-- the column's longest execution ends before the other item's first column, so none overlaps
 pub returns-then-line-column : goal.returns-then-line-column
 returns-then-line-column c = λ s i.
     let g = c.args.admitted.now.graph in
@@ -22,6 +23,7 @@ returns-then-line-column c = λ s i.
     c.problem-problem.ensures.admitted.limits.few_processes s i c.requires.item c.index-lines-other.result.first
     line.first (omega (arith, c.if-line-column.true, longest))
 
+-- the other item's longest execution from its last column ends before the column, so none overlaps
 pub returns-then-saturating_add-column : goal.returns-then-saturating_add-column
 returns-then-saturating_add-column c = λ s i.
     let g = c.args.admitted.now.graph in
@@ -43,6 +45,7 @@ least_near-requires-clause-columns c =
     (c.requires.fits.each c.args.other c.index-lines-other.result (omega (arith, c.requires.other))) in
     rw line.all (columns_are c.problem-problem.ensures.admitted c.args.tables.now.nodes c.requires.lawful c.args.other)
 
+-- the question is about a column and processes of the graph
 pub least_near-requires-clause-fits : goal.least_near-requires-clause-fits
 least_near-requires-clause-fits c = record {
   limits = c.problem-problem.ensures.admitted.limits;
@@ -55,6 +58,7 @@ pub least_near-requires-clause-near : goal.least_near-requires-clause-near
 least_near-requires-clause-near c = λ s d t. overlaps_both c.args.admitted.now.graph
     c.problem-problem.ensures.admitted.limits c.args.item c.requires.item c.args.column.now c.args.other d s t
 
+-- both items are on one node, so the least scenario of two columns that overlap is the least of a clash
 pub returns : goal.returns
 returns c =
     let g = c.args.admitted.now.graph in

@@ -3,6 +3,7 @@ use Rattle.cpg_base.specs.Graph.{process_count}
 use Rattle.cpg_check_time.proofs.ProcessorLaws.{first_overlap}
 use Rattle.cpg_check_time.proofs.processor.ProcessorsTimeJudge.least.Goals as goal
 
+-- the item is a process, so the least scenario of a clash is the least that breaks V6
 pub returns : goal.returns
 returns c =
     let within : c.args.item < process_count c.args.admitted.now.graph =

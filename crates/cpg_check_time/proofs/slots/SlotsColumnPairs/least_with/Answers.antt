@@ -9,6 +9,7 @@ use Rattle.cpg_check_time.proofs.Judging.{columns_are}
 use Rattle.cpg_check_time.proofs.SlotLaws.{shares_both, all_later, all_earlier, other_item}
 use Rattle.cpg_check_time.proofs.slots.SlotsColumnPairs.least_with.Goals as goal
 
+-- all columns of the other item are later, so none shares the slot
 pub returns-then-column-line : goal.returns-then-column-line
 returns-then-column-line c = λ s _.
     let line : IsLine (columns_of c.args.tables.now.nodes c.args.other) c.index-lines-other.result =
@@ -17,6 +18,7 @@ returns-then-column-line c = λ s _.
     all_later c.args.admitted.now.graph c.args.tables.now.nodes c.args.item c.args.column.now c.args.other
     c.index-lines-other.result.first line.first c.if-column-line.true s
 
+-- all columns of the other item are earlier, so none shares the slot
 pub returns-then-line-column : goal.returns-then-line-column
 returns-then-line-column c = λ s _.
     let line : IsLine (columns_of c.args.tables.now.nodes c.args.other) c.index-lines-other.result =
@@ -38,6 +40,7 @@ least_near-requires-clause-fits c = c.requires.column.cube.known
 pub least_near-requires-clause-near : goal.least_near-requires-clause-near
 least_near-requires-clause-near c = λ s d t. shares_both c.args.column.now s d t
 
+-- the node sends both items, so the least scenario of two columns at one time is the least of a clash
 pub returns : goal.returns
 returns c =
     let g = c.args.admitted.now.graph in

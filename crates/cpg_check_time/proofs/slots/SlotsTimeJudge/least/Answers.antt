@@ -6,6 +6,7 @@ use Rattle.cpg_cube.specs.Cube.{matches}
 use Rattle.cpg_check_time.proofs.SlotLaws.{first_no_start, first_shared}
 use Rattle.cpg_check_time.proofs.slots.SlotsTimeJudge.least.Goals as goal
 
+-- the column is at no start of a slot, so it breaks V7 wherever it matches
 pub returns-then-not-is_slot_start : goal.returns-then-not-is_slot_start
 returns-then-not-is_slot_start c =
     let g = c.args.admitted.now.graph in
@@ -18,6 +19,7 @@ returns-then-not-is_slot_start c =
     first_no_start g c.args.admitted.now.order c.args.tables.now.nodes c.args.item c.args.column.now sent
     (λ e. true≢false (sym (eq-eqb _ _ e) ∙ no)) c.in_ok-least.least first
 
+-- the column is at the start of a slot, so it breaks V7 exactly if a lower item shares that
 pub returns : goal.returns
 returns c =
     let g = c.args.admitted.now.graph in

@@ -7,6 +7,7 @@ use Rattle.cpg_cluster.proofs.Driven.{none_state, none_waits, none_took}
 use Rattle.cpg_cluster.proofs.cluster.Cluster.choose.Goals as goal
 use Rattle.cpg_cluster.proofs.cluster.Cluster.choose.Goals.{in-Waits, in-Done}
 
+-- before the first ask all of the choice is left
 pub loop-asked-init : goal.loop-asked-init
 loop-asked-init c = record {
   same = refl;
@@ -14,6 +15,7 @@ loop-asked-init c = record {
       choosing_none c.args.self.now.graph c.args.self.now.world c.args.self.now.cluster c.len-nodes.result c.args.first;
 }
 
+-- there are as many members as nodes
 count-t : (c : goal.In-Took) → c.len-nodes.result ≡ length c.args.self.now.graph.nodes
 count-t c = omega (
   arith,
@@ -23,18 +25,21 @@ count-t c = omega (
   length-map c.self.inside.members.items (λ (m : Member). m.node.dispatcher.table),
 )
 
+-- a node that takes its turn ends the choice with its step
 pub returns-in-Took-clause-state : goal.returns-in-Took-clause-state
 returns-in-Took-clause-state c = took_state c.args.self.now c.loop-asked.self c.step.new.self c.len-nodes.result
     c.args.first c.loop-asked.asked c.loop-asked.waits
     (count-t c) c.loop-asked.invariant.same c.in-Took.ensures.step
     c.loop-asked.invariant.choosing c.loop-asked-test.true c.in-Took.ensures.answer
 
+-- as many nodes waited as in the choice
 pub returns-in-Took-clause-waits : goal.returns-in-Took-clause-waits
 returns-in-Took-clause-waits c = took_waits c.args.self.now c.loop-asked.self c.step.new.self c.len-nodes.result
     c.args.first c.loop-asked.asked c.loop-asked.waits
     (count-t c) c.loop-asked.invariant.same c.in-Took.ensures.step
     c.loop-asked.invariant.choosing c.loop-asked-test.true c.in-Took.ensures.answer
 
+-- there are as many members as nodes
 count-j : (c : goal.Joined-step) → c.len-nodes.result ≡ length c.args.self.now.graph.nodes
 count-j c = omega (
   arith,
@@ -44,6 +49,7 @@ count-j c = omega (
   length-map c.self.inside.members.items (λ (m : Member). m.node.dispatcher.table),
 )
 
+-- a node that waits, or is done, leaves the state as it was, and the rest of the choice
 pub loop-asked-preserved : goal.loop-asked-preserved
 loop-asked-preserved c = elim c.match-step.branch [
   | in-Waits w ↦
@@ -70,6 +76,7 @@ loop-asked-preserved c = elim c.match-step.branch [
       }
 ]
 
+-- there are as many members as nodes
 count-n : (c : goal.After-loop-asked) → c.len-nodes.result ≡ length c.args.self.now.graph.nodes
 count-n c = omega (
   arith,
@@ -79,16 +86,19 @@ count-n c = omega (
   length-map c.self.inside.members.items (λ (m : Member). m.node.dispatcher.table),
 )
 
+-- if every node was asked, the choice leaves the state as it is
 pub returns-clause-state : goal.returns-clause-state
 returns-clause-state c =
     none_state c.args.self.now c.loop-asked.self c.len-nodes.result c.args.first c.loop-asked.asked c.loop-asked.waits
     (count-n c) c.loop-asked.invariant.same c.loop-asked.invariant.choosing c.loop-asked-test.false
 
+-- if every node was asked, as many waited as in the choice
 pub returns-clause-waits : goal.returns-clause-waits
 returns-clause-waits c =
     none_waits c.args.self.now c.loop-asked.self c.len-nodes.result c.args.first c.loop-asked.asked c.loop-asked.waits
     (count-n c) c.loop-asked.invariant.same c.loop-asked.invariant.choosing c.loop-asked-test.false
 
+-- if every node was asked, nobody took a turn
 pub returns-clause-nearer : goal.returns-clause-nearer
 returns-clause-nearer c e = absurd
     (none_took c.args.self.now c.loop-asked.self c.len-nodes.result c.args.first c.loop-asked.asked c.loop-asked.waits

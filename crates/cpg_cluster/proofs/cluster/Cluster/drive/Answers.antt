@@ -14,6 +14,7 @@ use Rattle.cpg_cluster.proofs.Dues.{whole_play}
 use Rattle.cpg_cluster.proofs.Drives.{driving_none, driving_done, takes_at, left_at, done_at, most_at, drive_step}
 use Rattle.cpg_cluster.proofs.cluster.Cluster.drive.Goals as goal
 
+-- before the first choice nothing has been driven
 pub loop-self-init : goal.loop-self-init
 loop-self-init c = record {
   same = refl;
@@ -27,6 +28,7 @@ left : (c : goal.After-choose-waits) →
 left c = sym (c.loop-self-test.ensures.left
     ∙ ap (list_any (λ (m : Member). is_some (next m.node.dispatcher))) c.as_slice.ensures.value)
 
+-- there are as many members as nodes
 count : (c : goal.After-choose-waits) → c.len-nodes.result ≡ length c.loop-self.self.graph.nodes
 count c = omega (
   arith,
@@ -37,6 +39,7 @@ count c = omega (
   ap (λ (p : Playing). length p.graph.nodes) c.loop-self.invariant.same,
 )
 
+-- some member has a next instant, so there is a node
 some : (c : goal.After-choose-waits) → 0 < c.len-nodes.result
 some c = omega (
   arith,
@@ -58,6 +61,7 @@ nearer c =
     (subst (λ n. (c.next_number-drawn.result / 2 ^ 33) % c.len-nodes.result < n) (count c)
     (mod-lt (c.next_number-drawn.result / 2 ^ 33) (some c))))
 
+-- each choice uses up an instant and makes at most 16 nodes wait
 spent : (c : goal.After-choose-waits) →
     c.loop-self.waits + c.choose-waits.result + 16 * remaining c.choose-waits.new.self.cluster
     ≤ 16 * remaining c.args.self.now.cluster
@@ -73,6 +77,7 @@ spent c = omega (
   c.self.invariant.few,
 )
 
+-- a choice makes at most 16 nodes wait, and there are few choices, since each leaves fewer instants
 pub overflow_add-waits : goal.overflow_add-waits
 overflow_add-waits c =
     let n = c.self.inside in
@@ -83,9 +88,11 @@ overflow_add-waits c =
           c.self.view_is c.self.invariant.playing c.self.invariant.few,
     )
 
+-- someone takes a turn in each choice, which uses up an instant
 pub loop-self-smaller : goal.loop-self-smaller
 loop-self-smaller c = nearer c
 
+-- a choice of the next number takes the drive one choice further
 pub loop-self-preserved : goal.loop-self-preserved
 loop-self-preserved c =
     let n = c.self-in-loop-self.inside in
@@ -99,6 +106,7 @@ loop-self-preserved c =
     c.choose-waits.ensures.waits in
     record { same = r.0; driving = r.1; spent = spent c }
 
+-- when no member has a next instant, every node is done
 pub returns-clause-driven : goal.returns-clause-driven
 returns-clause-driven c =
     let n = c.self-in-loop-self.inside in
@@ -112,6 +120,7 @@ returns-clause-driven c =
     (sym (c.loop-self-test.ensures.left
     ∙ ap (list_any (λ (m : Member). is_some (next m.node.dispatcher))) c.as_slice.ensures.value))))
 
+-- a play in which every node is done is whole
 pub returns-clause-whole : goal.returns-clause-whole
 returns-clause-whole c = whole_play c.args.self.now c.loop-self.self c.loop-self.invariant.same
     (subst IsPlaying c.self-in-loop-self.view_is c.self-in-loop-self.invariant.playing)

@@ -3,6 +3,8 @@ use Rattle.cpg_cluster.specs.Driving.{remaining}
 use Rattle.cpg_cluster.proofs.Drives.{IsDriving}
 use Rattle.cpg_cluster.proofs.cluster.Cluster.drive.Given as goal
 
+-- `same`: a choice changes the cluster alone. `driving`: the choices so far lead from the first cluster to this one.
+-- `spent`: the waits so far are at most 16 for each instant that is used up, which bounds their sum.
 abbrev pub invariant-loop-self : goal.invariant-loop-self
 invariant-loop-self l = record {
   same : l.self ≡ record l.fn.self { cluster = l.self.cluster };
@@ -10,5 +12,6 @@ invariant-loop-self l = record {
   spent : l.waits + 16 * remaining l.self.cluster ≤ 16 * remaining l.fn.self.cluster;
 }
 
+-- each choice uses up an instant of a node
 abbrev pub decreases-loop-self : goal.decreases-loop-self
 decreases-loop-self l = remaining l.self.cluster

@@ -4,6 +4,7 @@ use Rattle.cpg_cluster.specs.Correct.{IsWorld}
 use Rattle.cpg_cluster.proofs.Opening.{full_world}
 use Rattle.cpg_cluster.proofs.cluster.Cluster.new.Goals as goal
 
+-- the full lengths of a scenario are lawful
 pub with_lengths-requires-clause-world : goal.with_lengths-requires-clause-world
 with_lengths-requires-clause-world c =
     let g = c.args.admitted.now.graph in

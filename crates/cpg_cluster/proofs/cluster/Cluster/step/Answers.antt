@@ -20,9 +20,11 @@ use Rattle.cpg_cluster.proofs.Stepping.{turn_may, acts_fit, ends_fit, reports_fi
 use Rattle.cpg_cluster.proofs.Stepping.{fits_then, heard_then}
 use Rattle.cpg_cluster.proofs.cluster.Cluster.step.Goals as goal
 
+-- a graph has at most 16 nodes, and there is a member for each
 pub waited_on-requires-clause-few : goal.waited_on-requires-clause-few
 waited_on-requires-clause-few c = omega (arith, c.self.invariant.few, ap length c.as_slice.ensures.value)
 
+-- the arrivals of the member are indexed for each node
 pub waited_on-requires-clause-indexed : goal.waited_on-requires-clause-indexed
 waited_on-requires-clause-indexed c =
     let n = c.self.inside in
@@ -42,6 +44,7 @@ waited_on-requires-clause-indexed c =
 
 -- A node that waits.
 
+-- the node is one of the members
 within-w : (c : goal.In-Some-waited_on) → c.args.node < length c.self.inside.members.items
 within-w c = omega (
   arith,
@@ -51,9 +54,11 @@ within-w c = omega (
   length-map c.self.inside.members.items (λ (m : Member). m.node.dispatcher.table),
 )
 
+-- the time is the next instant of the member
 comes-w : (c : goal.In-Some-waited_on) → next c.index-member.result.now.node.dispatcher ≡ Some c.in-Some.time
 comes-w c = sym c.next.ensures.next ∙ c.in-Some.is
 
+-- the node that it waits on is its answer
 waits : (c : goal.In-Some-waited_on) →
     Waits c.in-Some-waited_on.on ≡ answer c.self.inside.problem (cluster_of c.self.inside.members.items) c.args.node
 waits c =
@@ -67,10 +72,12 @@ waits c =
     (get_or ms b c.index-member.result.now)) (numbers_below (length ms))))
     c.as_slice.ensures.value)
 
+-- the node that it waits on is its answer
 pub returns-in-Some-waited_on-clause-answer : goal.returns-in-Some-waited_on-clause-answer
 returns-in-Some-waited_on-clause-answer c =
     waits c ∙ ap (λ (p : Playing). answer p.graph p.cluster c.args.node) c.self.view_is
 
+-- a node that waits leaves the state as it was
 pub returns-in-Some-waited_on-clause-step : goal.returns-in-Some-waited_on-clause-step
 returns-in-Some-waited_on-clause-step c =
     let n = c.self.inside in
@@ -81,6 +88,7 @@ returns-in-Some-waited_on-clause-step c =
     v.members c.args.node c.index-member.result.now c.index-member.ensures
     (within-w c) c.in-Some.time (comes-w c) c.in-Some-waited_on.on (waits c))))
 
+-- a node that waits takes no turn
 pub returns-in-Some-waited_on-clause-nearer : goal.returns-in-Some-waited_on-clause-nearer
 returns-in-Some-waited_on-clause-nearer c e = let x : Waits c.in-Some-waited_on.on ≡ Took =
     waits c ∙ ap (λ (p : Playing). answer p.graph p.cluster c.args.node) c.self.view_is ∙ e in
@@ -88,6 +96,7 @@ returns-in-Some-waited_on-clause-nearer c e = let x : Waits c.in-Some-waited_on.
 
 -- A node that takes its turn.
 
+-- the node is one of the members
 within-f : (c : goal.After-gather_frames-arg-3-1) → c.args.node < length c.self.inside.members.items
 within-f c = omega (
   arith,
@@ -97,9 +106,11 @@ within-f c = omega (
   length-map c.self.inside.members.items (λ (m : Member). m.node.dispatcher.table),
 )
 
+-- the time is the next instant of the member
 comes-f : (c : goal.After-gather_frames-arg-3-1) → next c.index-member.result.now.node.dispatcher ≡ Some c.in-Some.time
 comes-f c = sym c.next.ensures.next ∙ c.in-Some.is
 
+-- what a node hears is of items that there are
 pub gather_frames-requires-clause-items : goal.gather_frames-requires-clause-items
 gather_frames-requires-clause-items c =
     let n = c.self.inside in
@@ -109,6 +120,7 @@ gather_frames-requires-clause-items c =
     (hears_there n.problem (record { scenario = n.scenario; lengths = n.lengths }) n.members.items v.playing c.args.node
     c.index-member.result.now c.index-member.ensures (within-f c))
 
+-- each member has noted what it has done
 pub gather_frames-requires-clause-noted : goal.gather_frames-requires-clause-noted
 gather_frames-requires-clause-noted c =
     let n = c.self.inside in
@@ -117,6 +129,7 @@ gather_frames-requires-clause-noted c =
     HasNoted (get_or ms i d) x) (sym c.as_slice-2.ensures.value)
     (all_noted n.problem (record { scenario = n.scenario; lengths = n.lengths }) n.members.items v.playing v.members)
 
+-- no more frames arrive than the node has hear rows, and there is room for those
 pub gather_frames-requires-clause-room : goal.gather_frames-requires-clause-room
 gather_frames-requires-clause-room c =
     let n = c.self.inside in
@@ -138,6 +151,7 @@ gather_frames-requires-clause-room c =
           (v.frames c.args.node c.index-member.result.now (within-f c)),
     )
 
+-- the node is one of the members
 within-t : (c : goal.After-as_slice-4) → c.args.node < length c.self.inside.members.items
 within-t c = omega (
   arith,
@@ -147,16 +161,20 @@ within-t c = omega (
   length-map c.self.inside.members.items (λ (m : Member). m.node.dispatcher.table),
 )
 
+-- the time is the next instant of the member
 comes-t : (c : goal.After-as_slice-4) → next c.index-member.result.now.node.dispatcher ≡ Some c.in-Some.time
 comes-t c = sym c.next.ensures.next ∙ c.in-Some.is
 
+-- the member that is changed is the one that was read
 same-t : (c : goal.After-as_slice-4) → c.index_mut-member.result.now ≡ c.index-member.result.now
 same-t c = c.index_mut-member.ensures.value ∙ get_or_default c.self.inside.members.items c.args.node
     c.index_mut-member.result.now c.index-member.result.now (within-t c) ∙ sym c.index-member.ensures
 
+-- so it is of the member that is changed
 mut-t : (c : goal.After-as_slice-4) → next c.index_mut-member.result.now.node.dispatcher ≡ Some c.in-Some.time
 mut-t c = ap (λ (m : Member). next m.node.dispatcher) (same-t c) ∙ comes-t c
 
+-- the node waits on none, so its answer is that it takes its turn
 took-t : (c : goal.After-as_slice-4) →
     Took ≡ answer c.self.inside.problem (cluster_of c.self.inside.members.items) c.args.node
 took-t c =
@@ -170,6 +188,7 @@ took-t c =
     (get_or ms b c.index-member.result.now)) (numbers_below (length ms))))
     c.as_slice.ensures.value)
 
+-- the frames that were gathered are those that the members give
 frames-t : (c : goal.After-as_slice-4) →
     c.as_slice-4.result.now
     ≡ frames_by c.self.inside.problem c.self.inside.scenario.values c.self.inside.members.items c.in-Some.time
@@ -184,6 +203,7 @@ frames-t c =
     ∙ ap (λ (m : Member). frames_by n.problem n.scenario.values n.members.items c.in-Some.time
     m.node.dispatcher.table.hears m.senders.items) (sym (same-t c))
 
+-- the node's table says of each of its processes what the graph says
 pub take_turn-requires-clause-own : goal.take_turn-requires-clause-own
 take_turn-requires-clause-own c =
     let n = c.self.inside in
@@ -192,6 +212,7 @@ take_turn-requires-clause-own c =
     c.args.node c.index_mut-member.result.now c.index_mut-member.ensures.value
     (within-t c) c.in-Some.time (mut-t c)
 
+-- the node may take the reports of all executions that are over
 pub take_turn-requires-clause-finish : goal.take_turn-requires-clause-finish
 take_turn-requires-clause-finish c =
     let n = c.self.inside in
@@ -200,6 +221,7 @@ take_turn-requires-clause-finish c =
     c.args.node c.index_mut-member.result.now c.index_mut-member.ensures.value
     (within-t c) c.in-Some.time (mut-t c)
 
+-- after the reports the node may take its turn
 pub take_turn-requires-clause-turn : goal.take_turn-requires-clause-turn
 take_turn-requires-clause-turn c =
     let n = c.self.inside in
@@ -208,6 +230,7 @@ take_turn-requires-clause-turn c =
     c.args.node c.index_mut-member.result.now c.index_mut-member.ensures.value
     (within-t c) c.in-Some.time (mut-t c) c.as_slice-4.result.now (frames-t c)
 
+-- the reports do not change the next instant
 pub take_turn-requires-clause-next : goal.take_turn-requires-clause-next
 take_turn-requires-clause-next c =
     let n = c.self.inside in
@@ -216,6 +239,7 @@ take_turn-requires-clause-next c =
     c.args.node c.index_mut-member.result.now c.index_mut-member.ensures.value
     (within-t c) c.in-Some.time (mut-t c)
 
+-- each process reports once, so there is room for the reports
 pub take_turn-requires-clause-reports_fit : goal.take_turn-requires-clause-reports_fit
 take_turn-requires-clause-reports_fit c =
     let n = c.self.inside in
@@ -224,6 +248,7 @@ take_turn-requires-clause-reports_fit c =
     c.args.node c.index_mut-member.result.now c.index_mut-member.ensures.value
     (within-t c) c.in-Some.time (mut-t c) c.as_slice-4.result.now (frames-t c) (took-t c)
 
+-- each process ends once, so there is room for the ends
 pub take_turn-requires-clause-ends_fit : goal.take_turn-requires-clause-ends_fit
 take_turn-requires-clause-ends_fit c =
     let n = c.self.inside in
@@ -232,6 +257,7 @@ take_turn-requires-clause-ends_fit c =
     c.args.node c.index_mut-member.result.now c.index_mut-member.ensures.value
     (within-t c) c.in-Some.time (mut-t c) c.as_slice-4.result.now (frames-t c) (took-t c)
 
+-- each row acts once, so there is room for the acts
 pub take_turn-requires-clause-acts_fit : goal.take_turn-requires-clause-acts_fit
 take_turn-requires-clause-acts_fit c =
     let n = c.self.inside in
@@ -242,6 +268,7 @@ take_turn-requires-clause-acts_fit c =
 
 -- After the turn.
 
+-- the node is one of the members
 within-a : (c : goal.After-self-1) → c.args.node < length c.self.inside.members.items
 within-a c = omega (
   arith,
@@ -251,16 +278,20 @@ within-a c = omega (
   length-map c.self.inside.members.items (λ (m : Member). m.node.dispatcher.table),
 )
 
+-- the time is the next instant of the member
 comes-a : (c : goal.After-self-1) → next c.index-member.result.now.node.dispatcher ≡ Some c.in-Some.time
 comes-a c = sym c.next.ensures.next ∙ c.in-Some.is
 
+-- the member that is changed is the one that was read
 same-a : (c : goal.After-self-1) → c.index_mut-member.result.now ≡ c.index-member.result.now
 same-a c = c.index_mut-member.ensures.value ∙ get_or_default c.self.inside.members.items c.args.node
     c.index_mut-member.result.now c.index-member.result.now (within-a c) ∙ sym c.index-member.ensures
 
+-- so it is of the member that is changed
 mut-a : (c : goal.After-self-1) → next c.index_mut-member.result.now.node.dispatcher ≡ Some c.in-Some.time
 mut-a c = ap (λ (m : Member). next m.node.dispatcher) (same-a c) ∙ comes-a c
 
+-- the node waits on none, so its answer is that it takes its turn
 took-a : (c : goal.After-self-1) →
     Took ≡ answer c.self.inside.problem (cluster_of c.self.inside.members.items) c.args.node
 took-a c =
@@ -274,6 +305,7 @@ took-a c =
     (get_or ms b c.index-member.result.now)) (numbers_below (length ms))))
     c.as_slice.ensures.value)
 
+-- the frames that were gathered are those that the members give
 frames-a : (c : goal.After-self-1) →
     c.as_slice-4.result.now
     ≡ frames_by c.self.inside.problem c.self.inside.scenario.values c.self.inside.members.items c.in-Some.time
@@ -288,6 +320,7 @@ frames-a c =
     ∙ ap (λ (m : Member). frames_by n.problem n.scenario.values n.members.items c.in-Some.time
     m.node.dispatcher.table.hears m.senders.items) (sym (same-a c))
 
+-- after the turn it is a play still, and each member keeps what it should
 pub invariant_of-self : goal.invariant_of-self
 invariant_of-self c =
     let n = c.self.inside in
@@ -316,9 +349,11 @@ invariant_of-self c =
           (sym c.gather_frames.ensures.room) v.frames));
     }
 
+-- the node took its turn, which is the answer of the state
 pub returns-clause-answer : goal.returns-clause-answer
 returns-clause-answer c = took-a c ∙ ap (λ (p : Playing). answer p.graph p.cluster c.args.node) c.self.view_is
 
+-- the members after the turn are the state after the node is asked
 pub returns-clause-step : goal.returns-clause-step
 returns-clause-step c =
     let n = c.self.inside in
@@ -330,6 +365,7 @@ returns-clause-step c =
     c.take_turn.ensures.ends c.take_turn.ensures.reports c.take_turn.ensures.same c.take_turn.ensures.room)
     ∙ ap (λ (p : Playing). stepped p c.args.node) c.self.view_is
 
+-- a turn leaves its node fewer instants
 pub returns-clause-nearer : goal.returns-clause-nearer
 returns-clause-nearer c e =
     let n = c.self.inside in
@@ -344,11 +380,13 @@ returns-clause-nearer c e =
 
 -- What the answers tell.
 
+-- a node with the least next instant takes its turn
 pub returns-in-Some-waited_on-clause-least : goal.returns-in-Some-waited_on-clause-least
 returns-in-Some-waited_on-clause-least c h =
     waits c ∙ ap (λ (p : Playing). answer p.graph p.cluster c.args.node) c.self.view_is ∙
     takes_at (playing_of c.self.inside) c.args.self.now c.self.view_is c.self.invariant.playing c.args.node c.requires h
 
+-- a node without a next instant is done, so it has done all that is due on it
 pub returns-in_default-clause-whole : goal.returns-in_default-clause-whole
 returns-in_default-clause-whole c _ =
     let n = c.self.inside in
@@ -367,5 +405,6 @@ returns-in_default-clause-whole c _ =
     (ap (λ (p : Playing). answer p.graph p.cluster c.args.node) (sym c.self.view_is)
     ∙ ap (answer_at n.problem (cluster_of n.members.items) c.args.node) none)
 
+-- the node took its turn, so it didn't answer that it is done
 pub returns-clause-whole : goal.returns-clause-whole
 returns-clause-whole c e = let x : Took ≡ Done = e in cc

@@ -13,6 +13,7 @@ use Rattle.cpg_cluster.specs.declared.member.Member.{Member}
 use Rattle.cpg_cluster.proofs.Opening.{hears_items, play_is, playing_open, fits_open, correct_open}
 use Rattle.cpg_cluster.proofs.cluster.Cluster.with_lengths.Goals as goal
 
+-- what the nodes of valid tables hear is of items that there are
 pub open_members-requires : goal.open_members-requires
 open_members-requires c =
     subst (λ (g : Graph). (i : ℕ) → i < length c.args.tables.nodes → HearsItems g (table_at c.args.tables.nodes i))
@@ -29,15 +30,18 @@ parts c = λ i. play_of ((c.in_ok-problem.ensures ∙ c.problem-2.ensures.proble
     (record { scenario = c.in_ok-scenario.ensures i; lengths = c.in_ok-lengths.ensures i })
     c.in_ok-members.members.items
 
+-- the members are those of the tables before their first turns
 open' : (c : goal.In_ok-lengths) →
     AreOpen c.args.admitted.now.graph c.args.tables.nodes (length c.args.tables.nodes) c.in_ok-members.members.items
 open' c =
     subst (λ (g : Graph). AreOpen g c.args.tables.nodes (length c.args.tables.nodes) c.in_ok-members.members.items)
     c.problem.ensures.problem c.in_ok-members.ensures.members
 
+-- the tables are those of the graph, as the contract asks
 of : (c : goal.In_ok-lengths) → AreTablesOf (head_of c.args.admitted.now.graph) c.args.tables.nodes
 of c = c.requires.tables
 
+-- the play is opened, each member keeps what it should, and the frames have room for all hear rows
 pub invariant_of-result : goal.invariant_of-result
 invariant_of-result c =
     let g = c.args.admitted.now.graph in
@@ -59,11 +63,13 @@ invariant_of-result c =
           omega (arith, few, room);
     }
 
+-- the play of these members is the one before the first turn
 pub returns-clause-opened : goal.returns-clause-opened
 returns-clause-opened c = parts c ∙ play_is c.args.admitted.now.graph c.args.tables.nodes
     (record { scenario = c.args.scenario.now; lengths = c.args.lengths.now }) c.problem.ensures.admitted.limits
     (of c) c.in_ok-members.members.items (open' c)
 
+-- valid tables play correctly
 pub returns-clause-correct : goal.returns-clause-correct
 returns-clause-correct c = correct_open c.args.admitted.now.graph c.args.tables.nodes c.problem.ensures.admitted.limits
     (of c) c.problem.ensures.admitted.well_formed c.requires.valid

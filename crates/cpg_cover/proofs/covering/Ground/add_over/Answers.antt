@@ -5,6 +5,7 @@ use Rattle.cpg_cover.proofs.FewestLaws.{carried}
 use Rattle.cpg_cover.proofs.covering.Ground.add_over.Goals as goal
 use Rattle.cpg_cover.proofs.covering.Ground.add_over.Goals.{in-Some+in_ok-single+in_ok-add, in_default}
 
+-- a cube added beyond a literal's range matches no numbers of a narrow scenario, so one from before does
 pub loop-literal-preserved : goal.loop-literal-preserved
 loop-literal-preserved c s narrow t =
     let n = beyond c.args.self.now.bounds.low s in

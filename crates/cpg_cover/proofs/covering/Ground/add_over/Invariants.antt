@@ -2,6 +2,8 @@ use Rattle.std.proofs.Common.{◌≡◌, ℕ, true}
 use Rattle.cpg_cover.specs.Fewest.{IsNarrow, beyond, is_any_at}
 use Rattle.cpg_cover.proofs.covering.Ground.add_over.Given as goal
 
+-- for numbers within the literals' ranges, the literals so far add no cube that matches unless a cube at the start
+-- matches
 abbrev pub invariant-loop-literal : goal.invariant-loop-literal
 invariant-loop-literal l = (s : ℕ → ℕ) → IsNarrow l.self.bounds.low s l.literals →
     is_any_at (beyond l.self.bounds.low s) l.cubes.items ≡ true →

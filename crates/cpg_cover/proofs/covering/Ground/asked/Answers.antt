@@ -6,6 +6,7 @@ use Rattle.cpg_cover.proofs.FewestLaws.{all_before_last, all_one_more}
 use Rattle.cpg_cover.proofs.covering.Ground.asked.Goals as goal
 use Rattle.cpg_cover.proofs.covering.Ground.asked.Goals.{then-not-spans+in-Some+in_ok-push, else-not-spans}
 
+-- the next literal holds if it spans its variable, or if what it asks beyond the low holds
 pub loop-literal-preserved : goal.loop-literal-preserved
 loop-literal-preserved c s on t =
     let low = c.args.self.now.bounds.low in

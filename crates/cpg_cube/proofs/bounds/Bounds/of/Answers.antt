@@ -5,6 +5,7 @@ use Rattle.cpg_cube.proofs.bounds.Bounds.of.Goals as goal
 pub loop-literal-init : goal.loop-literal-init
 loop-literal-init c = record { bounds = bounds_whole; lows = search rules; highs = search rules }
 
+-- with the range of the next literal written, the arrays are the bounds of one literal more
 pub loop-literal-preserved : goal.loop-literal-preserved
 loop-literal-preserved c =
     let i = c.loop-literal.invariant in

@@ -2,6 +2,7 @@ use Rattle.std.proofs.Common.{rules, arith}
 use Rattle.cpg_cube.proofs.BoundSteps.{raised_push}
 use Rattle.cpg_cube.proofs.bounds.Bounds.raise.Goals as goal
 
+-- with the low of the next literal raised, the lows are raised by one literal more
 pub loop-literal-preserved : goal.loop-literal-preserved
 loop-literal-preserved c =
     let i = c.loop-literal.invariant in

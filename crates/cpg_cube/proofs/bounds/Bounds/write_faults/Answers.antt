@@ -3,6 +3,7 @@ use Rattle.std.proofs.lemmas.List.FromFn.{fill_by_all}
 use Rattle.cpg_base.specs.Scenario.{Scenario}
 use Rattle.cpg_cube.proofs.bounds.Bounds.write_faults.Goals as goal
 
+-- the loop has written all processes, so the faults are the lows of all of them
 pub returns : goal.returns
 returns c =
     let i = c.loop-process.invariant in

@@ -1,6 +1,7 @@
 use Rattle.std.proofs.Common.{◌≡◌, ◌<◌, ℕ, get_or, length}
 use Rattle.cpg_cube.proofs.bounds.Bounds.write_faults.Given as goal
 
+-- the processes so far have the lows as their faults; the values are as before
 abbrev pub invariant-loop-process : goal.invariant-loop-process
 invariant-loop-process l = record {
   values : l.least.values ≡ l.fn.least.values;

@@ -5,6 +5,7 @@ use Rattle.cpg_base.specs.Graph.{value_variable}
 use Rattle.cpg_base.specs.Scenario.{Scenario}
 use Rattle.cpg_cube.proofs.bounds.Bounds.write_values.Goals as goal
 
+-- every value was written in the loop, and the faults have stayed, so the scenario has all values
 pub returns : goal.returns
 returns c =
     let i = c.loop-condition.invariant in

@@ -3,6 +3,7 @@ use Rattle.std.specs.Prelude.{nat_lt}
 use Rattle.cpg_base.specs.Graph.{value_variable}
 use Rattle.cpg_cube.proofs.bounds.Bounds.write_values.Given as goal
 
+-- a condition so far is true exactly if its low is above 0; the faults are as before
 abbrev pub invariant-loop-condition : goal.invariant-loop-condition
 invariant-loop-condition l = record {
   faults : l.least.faults ≡ l.fn.least.faults;

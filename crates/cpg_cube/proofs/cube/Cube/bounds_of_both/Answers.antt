@@ -5,6 +5,7 @@ use Rattle.cpg_cube.specs.Bounds.{AreBounds, budget_left, touches, more_asked}
 use Rattle.cpg_cube.proofs.Meeting.{met_from_none, meet_where_unmet, meet_from_fit, lows_raised}
 use Rattle.cpg_cube.proofs.cube.Cube.bounds_of_both.Goals as goal
 
+-- this cube isn't met, as the budget is not enough, so the cubes don't meet
 pub returns-in_default-clause-none : goal.returns-in_default-clause-none
 returns-in_default-clause-none c =
     let g = c.args.problem.now in
@@ -13,6 +14,7 @@ returns-in_default-clause-none c =
     let none : budget_left (is_open g.faults) asked_of_literal g.faults a ≡ None = search rules in
     meet_where_unmet g c.faults-k.ensures.within a is_a c.args.other.now (met_from_none g.faults a none)
 
+-- the other cube doesn't fit beside the bounds of this one, so the cubes don't meet
 pub returns-then-not-fits-clause-none : goal.returns-then-not-fits-clause-none
 returns-then-not-fits-clause-none c =
     let g = c.args.problem.now in
@@ -27,6 +29,7 @@ returns-then-not-fits-clause-none c =
     sym (meet_from_fit g c.faults-k.ensures.within a is_a b is_b c.of-bounds.result.low c.of-bounds.result.high are
     c.in-Some.left some) ∙ fit
 
+-- the other cube fits beside the bounds of this one, so the cubes meet
 pub returns-clause-some : goal.returns-clause-some
 returns-clause-some c =
     let g = c.args.problem.now in
@@ -41,6 +44,7 @@ returns-clause-some c =
     sym (meet_from_fit g c.faults-k.ensures.within a is_a b is_b c.of-bounds.result.low c.of-bounds.result.high are
     c.in-Some.left some) ∙ fit
 
+-- the raised lows make the scenario of the greater of both cubes' lows
 pub returns-clause-lows : goal.returns-clause-lows
 returns-clause-lows c =
     let g = c.args.problem.now in

@@ -6,11 +6,13 @@ use Rattle.cpg_cube.specs.Cube.{Literal, IsRising}
 use Rattle.cpg_cube.proofs.Exchanged.{none_exchanged, some_exchanged, rising_exchanged, undo_exchanged}
 use Rattle.cpg_cube.proofs.cube.Cube.exchange.Goals as goal
 
+-- the range left is empty, so the cube before, narrowed by the literal, is none
 pub returns-then-left-clause-none : goal.returns-then-left-clause-none
 returns-then-left-clause-none c =
     none_exchanged c.args.literal c.args.self.now c.restore.ensures.rising c.args.narrowed c.requires.place
     c.requires.on c.left-left.result c.left-left.ensures (omega (arith, c.if-left.true))
 
+-- the variables still rise, as the literal set at the place is on the variable of the one before
 pub invariant_of-self : goal.invariant_of-self
 invariant_of-self c =
     let xs = c.self.inside.literals.items in
@@ -24,6 +26,7 @@ invariant_of-self c =
     c.self.invariant) c.args.narrowed c.requires.place c.requires.on c.left-left.result
     c.left-left.ensures c.requires.rising)
 
+-- a number of the variable is left, so the cube as it was, with the literal, is the new cube
 pub returns-clause-narrowed : goal.returns-clause-narrowed
 returns-clause-narrowed c =
     let xs = c.self.inside.literals.items in
@@ -38,6 +41,7 @@ returns-clause-narrowed c =
     c.requires.place c.requires.on c.left-left.result c.left-left.ensures some ∙
     ap Some (sym filled)
 
+-- the narrowing leads from the new cube back to the cube as it was
 pub returns-clause-undo : goal.returns-clause-undo
 returns-clause-undo c =
     let xs = c.self.inside.literals.items in

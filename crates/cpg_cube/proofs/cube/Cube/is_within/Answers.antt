@@ -4,6 +4,7 @@ use Rattle.cpg_cube.specs.Bounds.{AreBounds, budget_left}
 use Rattle.cpg_cube.proofs.Meeting.{met_from_none, within_where_unmet, within_from_span}
 use Rattle.cpg_cube.proofs.cube.Cube.is_within.Goals as goal
 
+-- this cube isn't met, as the budget is not enough, so it lies within every other
 pub returns-in_default-clause-exact : goal.returns-in_default-clause-exact
 returns-in_default-clause-exact c =
     let g = c.args.problem.now in
@@ -12,6 +13,7 @@ returns-in_default-clause-exact c =
     let none : budget_left (is_open g.faults) asked_of_literal g.faults a ≡ None = search rules in
     sym (within_where_unmet g c.faults.ensures.within a is_a c.args.other.now (met_from_none g.faults a none))
 
+-- the literals of the other cube span the bounds of this one exactly if it lies within the other
 pub returns-clause-exact : goal.returns-clause-exact
 returns-clause-exact c =
     let g = c.args.problem.now in

@@ -4,6 +4,7 @@ use Rattle.cpg_cube.proofs.CubeLows.{lows-least}
 use Rattle.cpg_cube.proofs.Meeting.{unmatched}
 use Rattle.cpg_cube.proofs.cube.Cube.least.Goals as goal
 
+-- a cube that isn't met matches no scenario of the graph
 pub returns-then-not-is_met-clause-first : goal.returns-then-not-is_met-clause-first
 returns-then-not-is_met-clause-first c order =
     let g = c.args.problem.now in
@@ -11,6 +12,7 @@ returns-then-not-is_met-clause-first c order =
     let met : is_met g.faults c.args.self.now ≡ false = search rules in
     unmatched g c.faults.ensures.within c.args.self.now is met
 
+-- a cube that is met matches the scenario of its lows, and none is before that in any order
 pub returns-clause-first : goal.returns-clause-first
 returns-clause-first c order =
     let g = c.args.problem.now in

@@ -3,6 +3,7 @@ use Rattle.cpg_cube.specs.Cube.{low_in}
 use Rattle.cpg_cube.proofs.Meeting.{same_scenario}
 use Rattle.cpg_cube.proofs.cube.Cube.lows.Goals as goal
 
+-- the bounds have the cube's lows, and the scenario is written from the bounds
 pub returns : goal.returns
 returns c = c.write_lows.ensures.lows ∙ same_scenario c.args.problem.now c.write_lows.ensures.within
     (λ v. get_or c.of.result.low v 0) (low_in c.args.self.now)

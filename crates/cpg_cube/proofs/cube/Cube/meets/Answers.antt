@@ -4,12 +4,14 @@ use Rattle.cpg_cube.proofs.CubeLaws.{apart_from_meet}
 use Rattle.cpg_cube.proofs.TwoCubes.{both-least}
 use Rattle.cpg_cube.proofs.cube.Cube.meets.Goals as goal
 
+-- there are no bounds of both, so no scenario matches both cubes
 pub returns-in_default-clause-apart : goal.returns-in_default-clause-apart
 returns-in_default-clause-apart c =
     let e = c.bounds_of_both.ensures in
     let meet : do_meet c.args.problem.now c.args.self.now c.args.other.now ≡ false = search rules in
     apart_from_meet c.args.problem.now e.within.few_processes c.args.self.now c.args.other.now e.cubes.0 e.cubes.1 meet
 
+-- the written scenario is that of the greater lows, which is the least that both cubes match
 pub returns-clause-least : goal.returns-clause-least
 returns-clause-least c order =
     let e = c.bounds_of_both.ensures in

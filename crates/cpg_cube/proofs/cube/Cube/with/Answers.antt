@@ -3,6 +3,7 @@ use Rattle.cpg_cube.specs.Narrow.{with_literal}
 use Rattle.cpg_cube.proofs.Narrow.{with-none, matches-narrowed}
 use Rattle.cpg_cube.proofs.cube.Cube.with.Goals as goal
 
+-- the range left is empty, so no scenario matches the cube and the literal
 pub returns-then-left-clause-none : goal.returns-then-left-clause-none
 returns-then-left-clause-none c s =
     let e : with_literal c.args.literal c.args.self.now ≡ None = search rules in

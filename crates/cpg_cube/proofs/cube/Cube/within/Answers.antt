@@ -2,6 +2,7 @@ use Rattle.std.proofs.Common.{◌∙◌, sym}
 use Rattle.cpg_cube.proofs.Within.{within_from, to_within}
 use Rattle.cpg_cube.proofs.cube.Cube.within.Goals as goal
 
+-- the test is exact: it holds exactly if each scenario that this cube matches is matched by the other
 pub returns-clause-all : goal.returns-clause-all
 returns-clause-all c =
     let g = c.args.problem.now in

@@ -3,10 +3,12 @@ use Rattle.cpg_base.specs.Graph.{Graph}
 use Rattle.cpg_table.specs.Writing.{AreTablesWith, AreWritable}
 use Rattle.cpg_expand.proofs.built_rows.BuiltRows.assemble.Goals as goal
 
+-- the rows can be written for the graph that the problem has
 pub tables_of-requires-clause-rows : goal.tables_of-requires-clause-rows
 tables_of-requires-clause-rows c =
     subst (λ (h : Graph). AreWritable h c.args.self.rows.items) (sym c.problem.ensures.problem) c.requires
 
+-- the tables are those of the rows, with the frozen times and the measures
 pub returns : goal.returns
 returns c = record {
   written = subst (λ (h : Graph). AreTablesWith h c.args.self.rows.items c.in_ok-tables.tables)

@@ -2,6 +2,7 @@ use Rattle.cpg_expand.specs.WideRows.{HaveWideRows}
 use Rattle.cpg_expand.proofs.WideRowsMade.{narrow_unnamed}
 use Rattle.cpg_expand.proofs.expanding.Grown.build.Goals as goal
 
+-- no item is too wide, so there is none to name and the fault cannot come
 pub unreachable-requires : goal.unreachable-requires
 unreachable-requires c =
     let g = c.args.admitted.now.graph in

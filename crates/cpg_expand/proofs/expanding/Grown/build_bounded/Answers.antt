@@ -14,6 +14,7 @@ use Rattle.cpg_expand.specs.WideRows.{HaveWideRows}
 use Rattle.cpg_expand.proofs.LargeShown.{handed_on}
 use Rattle.cpg_expand.proofs.expanding.Grown.build_bounded.Goals as goal
 
+-- the rows of trees grown along the whole order are rows that a builder finds, with the measures of the order
 pub returns-clause-rows : goal.returns-clause-rows
 returns-clause-rows c =
     let g = c.args.admitted.now.graph in
@@ -25,11 +26,13 @@ returns-clause-rows c =
     let frozen : List (Option ℕ) = c.args.self.trees.frozen in
     let forest : ForestState = c.args.self.trees.forest in
     let rows : List Row = c.in_ok-rows.rows.items in
+    -- the rows are those of the forest that was grown
     let made : AreRowsOf g urgency forest.times rows = said_of (λ h us ts. AreRowsOf h us ts rows) g
     c.problem-problem.result.now urgency c.order-urgency.result.now forest.times
     c.into_times-times.result.items
     c.problem-problem.ensures.problem c.order-urgency.ensures.order c.into_times-times.ensures
     c.in_ok-rows.ensures.rows in
+    -- these are rows that a builder finds for the order
     let found : AreRowsFound g urgency order frozen rows = grown_rows_found g urgency guards a order
     c.requires.topological frozen forest c.requires.grown.trees rows made in
     let few : IfSome c.args.self.wide (λ item. DoRowsFit g rows) =
@@ -43,6 +46,7 @@ returns-clause-rows c =
       excess = c.requires.grown.excess;
     }
 
+-- the fault names the least item that is too wide, as its rows have too many columns
 pub returns-in_err-rows-clause-fault : goal.returns-in_err-rows-clause-fault
 returns-in_err-rows-clause-fault c =
     let g = c.args.admitted.now.graph in

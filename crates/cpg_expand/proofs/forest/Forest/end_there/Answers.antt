@@ -3,10 +3,12 @@ use Rattle.cpg_expand.specs.Forest.{ForestState, ends_of}
 use Rattle.cpg_expand.proofs.GuardTrees.{ends_read, ends_tree, read_end}
 use Rattle.cpg_expand.proofs.forest.Forest.end_there.Goals as goal
 
+-- the forest's tree of the process's ends is read, and each end is taken as a time
 pub returns : goal.returns
 returns c =
     let g = c.args.problem.now in
     let f = c.args.self.now in
+    -- the forest as the code reads it, list by list
     let inside : ForestState = record {
       times = c.self.inside.times.items;
       ends = c.self.inside.ends.items;

@@ -10,6 +10,7 @@ use Rattle.cpg_expand.proofs.GuardTrees.{ends_read, ends_tree, heard_other, hear
 use Rattle.cpg_expand.proofs.GuardTrees.{times_read, times_tree}
 use Rattle.cpg_expand.proofs.forest.Forest.heard_and.Goals as goal
 
+-- the condition's process is on the node, so the node hears it by that process's end
 pub returns-in_ok-both : goal.returns-in_ok-both
 returns-in_ok-both c =
     let g = c.args.problem.now in
@@ -18,6 +19,7 @@ returns-in_ok-both c =
     let end = c.index.result.now in
     let further = c.args.further.now in
     let both = c.in_ok-both.both in
+    -- the forest as the code reads it, list by list
     let inside : ForestState = record {
       times = c.self.inside.times.items;
       ends = c.self.inside.ends.items;
@@ -26,8 +28,10 @@ returns-in_ok-both c =
       wide =
           c.self.inside.wide;
     } in
+    -- the tree that is read is that of the process in the forest
     let same : end ≡ ends_of g f p = ends_read g f c.requires.forest inside c.self.view_is end p p c.index.ensures refl
     c.process_of-process.ensures.within in
+    -- so it is a tree of the graph
     let of_end : IsTree g end =
     subst (IsTree g) (sym same) (ends_tree g f c.requires.forest p c.process_of-process.ensures.within) in
     record {
@@ -40,6 +44,7 @@ returns-in_ok-both c =
           (ends_of g f p) same of_end further both c.requires.further c.in_ok-both.ensures.is));
     }
 
+-- the condition's process is on another node, so the node hears it by the end of its broadcast frame
 pub returns-in_ok-both-2 : goal.returns-in_ok-both-2
 returns-in_ok-both-2 c =
     let g = c.args.problem.now in
@@ -49,6 +54,7 @@ returns-in_ok-both-2 c =
     let further = c.args.further.now in
     let both = c.in_ok-both-2.both in
     let delay = c.slot_length-delay.result in
+    -- the forest as the code reads it, list by list
     let inside : ForestState = record {
       times = c.self.inside.times.items;
       ends = c.self.inside.ends.items;
@@ -57,8 +63,10 @@ returns-in_ok-both-2 c =
       wide =
           c.self.inside.wide;
     } in
+    -- the tree that is read is that of the item in the forest
     let same : times ≡ times_of g f x = times_read g f c.requires.forest inside c.self.view_is times x x
     c.index-else-node_of-node.ensures refl c.broadcast_item-item.ensures.within in
+    -- so it is a tree of the graph
     let of_times : IsTree g times =
     subst (IsTree g) (sym same) (times_tree g f c.requires.forest x c.broadcast_item-item.ensures.within) in
     record {

@@ -9,6 +9,7 @@ use Rattle.cpg_expand.specs.declared.forest.Ready.{Ready}
 use Rattle.cpg_expand.proofs.GuardTrees.{ends_read, ends_tree, latest_valued, latest_ends, same_tree}
 use Rattle.cpg_expand.proofs.forest.Forest.ready_and.Goals as goal
 
+-- the node is ready after the ends of a process: these are read from the forest and joined with the other tree
 pub returns-in_ok-both-in-After : goal.returns-in_ok-both-in-After
 returns-in_ok-both-in-After c =
     let g = c.args.problem.now in
@@ -18,6 +19,7 @@ returns-in_ok-both-in-After c =
     let there = c.args.there.now in
     let both = c.in_ok-both-in-After.both in
     let l : p < process_count g = subst (IsWait g) c.in-After.is c.requires.ready in
+    -- the forest as the code reads it, list by list
     let inside : ForestState = record {
       times = c.self.inside.times.items;
       ends = c.self.inside.ends.items;
@@ -26,6 +28,7 @@ returns-in_ok-both-in-After c =
       wide =
           c.self.inside.wide;
     } in
+    -- the tree that is read is that of the process in the forest
     let same : end ≡ ends_of g f p =
     ends_read g f c.requires.forest inside c.self.view_is end p p c.index.ensures refl l in
     let of : IsTree g end = subst (IsTree g) (sym same) (ends_tree g f c.requires.forest p l) in
@@ -38,6 +41,7 @@ returns-in_ok-both-in-After c =
           (latest_ends g end there both of c.requires.there c.in_ok-both-in-After.ensures.is));
     }
 
+-- the joined tree has the faults and variables of the graph, as both of its parts have
 pub returns-in_ok-both-in-At-clause-tree : goal.returns-in_ok-both-in-At-clause-tree
 returns-in_ok-both-in-At-clause-tree c =
     let g = c.args.problem.now in
@@ -46,6 +50,7 @@ returns-in_ok-both-in-At-clause-tree c =
     c.in_ok-both-in-At.ensures.each
     (c.in_ok-both-in-At.ensures.pass (is_variable g) of.known c.requires.there.known)
 
+-- the node is ready by a tree: the later of that and of the other tree is taken
 pub returns-in_ok-both-in-At-clause-both : goal.returns-in_ok-both-in-At-clause-both
 returns-in_ok-both-in-At-clause-both c =
     let g = c.args.problem.now in

@@ -11,6 +11,7 @@ use Rattle.cpg_expand.proofs.GuardTrees.{ends_and_read, ends_read, ends_tree, sa
 use Rattle.cpg_expand.proofs.GuardTrees.{valued_and_read}
 use Rattle.cpg_expand.proofs.forest.Forest.ready_and_frame.Goals as goal
 
+-- the node is ready after the ends of a process: the later of these and of the frame's end is taken
 pub returns-in_ok-both-in-After : goal.returns-in_ok-both-in-After
 returns-in_ok-both-in-After c =
     let g = c.args.problem.now in
@@ -22,6 +23,7 @@ returns-in_ok-both-in-After c =
     let both = c.in_ok-both-in-After.both in
     let delay = c.slot_length-delay.result in
     let l : p < process_count g = subst (IsWait g) c.in-After.is c.requires.ready in
+    -- the forest as the code reads it, list by list
     let inside : ForestState = record {
       times = c.self.inside.times.items;
       ends = c.self.inside.ends.items;
@@ -30,11 +32,15 @@ returns-in_ok-both-in-After c =
       wide =
           c.self.inside.wide;
     } in
+    -- the tree that is read is that of the item in the forest
     let same : times ≡ times_of g f x =
     times_read g f c.requires.forest inside c.self.view_is times x x c.index-times.ensures refl c.requires.item in
+    -- the tree that is read is that of the process in the forest
     let same_end : end ≡ ends_of g f p =
     ends_read g f c.requires.forest inside c.self.view_is end p p c.index.ensures refl l in
+    -- so it is a tree of the graph
     let of_times : IsTree g times = subst (IsTree g) (sym same) (times_tree g f c.requires.forest x c.requires.item) in
+    -- so it is a tree of the graph
     let of_end : IsTree g end = subst (IsTree g) (sym same_end) (ends_tree g f c.requires.forest p l) in
     record {
       tree = same_tree g times both of_times.faults c.in_ok-both-in-After.ensures.is.faults
@@ -47,6 +53,7 @@ returns-in_ok-both-in-After c =
           (ends_of g f p) both same_end of_end c.in_ok-both-in-After.ensures.is);
     }
 
+-- the node is ready by a tree: the later of that and of the frame's end is taken
 pub returns-in_ok-both-in-At : goal.returns-in_ok-both-in-At
 returns-in_ok-both-in-At c =
     let g = c.args.problem.now in
@@ -57,6 +64,7 @@ returns-in_ok-both-in-At c =
     let both = c.in_ok-both-in-At.both in
     let delay = c.slot_length-delay.result in
     let of : IsTree g ready = subst (IsWait g) c.in-At.is c.requires.ready in
+    -- the forest as the code reads it, list by list
     let inside : ForestState = record {
       times = c.self.inside.times.items;
       ends = c.self.inside.ends.items;
@@ -65,8 +73,10 @@ returns-in_ok-both-in-At c =
       wide =
           c.self.inside.wide;
     } in
+    -- the tree that is read is that of the item in the forest
     let same : times ≡ times_of g f x =
     times_read g f c.requires.forest inside c.self.view_is times x x c.index-times.ensures refl c.requires.item in
+    -- so it is a tree of the graph
     let of_times : IsTree g times = subst (IsTree g) (sym same) (times_tree g f c.requires.forest x c.requires.item) in
     record {
       tree = same_tree g ready both of.faults c.in_ok-both-in-At.ensures.is.faults c.in_ok-both-in-At.ensures.each

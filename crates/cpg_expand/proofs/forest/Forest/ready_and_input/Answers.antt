@@ -7,6 +7,7 @@ use Rattle.cpg_expand.specs.Later.{IsLatest}
 use Rattle.cpg_expand.proofs.GuardTrees.{latest_input}
 use Rattle.cpg_expand.proofs.forest.Forest.ready_and_input.Goals as goal
 
+-- the input is a message, so it is there by the end of its frame
 pub returns-clause-both : goal.returns-clause-both
 returns-clause-both c =
     let g = c.args.problem.now in

@@ -9,6 +9,7 @@ use Rattle.cpg_expand.specs.declared.forest.Ready.{Ready}
 use Rattle.cpg_expand.proofs.GuardTrees.{ends_read, ends_tree, start_valued, start_after_ends, same_tree}
 use Rattle.cpg_expand.proofs.forest.Forest.started.Goals as goal
 
+-- the node is ready after the ends of a process: the starts are these, or the release if that is later
 pub returns-in_ok-start-in-After : goal.returns-in_ok-start-in-After
 returns-in_ok-start-in-After c =
     let g = c.args.problem.now in
@@ -17,6 +18,7 @@ returns-in_ok-start-in-After c =
     let end = c.index.result.now in
     let t = c.in_ok-start-in-After.start in
     let l : p < process_count g = subst (IsWait g) c.in-After.is c.requires.ready in
+    -- the forest as the code reads it, list by list
     let inside : ForestState = record {
       times = c.self.inside.times.items;
       ends = c.self.inside.ends.items;
@@ -25,6 +27,7 @@ returns-in_ok-start-in-After c =
       wide =
           c.self.inside.wide;
     } in
+    -- the tree that is read is that of the process in the forest
     let same : end ≡ ends_of g f p =
     ends_read g f c.requires.forest inside c.self.view_is end p p c.index.ensures refl l in
     let of : IsTree g end = subst (IsTree g) (sym same) (ends_tree g f c.requires.forest p l) in
@@ -36,6 +39,7 @@ returns-in_ok-start-in-After c =
           (start_after_ends g f end t c.args.release of c.in_ok-start-in-After.ensures.is));
     }
 
+-- the node is ready by a tree: the starts are its times, or the release if that is later
 pub returns-in_ok-start-in-At : goal.returns-in_ok-start-in-At
 returns-in_ok-start-in-At c =
     let g = c.args.problem.now in

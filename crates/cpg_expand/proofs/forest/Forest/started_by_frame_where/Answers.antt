@@ -11,6 +11,8 @@ use Rattle.cpg_expand.proofs.StartsWhere.{ends_where, read_where}
 use Rattle.cpg_expand.proofs.GuardTrees.{ends_read, ends_tree, same_tree, times_read, times_tree}
 use Rattle.cpg_expand.proofs.forest.Forest.started_by_frame_where.Goals as goal
 
+-- the node is ready after the ends of a process: where the process is active, the starts are the latest of these, the
+-- frame's end and the release
 pub returns-in_ok-start-in-After : goal.returns-in_ok-start-in-After
 returns-in_ok-start-in-After c =
     let g = c.args.problem.now in
@@ -22,6 +24,7 @@ returns-in_ok-start-in-After c =
     let start = c.in_ok-start-in-After.start in
     let delay = c.slot_length-delay.result in
     let l : p < process_count g = subst (IsWait g) c.in-After.is c.requires.ready in
+    -- the forest as the code reads it, list by list
     let inside : ForestState = record {
       times = c.self.inside.times.items;
       ends = c.self.inside.ends.items;
@@ -30,11 +33,15 @@ returns-in_ok-start-in-After c =
       wide =
           c.self.inside.wide;
     } in
+    -- the tree that is read is that of the item in the forest
     let same : times ≡ times_of g f x =
     times_read g f c.requires.forest inside c.self.view_is times x x c.index-times.ensures refl c.requires.item in
+    -- the tree that is read is that of the process in the forest
     let same_end : end ≡ ends_of g f p =
     ends_read g f c.requires.forest inside c.self.view_is end p p c.index-end.ensures refl l in
+    -- so it is a tree of the graph
     let of_times : IsTree g times = subst (IsTree g) (sym same) (times_tree g f c.requires.forest x c.requires.item) in
+    -- so it is a tree of the graph
     let of_end : IsTree g end = subst (IsTree g) (sym same_end) (ends_tree g f c.requires.forest p l) in
     record {
       tree = same_tree g c.args.active.now start c.requires.active.faults c.in_ok-start-in-After.ensures.is.faults
@@ -48,6 +55,8 @@ returns-in_ok-start-in-After c =
           (ends_of g f p) start same_end of_end c.in_ok-start-in-After.ensures.is);
     }
 
+-- the node is ready by a tree: where the process is active, the starts are the latest of its times, the frame's end
+-- and the release
 pub returns-in_ok-start-in-At : goal.returns-in_ok-start-in-At
 returns-in_ok-start-in-At c =
     let g = c.args.problem.now in
@@ -58,6 +67,7 @@ returns-in_ok-start-in-At c =
     let start = c.in_ok-start-in-At.start in
     let delay = c.slot_length-delay.result in
     let of : IsTree g ready = subst (IsWait g) c.in-At.is c.requires.ready in
+    -- the forest as the code reads it, list by list
     let inside : ForestState = record {
       times = c.self.inside.times.items;
       ends = c.self.inside.ends.items;
@@ -66,8 +76,10 @@ returns-in_ok-start-in-At c =
       wide =
           c.self.inside.wide;
     } in
+    -- the tree that is read is that of the item in the forest
     let same : times ≡ times_of g f x =
     times_read g f c.requires.forest inside c.self.view_is times x x c.index-times.ensures refl c.requires.item in
+    -- so it is a tree of the graph
     let of_times : IsTree g times = subst (IsTree g) (sym same) (times_tree g f c.requires.forest x c.requires.item) in
     record {
       tree = same_tree g c.args.active.now start c.requires.active.faults c.in_ok-start-in-At.ensures.is.faults

@@ -7,6 +7,7 @@ use Rattle.cpg_expand.specs.Later.{IsReleased}
 use Rattle.cpg_expand.proofs.GuardTrees.{released_input}
 use Rattle.cpg_expand.proofs.forest.Forest.started_by_input.Goals as goal
 
+-- the input is a message, so it is there by the end of its frame
 pub returns-clause-start : goal.returns-clause-start
 returns-clause-start c =
     let g = c.args.problem.now in

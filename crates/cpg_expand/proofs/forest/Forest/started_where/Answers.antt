@@ -7,6 +7,7 @@ use Rattle.cpg_expand.proofs.StartsWhere.{picked_where}
 use Rattle.cpg_expand.proofs.GuardTrees.{constant_tree, same_tree}
 use Rattle.cpg_expand.proofs.forest.Forest.started_where.Goals as goal
 
+-- the starts are picked where the process is active, and elsewhere there is no time
 pub returns : goal.returns
 returns c =
     let g = c.args.problem.now in

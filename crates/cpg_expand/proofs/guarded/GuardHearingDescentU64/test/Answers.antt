@@ -1,6 +1,7 @@
 use Rattle.cpg_expand.proofs.GuardTrees.{heard_test}
 use Rattle.cpg_expand.proofs.guarded.GuardHearingDescentU64.test.Goals as goal
 
+-- the node has heard the test and what the side that its value picks tests, whichever is later
 pub returns-clause-fits : goal.returns-clause-fits
 returns-clause-fits c off on of_off of_on =
     heard_test c.args.self.now.problem.now c.args.self.now.forest.now c.args.self.now.node c.args.condition off on

@@ -3,6 +3,7 @@ use Rattle.cpg_expand.specs.Forest.{ready_by}
 use Rattle.cpg_expand.proofs.GuardTrees.{start_test}
 use Rattle.cpg_expand.proofs.guarded.StartingDescentOptionU64.test.Goals as goal
 
+-- the value of the condition picks the starts of one side
 pub returns-clause-fits : goal.returns-clause-fits
 returns-clause-fits c = of_answer c.by_value.result _ _ c.by_value.ensures.picks
     (λ t picks off on of_off of_on. start_test c.args.self.now.problem.now c.args.self.now.forest.now

@@ -6,12 +6,14 @@ use Rattle.cpg_expand.specs.Values.{time_past}
 use Rattle.cpg_expand.proofs.GuardTrees.{same_tree}
 use Rattle.cpg_expand.proofs.measuring.Peak.or_past.Goals as goal
 
+-- the tree has the faults of the ends, and forks on the graph's variables alone
 pub or-requires-clause-tree : goal.or-requires-clause-tree
 or-requires-clause-tree c =
     let g = c.args.problem.now in
     same_tree g c.args.end.now c.in_ok-past.past c.requires.tree.faults c.in_ok-past.ensures.is.faults
     c.in_ok-past.ensures.each (c.in_ok-past.ensures.pass (is_variable g) c.requires.tree.known)
 
+-- the tree of how far the ends are past the due is one of the graph, and its greatest time is the next for the peak
 pub returns : goal.returns
 returns c =
     let g = c.args.problem.now in

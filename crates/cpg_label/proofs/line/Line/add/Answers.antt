@@ -5,6 +5,7 @@ use Rattle.cpg_label.specs.Lines.{text_after}
 use Rattle.cpg_label.proofs.Lines.{end_short, line_added, refilled}
 use Rattle.cpg_label.proofs.line.Line.add.Goals as goal
 
+-- the text of the new literal is put behind that of those before, and its end is noted
 pub returns-clause-line : goal.returns-clause-line
 returns-clause-line c =
     let labels = c.args.labels.now in

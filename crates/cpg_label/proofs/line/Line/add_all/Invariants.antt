@@ -2,6 +2,7 @@ use Rattle.std.proofs.Common.{◌≡◌, ◌+◌, ◌++◌, take}
 use Rattle.cpg_label.specs.Lines.{IsLine}
 use Rattle.cpg_label.proofs.line.Line.add_all.Given as goal
 
+-- the line has its first literals and those added so far behind them, and its text and count agree with them
 abbrev pub invariant-loop-literal : goal.invariant-loop-literal
 invariant-loop-literal l = record {
   line : IsLine l.labels l.self;

@@ -2,6 +2,7 @@ use Rattle.std.proofs.Common.{arith}
 use Rattle.cpg_label.proofs.Lines.{line_kept}
 use Rattle.cpg_label.proofs.line.Line.keep.Goals as goal
 
+-- the first literals keep their texts and ends
 pub returns-clause-line : goal.returns-clause-line
 returns-clause-line c =
     let old = c.args.self.now in

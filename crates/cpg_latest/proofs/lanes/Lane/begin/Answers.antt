@@ -5,6 +5,7 @@ use Rattle.cpg_latest.proofs.CourseSteps.{last_first, last_next}
 use Rattle.cpg_latest.proofs.Halves.{half_first, half_more, half_all}
 use Rattle.cpg_latest.proofs.lanes.Lane.begin.Goals as goal
 
+-- before the first course the process can begin in each
 pub loop-faults-init : goal.loop-faults-init
 loop-faults-init c = let lane = subst (IsLane c.args.setting.now.problem.now
     (CanBegin c.args.setting.now c.args.frozen.now c.args.process c.args.asked.now.scenario.now.values))
@@ -16,6 +17,7 @@ loop-faults-init c = let lane = subst (IsLane c.args.setting.now.problem.now
       last = λ acts more goes late are. last_first c.args.setting.now.problem.now late c.args.process;
     }
 
+-- the process can still begin in this course
 pub begin-last-requires-clause-course : goal.begin-last-requires-clause-course
 begin-last-requires-clause-course c =
     subst (CanBegin c.args.setting.now c.args.frozen.now c.args.process c.args.asked.now.scenario.now.values
@@ -26,6 +28,7 @@ begin-last-requires-clause-course c =
 pub begin-last-requires-clause-last : goal.begin-last-requires-clause-last
 begin-last-requires-clause-last c = c.loop-faults.invariant.last
 
+-- the process has begun in one more course
 pub loop-faults-preserved : goal.loop-faults-preserved
 loop-faults-preserved c = record {
   half = half_more (CanBegin c.args.setting.now c.args.frozen.now c.args.process c.args.asked.now.scenario.now.values)
@@ -38,6 +41,7 @@ loop-faults-preserved c = record {
       ∙ last_next c.args.setting.now.problem.now late c.loop-faults.faults c.args.process;
 }
 
+-- the process has begun in the courses of all numbers of faults
 pub returns : goal.returns
 returns c = record {
   count = c.loop-faults.invariant.half.count_is;

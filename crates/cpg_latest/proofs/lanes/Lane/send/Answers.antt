@@ -14,11 +14,13 @@ use Rattle.cpg_latest.proofs.Halves.{half_first, half_more, half_all}
 use Rattle.cpg_latest.proofs.LaneSteps.{item_sent, item_small, lane_map}
 use Rattle.cpg_latest.proofs.lanes.Lane.send.Goals as goal
 
+-- the item stands in the queue of the process, as `at` is below its length
 pub is_sent-requires-clause-item : goal.is_sent-requires-clause-item
 is_sent-requires-clause-item c =
     subst (λ xs. Contains xs (get_or c.queue.result.now c.args.at 0)) c.queue.ensures
     (Contains-get_or c.queue.result.now c.args.at 0 (omega (arith, c.requires.at, ap length c.queue.ensures)))
 
+-- the track does not send the item, so each course stays as it is
 pub returns-then-not-is_sent : goal.returns-then-not-is_sent
 returns-then-not-is_sent c =
     let g = c.args.setting.now.problem.now in
@@ -35,6 +37,7 @@ returns-then-not-is_sent c =
     c.args.at c.requires.at course s (λ acts. subst (λ y. item_active g values (item_at g y) ≡ false) here
     (c.is_sent.ensures.unsent c.if-not-is_sent.true acts))) c.requires.lane
 
+-- before the first course the item is still to be sent in each
 pub loop-faults-init : goal.loop-faults-init
 loop-faults-init c = let lane = subst (IsLane c.args.setting.now.problem.now
     (HasSentTo c.args.setting.now c.args.frozen.now c.args.process
@@ -45,6 +48,7 @@ loop-faults-init c = let lane = subst (IsLane c.args.setting.now.problem.now
     (c.args.at + 1) c.args.asked.now.scenario.now.values)
     (c.args.setting.now.problem.now.faults + 1) c.self.inside.courses.items lane.count lane.each
 
+-- the item at this place of the queue is one of the graph
 pub send-requires-clause-item : goal.send-requires-clause-item
 send-requires-clause-item c =
     let g = c.args.setting.now.problem.now in
@@ -52,12 +56,14 @@ send-requires-clause-item c =
     (in_queue g c.args.process x (subst (λ xs. Contains xs x) c.queue.ensures (Contains-get_or c.queue.result.now
     c.args.at 0 (omega (arith, c.requires.at, ap length c.queue.ensures))))).within
 
+-- the node of the process has a slot, as it sends something
 pub send-requires-clause-slot : goal.send-requires-clause-slot
 send-requires-clause-slot c =
     let g = c.args.setting.now.problem.now in
     queued_slot g c.requires.setting.admitted.1.slots c.args.process (queued g c.args.process c.args.at)
     (Contains-get_or (queue_of g c.args.process) c.args.at 0 c.requires.at)
 
+-- the course has a time for each item
 pub send-requires-clause-times : goal.send-requires-clause-times
 send-requires-clause-times c =
     let few : c.loop-faults.faults < c.args.setting.now.problem.now.faults + 1 =
@@ -68,6 +74,7 @@ send-requires-clause-times c =
     (c.loop-faults.invariant.left c.loop-faults.faults c.index_mut-course.result.now (omega arith) few) in
     s.places.times
 
+-- the course has free slots for each node
 pub send-requires-clause-free : goal.send-requires-clause-free
 send-requires-clause-free c =
     let few : c.loop-faults.faults < c.args.setting.now.problem.now.faults + 1 =
@@ -78,6 +85,7 @@ send-requires-clause-free c =
     (c.loop-faults.invariant.left c.loop-faults.faults c.index_mut-course.result.now (omega arith) few) in
     s.places.free_count
 
+-- the end of the process in this course is small
 pub send-requires-clause-early : goal.send-requires-clause-early
 send-requires-clause-early c =
     let g = c.args.setting.now.problem.now in
@@ -99,6 +107,7 @@ send-requires-clause-early c =
     c.index_mut-course.result.now s sent.0 (subst (λ y. item_active g values (item_at g y) ≡ true) here sent.1)
     c.requires.setting.admitted.1.limits c.requires.asked.long c.requires.early).0
 
+-- the time of the send in this course is small
 pub send-requires-clause-time : goal.send-requires-clause-time
 send-requires-clause-time c =
     let g = c.args.setting.now.problem.now in
@@ -121,6 +130,7 @@ send-requires-clause-time c =
     c.index_mut-course.result.now s sent.0 (subst (λ y. item_active g values (item_at g y) ≡ true) here sent.1)
     c.requires.setting.admitted.1.limits c.requires.asked.long c.requires.early).1
 
+-- the item is sent in one more course
 pub loop-faults-preserved : goal.loop-faults-preserved
 loop-faults-preserved c =
     let g = c.args.setting.now.problem.now in
@@ -149,6 +159,7 @@ loop-faults-preserved c =
     c.loop-faults.faults few
     course s sent.0 (subst (λ y. item_active g values (item_at g y) ≡ true) here sent.1))) refl
 
+-- the item is sent in the courses of all numbers of faults
 pub returns : goal.returns
 returns c = record {
   count = c.loop-faults.invariant.count_is;

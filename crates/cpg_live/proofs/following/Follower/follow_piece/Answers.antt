@@ -8,6 +8,7 @@ use Rattle.cpg_live.proofs.Along.{along_at, fed_cut, fed_lawless, fed_long, fed_
 use Rattle.cpg_live.proofs.Along.{wrote_all}
 use Rattle.cpg_live.proofs.following.Follower.follow_piece.Goals as goal
 
+-- the shelf met a fault, so the stream breaks there, with the lines so far
 pub returns-in_default-clause-along : goal.returns-in_default-clause-along
 returns-in_default-clause-along g c start name past a =
     let shelf = g.S.Shelf.state c.args.shelf.now in
@@ -15,6 +16,7 @@ returns-in_default-clause-along g c start name past a =
     let out = g.O.Sink.state c.args.out.now in
     unread name past shelf.history rest.history start out.taken c.args.self.now out a c.in_default.ensures.failed refl
 
+-- the sink met a fault, so a part of the lines was written and the stream is cut off
 pub returns-then-is_err-clause-along : goal.returns-then-is_err-clause-along
 returns-then-is_err-clause-along g c start name past a =
     let f = c.args.self.now in
@@ -37,6 +39,7 @@ returns-then-is_err-clause-along g c start name past a =
       );
     }
 
+-- the piece has a lawless record, so the stream is refused by it, and all lines before are written
 pub returns-in-Some-clause-along : goal.returns-in-Some-clause-along
 returns-in-Some-clause-along g c start name past a =
     let f = c.args.self.now in
@@ -66,6 +69,7 @@ returns-in-Some-clause-along g c start name past a =
       );
     }
 
+-- the piece goes past the limit, so the stream is too long, and all lines are written
 pub returns-then-self-gt-STREAM_LIMIT-clause-along : goal.returns-then-self-gt-STREAM_LIMIT-clause-along
 returns-then-self-gt-STREAM_LIMIT-clause-along g c start name past a =
     let f = c.args.self.now in
@@ -97,6 +101,7 @@ returns-then-self-gt-STREAM_LIMIT-clause-along g c start name past a =
       );
     }
 
+-- the piece is lawful and within the limit, so the follower is along the stream, with all lines written
 pub returns-clause-along : goal.returns-clause-along
 returns-clause-along g c start name past a =
     let f = c.args.self.now in
@@ -114,9 +119,11 @@ returns-clause-along g c start name past a =
     (subst (Took now out) (lines_told shelf rest f n c.in-Ok.fed.count c.in-Ok.ensures.piece)
     (on_ok c.tell.result told_all c.tell.ensures.whole)) c.tell.ensures.state
 
+-- a piece that can't be read leaves the follower as it was
 pub returns-in_default-clause-left : goal.returns-in_default-clause-left
 returns-in_default-clause-left g c = c.in_default.ensures.same
 
+-- the piece was fed, and its acts count as told
 pub returns-then-is_err-clause-left : goal.returns-then-is_err-clause-left
 returns-then-is_err-clause-left g c = record {
   count = c.in-Ok.fed.count;
@@ -125,6 +132,7 @@ returns-then-is_err-clause-left g c = record {
   told = c.tell.ensures.state;
 }
 
+-- the piece was fed, and its lines were written
 pub returns-in-Some-clause-left : goal.returns-in-Some-clause-left
 returns-in-Some-clause-left g c = record {
   count = c.in-Ok.fed.count;
@@ -133,6 +141,7 @@ returns-in-Some-clause-left g c = record {
   told = c.tell.ensures.state;
 }
 
+-- the piece was fed, and its lines were written
 pub returns-then-self-gt-STREAM_LIMIT-clause-left : goal.returns-then-self-gt-STREAM_LIMIT-clause-left
 returns-then-self-gt-STREAM_LIMIT-clause-left g c = record {
   count = c.in-Ok.fed.count;
@@ -141,6 +150,7 @@ returns-then-self-gt-STREAM_LIMIT-clause-left g c = record {
   told = c.tell.ensures.state;
 }
 
+-- the piece was fed, and its lines were written
 pub returns-clause-left : goal.returns-clause-left
 returns-clause-left g c = record {
   count = c.in-Ok.fed.count;

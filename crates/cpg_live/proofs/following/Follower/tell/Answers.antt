@@ -10,6 +10,7 @@ use Rattle.cpg_live.specs.Streams.{act_lines}
 use Rattle.cpg_live.proofs.Along.{rest_few, told_lines}
 use Rattle.cpg_live.proofs.following.Follower.tell.Goals as goal
 
+-- there are no more acts than the node has entries, and there is room for the lines of those
 pub append_acts-requires : goal.append_acts-requires
 append_acts-requires g c =
     let kept = c.self.invariant in
@@ -26,6 +27,7 @@ append_acts-requires g c =
       rest_few c.self.inside.told c.acts-acts.result.now,
     )
 
+-- what is written is the lines of the acts that aren't told
 pub returns-clause-part : goal.returns-clause-part
 returns-clause-part g c =
     let lines : c.as_slice.result.now

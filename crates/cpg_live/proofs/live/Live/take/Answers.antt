@@ -4,6 +4,7 @@ use Rattle.cpg_live.specs.Stream.{NodeProgress, LiveState}
 use Rattle.cpg_live.proofs.Steps.{step_after}
 use Rattle.cpg_live.proofs.live.Live.take.Goals as goal
 
+-- unless the event is a close, the last turn stays before the time of the record
 pub invariant_of-self-2 : goal.invariant_of-self-2
 invariant_of-self-2 c = record {
   part = c.self.invariant.part;

@@ -5,6 +5,7 @@ use Rattle.cpg_live.specs.Feeding.{IsTurned}
 use Rattle.cpg_live.proofs.Steps.{may_finish}
 use Rattle.cpg_live.proofs.progress.NodeProgress.end.Goals as goal
 
+-- an end that may be reported is one that the node may note
 pub finished-requires : goal.finished-requires
 finished-requires c = may_finish c.self.inside.node.dispatcher c.args.time
     (record { process = c.args.process; faults = c.in-Some.faults; value = c.args.value })

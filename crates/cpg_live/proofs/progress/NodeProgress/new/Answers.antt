@@ -7,6 +7,7 @@ use Rattle.cpg_node.specs.Instants.{entries_left}
 use Rattle.cpg_node.proofs.Rooms.{room_open}
 use Rattle.cpg_live.proofs.progress.NodeProgress.new.Goals as goal
 
+-- there is room for an act of each entry of the table
 pub invariant_of-result : goal.invariant_of-result
 invariant_of-result c =
     let room : c.in-Some.entries ≤ vec_capacity c.reserve.new.self = search rules in

@@ -11,6 +11,7 @@ use Rattle.cpg_live.specs.Stream.{NodeProgress}
 use Rattle.cpg_live.proofs.Steps.{at_some, turn_taken, room_taken}
 use Rattle.cpg_live.proofs.progress.NodeProgress.take_turn.Goals as goal
 
+-- the time is the next instant, and the turn takes neither ends nor frames
 pub turn-requires : goal.turn-requires
 turn-requires c = record {
   time = c.args.time;
@@ -19,6 +20,7 @@ turn-requires c = record {
   arrive = All-nil (ArrivesAt c.self.inside.node.dispatcher c.args.time);
 }
 
+-- the acts of the turn and the entries that are left after it have room
 pub append_acts-requires : goal.append_acts-requires
 append_acts-requires c = omega (
   arith,
@@ -29,6 +31,7 @@ append_acts-requires c = omega (
       c.acts.ensures c.self.invariant.room,
 )
 
+-- the turn keeps the table, and the entries that are left have room
 pub invariant_of-self : goal.invariant_of-self
 invariant_of-self c =
     let here : next c.self.inside.node.dispatcher ≡ Some c.args.time =
@@ -49,11 +52,13 @@ invariant_of-self c =
       );
     }
 
+-- the node's turn and the acts that are added are the turn
 pub returns-clause-turn : goal.returns-clause-turn
 returns-clause-turn c = turn_taken c.args.self.now c.self.inside.node c.turn.new.self c.args.time
     c.self.inside.acts.items c.acts.result.now c.append_acts.new.acts.items c.self.view_is c.requires
     c.turn.ensures.turn c.turn.ensures.acts c.acts.ensures c.append_acts.ensures.acts
 
+-- a turn of a lawful table leaves fewer instants
 pub returns-clause-fewer : goal.returns-clause-fewer
 returns-clause-fewer c =
     let here : next c.self.inside.node.dispatcher ≡ Some c.args.time =

@@ -12,6 +12,7 @@ runs : (c : goal.After-self-1) →
     ≡ zip_with (with_report c.args.ended) c.self.inside.table.own c.self.inside.running.items
 runs c = with_items_is c.self.inside.running c.note_report.new.running (omega arith) ∙ cc
 
+-- a report changes what runs, but neither its starts nor the next instant
 pub invariant_of-self : goal.invariant_of-self
 invariant_of-self c =
     let n = c.self.inside in

@@ -8,6 +8,7 @@ if_each : (o : Option ℕ) → ((t : ℕ) → o ≡ Some t → t < 2 ^ 61) → I
 if_each None h = tt
 if_each (Some t) h = h t refl
 
+-- executions are short and start early, so each instant is before 2 to the 61
 pub returns-clause-early : goal.returns-clause-early
 returns-clause-early c =
     let n = c.self.inside in

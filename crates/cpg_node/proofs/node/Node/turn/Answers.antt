@@ -17,10 +17,12 @@ use Rattle.cpg_node.proofs.Turning.{length_zip, acts_are, line_moves, early_turn
 use Rattle.cpg_node.proofs.Turning.{returned_turn, returned_acts}
 use Rattle.cpg_node.proofs.node.Node.turn.Goals as goal
 
+-- the executions of a lawful table are short
 pub gather_due-requires-clause-times : goal.gather_due-requires-clause-times
 gather_due-requires-clause-times c =
     subst (All AreShort) (sym c.own.ensures.own) (times_short c.self.inside.table c.own.ensures.made)
 
+-- the executions of a lawful table are short
 pub earliest_end-end-requires-clause-times : goal.earliest_end-end-requires-clause-times
 earliest_end-end-requires-clause-times c =
     subst (All AreShort) (sym c.own-3.ensures.own) (times_short c.self.inside.table c.own.ensures.made)
@@ -31,6 +33,7 @@ runs-8 : (c : goal.After-as_slice-8) → (with_items c.self.inside.running c.tur
     c.in-Some.time) c.self.inside.table.own c.self.inside.running.items
 runs-8 c = with_items_is c.self.inside.running c.turn_executions.new.running (omega arith) ∙ cc
 
+-- what runs after the turn has started early
 timed-8 : (c : goal.After-as_slice-8) → AreTimed (with_items c.self.inside.running c.turn_executions.new.running).items
 timed-8 c =
     let n = c.self.inside in
@@ -48,16 +51,19 @@ timed-8 c =
 pub earliest_end-end-requires-clause-starts : goal.earliest_end-end-requires-clause-starts
 earliest_end-end-requires-clause-starts c = subst AreTimed (sym c.as_slice-8.ensures.value) (timed-8 c)
 
+-- what runs after the turn is what the turn leaves running
 runs : (c : goal.After-self-6-1) → (with_items c.self.inside.running c.turn_executions.new.running).items
     ≡ zip_with (running_after (c.args.ended.now ++ c.gather_due.new.due.items) c.gather_acts.new.acts.items
     c.in-Some.time) c.self.inside.table.own c.self.inside.running.items
 runs c = with_items_is c.self.inside.running c.turn_executions.new.running (omega arith) ∙ cc
 
+-- a turn keeps the number of ranges
 heard_length : (c : goal.After-self-6-1) →
     length (with_items c.self.inside.heard c.hear_all.new.heard).items ≡ length c.self.inside.heard.items
 heard_length c = ap length (with_items_is c.self.inside.heard c.hear_all.new.heard (omega arith))
     ∙ omega (arith, ap length c.as_mut_slice.ensures.value)
 
+-- the place of the times moves on behind the instant of the turn
 instants : (c : goal.After-self-6-1) →
     IsLine (λ t. t) (Some c.in-Some.time) c.self.inside.times.items c.past_times-self-inside.result
 instants c = moves_on_seen (λ t. t) c.self.inside.last c.self.inside.times.items c.as_slice-7.result.now
@@ -73,6 +79,7 @@ left : (c : goal.After-self-6-1) →
 left c =
     c.time_at-time.ensures ∙ ap (λ (l : List ℕ). slice_get l c.past_times-self-inside.result) c.as_slice-9.ensures.value
 
+-- after the turn the places of the plan and of the times are behind its instant, and the next instant is found
 pub invariant_of-self : goal.invariant_of-self
 invariant_of-self c =
     let n = c.self.inside in
@@ -138,11 +145,13 @@ turned c =
     (drop n.plan_place c.deref.result.now)))) c.as_slice-4.ensures.value))
     (runs c)
 
+-- the state after the turn is that of the dispatcher
 pub returns-clause-turn : goal.returns-clause-turn
 returns-clause-turn c = returned_turn c.args.self.now (dispatcher_of c.self.inside) c.self.inside.acts.items
     c.in-Some.time _ c.args.ended.now c.args.frames.now c.self.view_is
     (sym c.self.invariant.next ∙ c.in-Some.is) (turned c).0
 
+-- the acts are those of the dispatcher's turn
 pub returns-clause-acts : goal.returns-clause-acts
 returns-clause-acts c = returned_acts c.args.self.now (dispatcher_of c.self.inside) c.self.inside.acts.items
     c.in-Some.time _ c.args.ended.now c.args.frames.now c.self.view_is

@@ -4,6 +4,7 @@ use Rattle.cpg_base.specs.Graph.{process_count, inputs}
 use Rattle.cpg_base.proofs.Lists.{get_or-map-below}
 use Rattle.cpg_order.proofs.links.Links.inputs.Goals as goal
 
+-- the list that is read is that of the process's inputs in the graph
 pub returns-clause-of_graph : goal.returns-clause-of_graph
 returns-clause-of_graph c g is =
     let h : c.args.process < process_count g = subst (λ l. c.args.process < l.count) is c.requires in

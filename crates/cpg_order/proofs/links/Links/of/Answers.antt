@@ -5,6 +5,7 @@ use Rattle.cpg_order.specs.Links.{EdgeLists}
 use Rattle.cpg_order.proofs.Filing.{with_key, file_next, length_filed}
 use Rattle.cpg_order.proofs.links.Links.of.Goals as goal
 
+-- the target of an edge has a list
 pub index_mut-requires : goal.index_mut-requires
 index_mut-requires c =
     let long = length_filed (target c.args.problem.now) c.loop-e.e
@@ -16,6 +17,7 @@ index_mut-requires c =
     ))).to in
     rw c.edges-edge-items.ensures.edges (omega arith)
 
+-- the source of an edge has a list
 pub index_mut-requires-in-loop-e : goal.index_mut-requires-in-loop-e
 index_mut-requires-in-loop-e c =
     let long = length_filed (source c.args.problem.now) c.loop-e.e
@@ -25,6 +27,7 @@ index_mut-requires-in-loop-e c =
     (omega (arith, ap length c.edges-edge-items.ensures.edges))).from in
     rw c.edges-edge-items.ensures.edges (omega arith)
 
+-- one more edge is filed: at its target as an input, and at its source as an output
 pub loop-e-preserved : goal.loop-e-preserved
 loop-e-preserved c =
     let ends = c.edges-edge-items.ensures.within.edges c.loop-e.e
@@ -41,11 +44,13 @@ loop-e-preserved c =
           (rw c.edges-edge-items.ensures.edges at c.index_mut-in-loop-e.ensures.value) c.in_ok-push-2.ensures);
     }
 
+-- edge lists with the same count, inputs and outputs are the same
 same_lists : (n m : ℕ) (xs us ys vs : List (List ℕ)) → n ≡ m → xs ≡ us → ys ≡ vs →
     (let l : EdgeLists = record { count = n; inputs = xs; outputs = ys } in l) ≡ record
     { count = m; inputs = us; outputs = vs }
 same_lists n m xs us ys vs p q r = cc
 
+-- all edges are filed, so the lists are those of the graph
 pub returns : goal.returns
 returns c =
     let all : c.loop-e.e ≡ edge_count c.args.problem.now = omega (arith, ap length c.edges-edge-items.ensures.edges) in

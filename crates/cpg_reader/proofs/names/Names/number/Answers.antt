@@ -4,6 +4,7 @@ use Rattle.cpg_reader.proofs.Texts.{position-texts}
 use Rattle.cpg_reader.specs.Names.{number_of, known}
 use Rattle.cpg_reader.proofs.names.Names.number.Goals as goal
 
+-- the name stands among the names, and its place is its number
 pub returns-in-Some : goal.returns-in-Some
 unfolding number_of
 returns-in-Some c = record {
@@ -13,6 +14,7 @@ returns-in-Some c = record {
       c.in-Some.is);
 }
 
+-- the name doesn't stand among the names, so it is unknown
 pub returns-in-None : goal.returns-in-None
 unfolding number_of
 returns-in-None c = record {

@@ -4,6 +4,7 @@ use Rattle.cpg_reader.specs.Names.{apart, apart_from}
 use Rattle.cpg_reader.proofs.Texts.{was_there, was_new, is_double, is_new, seen_more}
 use Rattle.cpg_reader.proofs.names.Names.of.Goals as goal
 
+-- this name stands earlier already, so it is double
 pub returns-then-not-branch-clause-apart : goal.returns-then-not-branch-clause-apart
 unfolding apart
 returns-then-not-branch-clause-apart g c =
@@ -14,6 +15,7 @@ returns-then-not-branch-clause-apart g c =
     c.loop-index-test.true c.index-elements-index.is c.name.ensures there c.loop-index.invariant.same
     ∙ ap (λ place. Err (DoubleName place)) (sym c.of_name.ensures)
 
+-- this name is new, so it is noted
 pub loop-index-preserved : goal.loop-index-preserved
 loop-index-preserved g c =
     let new = was_new _ (sym c.if-not-branch.false ∙ c.in_ok-insert.ensures.added) in

@@ -5,6 +5,7 @@ use Rattle.cpg_row_trees.specs.Places.{place_at}
 use Rattle.cpg_row_trees.proofs.PlacesSeen.{place_seen}
 use Rattle.cpg_row_trees.proofs.places.Places.do_pass_with.Goals as goal
 
+-- the places that both trees give a scenario pass together, as the walk through their items found
 pub returns : goal.returns
 returns g c = of_true c.do_pass_with.result c.do_pass_with.ensures (λ all s lies.
     let is = c.self.invariant in

@@ -2,5 +2,6 @@ use Rattle.cpg_rules.specs.Trees.{size_of}
 use Rattle.cpg_rules.specs.Sharing.{tree_at}
 use Rattle.cpg_rules.proofs.shared.SharedParts.+live.Given as goal
 
+-- each call goes to a side of the source's tree, so its size gets smaller
 abbrev pub decreases-live : goal.decreases-live
 decreases-live l = size_of (tree_at l.self.now.parts l.source)

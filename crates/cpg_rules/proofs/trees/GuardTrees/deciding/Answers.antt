@@ -3,6 +3,7 @@ use Rattle.cpg_rules.specs.Guards.{tree_of}
 use Rattle.cpg_rules.proofs.Ways.{ways_are_deciding}
 use Rattle.cpg_rules.proofs.trees.GuardTrees.deciding.Goals as goal
 
+-- the conditions on the scenario's way through the tree are those that decide
 pub returns-clause-deciding : goal.returns-clause-deciding
 returns-clause-deciding c = λ g order urgency topological are. c.in_ok-conditions.ensures
     ∙ ways_are_deciding g order c.args.process

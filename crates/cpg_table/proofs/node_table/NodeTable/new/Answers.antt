@@ -3,6 +3,7 @@ use Rattle.cpg_table.specs.Shape.{items_of}
 use Rattle.cpg_table.specs.Lawful.{IsLawfulRow}
 use Rattle.cpg_table.proofs.node_table.NodeTable.new.Goals as goal
 
+-- the rows were checked: they are of the node's items, and lawful
 pub of-requires-clause-rows : goal.of-requires-clause-rows
 of-requires-clause-rows c = record {
   items = ap items_of (sym c.as_slice-2.ensures.value) ∙ c.in-Some.ensures.items;

@@ -7,6 +7,7 @@ use Rattle.std.proofs.lemmas.List.{take-append-drop}
 use Rattle.cpg_table.proofs.TableRows.{first_items, second_items, third_items}
 use Rattle.cpg_table.proofs.node_table.NodeTable.of.Goals as goal
 
+-- the rows are cut into starts, sends and hears, which together are all the rows
 pub returns-clause-table : goal.returns-clause-table
 returns-clause-table c =
     let rows : List Row = c.args.rows.items in
@@ -33,6 +34,7 @@ returns-clause-table c =
       lawful = subst (All (IsLawfulRow (space_of c.args.head.now))) (sym all) c.requires.rows.lawful;
     }
 
+-- the table is one of the node by the answer above, and the head is within the limits
 pub invariant_of-result : goal.invariant_of-result
 invariant_of-result c =
     record { head = c.args.head.now; node = c.args.node; lawful = c.faults.ensures.within; of = returns-clause-table c }

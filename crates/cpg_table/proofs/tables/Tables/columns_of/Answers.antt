@@ -6,6 +6,7 @@ use Rattle.cpg_table.specs.Lawful.{Tables}
 use Rattle.cpg_table.proofs.RowColumns.{found_start, found_send, found_none}
 use Rattle.cpg_table.proofs.tables.Tables.columns_of.Goals as goal
 
+-- this table has a start row of the item
 pub returns-in-Some-clause-columns : goal.returns-in-Some-clause-columns
 returns-in-Some-clause-columns c =
     let ts = c.args.self.now.nodes in
@@ -18,6 +19,7 @@ returns-in-Some-clause-columns c =
     found_start c.args.item ts i within c.loop-table.invariant c.in-Some.columns.now
     (subst (λ (t : NodeTable). row_columns t.starts c.args.item ≡ Some c.in-Some.columns.now) table found)
 
+-- this table has no start row of the item, but a send row
 pub returns-in-Some-row_columns-clause-columns : goal.returns-in-Some-row_columns-clause-columns
 returns-in-Some-row_columns-clause-columns c =
     let ts = c.args.self.now.nodes in
@@ -33,6 +35,7 @@ returns-in-Some-row_columns-clause-columns c =
     (subst (λ (t : NodeTable). row_columns t.starts c.args.item ≡ None) table none)
     (subst (λ (t : NodeTable). row_columns t.sends c.args.item ≡ Some c.in-Some-row_columns.columns.now) table found)
 
+-- this table has no row of the item, so its columns are found further on
 pub loop-table-preserved : goal.loop-table-preserved
 loop-table-preserved c =
     let ts = c.args.self.now.nodes in

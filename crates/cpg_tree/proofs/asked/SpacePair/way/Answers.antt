@@ -7,6 +7,8 @@ use Rattle.cpg_tree.proofs.asked.SpacePair.way.Goals as goal
 abbrev pair_of : Space → Space → SpacePair
 pair_of asked walked = record { asked = asked; walked = walked }
 
+-- nothing that is asked for is below the cut: the spaces stay as they are, and putting their lows back changes
+-- nothing
 pub returns-then-not-is_open_below : goal.returns-then-not-is_open_below
 returns-then-not-is_open_below c = (
   record {
@@ -17,6 +19,8 @@ returns-then-not-is_open_below c = (
   ap₂ pair_of c.lowest.ensures c.lowest-then-not-is_open_below.ensures,
 )
 
+-- nothing that is asked for is above the cut: the spaces stay as they are, and putting their highs back changes
+-- nothing
 pub returns-then-not-is_open_above : goal.returns-then-not-is_open_above
 returns-then-not-is_open_above c = (
   record {
@@ -27,6 +31,7 @@ returns-then-not-is_open_above c = (
   ap₂ pair_of c.highest.ensures c.highest-then-not-is_open_above.ensures,
 )
 
+-- nothing that is walked is below the cut: only scenarios above it are walked from now on
 pub returns-then-not-is_open_below-2 : goal.returns-then-not-is_open_below-2
 returns-then-not-is_open_below-2 c = (
   record {
@@ -39,6 +44,7 @@ returns-then-not-is_open_below-2 c = (
   c.walk_above.ensures.back,
 )
 
+-- nothing that is walked is above the cut: only scenarios below it are walked from now on
 pub returns-then-not-is_open_above-2 : goal.returns-then-not-is_open_above-2
 returns-then-not-is_open_above-2 c = (
   record {

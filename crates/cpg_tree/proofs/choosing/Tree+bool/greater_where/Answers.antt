@@ -6,6 +6,7 @@ use Rattle.cpg_tree.proofs.Publics.{good_made}
 use Rattle.cpg_tree.proofs.Where.{where_seen, where_pass}
 use Rattle.cpg_tree.proofs.choosing.Tree+bool.greater_where.Goals as goal
 
+-- the tree that is made fits the space of all scenarios, so its list is good
 pub of-requires : goal.of-requires
 of-requires g c =
     let n = c.items.ensures.flat in
@@ -16,6 +17,7 @@ of-requires g c =
     good_made c.faults-faults.result c.whole-space.result r.0 c.greater_where.new.out.items
     c.whole-space.ensures.is r.2.fit are
 
+-- the facts about the lists become facts about the paths that callers see
 pub returns-clause-is : goal.returns-clause-is
 returns-clause-is g c =
     let n = c.items.ensures.flat in
@@ -34,6 +36,7 @@ returns-clause-is g c =
     (c.items-other_items.ensures.good b.0 b.1) c.whole-space.result c.whole-space.ensures.is c.whole-space.ensures.lies
     r.2.fit r.2.made)
 
+-- each fork of the tree that is made is on a variable of one of the three, so what passes for them passes for it
 pub returns-clause-pass : goal.returns-clause-pass
 returns-clause-pass g c test first second third =
     let n = c.items.ensures.flat in
@@ -46,6 +49,7 @@ returns-clause-pass g c test first second third =
     (c.items-own_items.ensures.paths a.0 a.1) (c.items-other_items.ensures.paths b.0 b.1)
     c.faults-faults.result test (r.2.pass test) first second third)
 
+-- cut at the number of the first tree's forks, the list of spans begins with those of the first tree
 pub greater_where-requires-clause-own : goal.greater_where-requires-clause-own
 greater_where-requires-clause-own g c =
     let n = c.items-own_items.ensures.flat in
@@ -60,6 +64,7 @@ greater_where-requires-clause-own g c =
           (c.in_ok-push_bounds-2.ensures.bounds m.0 m.1) (c.len-forks.ensures ∙ c.push_bounds.new.bounds.ok.0),
     )
 
+-- the rest of the list holds the spans of the second tree
 pub greater_where-requires-clause-others : goal.greater_where-requires-clause-others
 greater_where-requires-clause-others g c =
     let n = c.items-own_items.ensures.flat in

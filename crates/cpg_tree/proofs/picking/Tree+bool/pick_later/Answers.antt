@@ -5,6 +5,7 @@ use Rattle.cpg_tree.proofs.Publics.{pick_shown, pick_passes, good_made}
 use Rattle.cpg_tree.proofs.Readings.{good_read, later_pass, later_paths}
 use Rattle.cpg_tree.proofs.picking.Tree+bool.pick_later.Goals as goal
 
+-- the tree that is made fits the space of all scenarios, so its list is good
 pub of-requires : goal.of-requires
 of-requires c =
     let n = c.items.ensures.flat in
@@ -15,6 +16,7 @@ of-requires c =
     good_made c.faults-faults.result c.whole-space.result r.0 c.pick_read.new.out.items
     c.whole-space.ensures.is r.2.fit are
 
+-- the facts about the lists become facts about the paths that callers see, with the first tree's times a delay later
 pub returns-clause-is : goal.returns-clause-is
 returns-clause-is c =
     let n = c.items.ensures.flat in
@@ -32,6 +34,7 @@ returns-clause-is c =
     c.requires.first c.requires.second c.whole-space.result c.whole-space.ensures.is c.whole-space.ensures.lies
     r.2.fit r.2.made
 
+-- each fork of the tree that is made is on a variable of one of the three, so what passes for them passes for it
 pub returns-clause-pass : goal.returns-clause-pass
 returns-clause-pass c test on_self on_times on_no =
     let n = c.items.ensures.flat in

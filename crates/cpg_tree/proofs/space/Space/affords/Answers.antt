@@ -7,12 +7,14 @@ use Rattle.cpg_tree.proofs.space.Space.affords.Goals as goal
 pub loop-at-init : goal.loop-at-init
 loop-at-init c s lies all = demands_left c.args.self.now s lies c.args.literals.now c.requires all c.args.from
 
+-- the faults that the literal at this place asks for are taken from those left
 pub loop-at-preserved : goal.loop-at-preserved
 loop-at-preserved c s lies all = demand_rest c.args.self.now c.args.literals.now c.loop-at.at
     (record { variable = 0; low = 0; high = 0 }) c.loop-at-test.true c.loop-at.left c.saturating_sub.result
     c.faults_of-more.result
     c.saturating_sub.ensures c.faults_of-more.ensures (c.loop-at.invariant s lies all)
 
+-- the literal at this place asks for more faults than are left, so no scenario of the space matches all
 pub returns-then-left-more : goal.returns-then-left-more
 returns-then-left-more c s lies = false_from_ne_true (matches c.args.literals.now s) (λ all. omega (
   arith,

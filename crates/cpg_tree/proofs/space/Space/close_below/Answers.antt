@@ -3,6 +3,7 @@ use Rattle.cpg_tree.specs.declared.space.Lifted.{Lifted}
 use Rattle.cpg_tree.specs.Space.{Space, reopened_below}
 use Rattle.cpg_tree.proofs.space.Space.close_below.Goals as goal
 
+-- the low is set and set back, so the space is the one from before
 pub returns-clause-back : goal.returns-clause-back
 returns-clause-back c =
     let space : Space = c.args.self.now in

@@ -4,6 +4,7 @@ use Rattle.cpg_tree.specs.Space.{IsInSpace}
 use Rattle.cpg_tree.proofs.Spaces.{none_below, on_false}
 use Rattle.cpg_tree.proofs.space.Space.is_open_below.Goals as goal
 
+-- the low is above the cut, so each number of the space is
 pub returns-clause-none : goal.returns-clause-none
 returns-clause-none c =
     on_false {P = (s : Scenario) → IsInSpace c.args.self.now s → c.args.cut < number_of s c.args.variable} _

@@ -4,6 +4,7 @@ use Rattle.cpg_tree.specs.Space.{Space, IsInSpace}
 use Rattle.cpg_tree.proofs.Spaces.{lies_above}
 use Rattle.cpg_tree.proofs.space.Space.raise.Goals as goal
 
+-- a scenario whose number is above the cut lies in the space above it
 pub returns-clause-lies : goal.returns-clause-lies
 returns-clause-lies c s lies h =
     let space : Space = c.args.self.now in

@@ -7,6 +7,7 @@ pub loop-variable-init : goal.loop-variable-init
 loop-variable-init c =
     record { long = search rules; done = λ v l. absurd (omega arith); rest = λ v l h. get_or-replicate 256 v 1 0 h }
 
+-- all lows are 0, the highs of counts are k, those of values are 1, and k faults are left
 pub returns-clause-is : goal.returns-clause-is
 returns-clause-is c = record {
   long = search rules;
@@ -18,6 +19,7 @@ returns-clause-is c = record {
   left = refl;
 }
 
+-- the lows are 0, each count is at most k and each value at most 1, so every scenario of at most k faults lies inside
 pub returns-clause-lies : goal.returns-clause-lies
 returns-clause-lies c s few = lies_whole c.args.k s few _ (λ v l. get_or-replicate 256 v 0 0 l)
     (λ v l. c.loop-variable.invariant.done v (search rules))

@@ -5,6 +5,7 @@ use Rattle.cpg_tree.proofs.Passes.{of_true}
 use Rattle.cpg_tree.proofs.Publics.{state_seen}
 use Rattle.cpg_tree.proofs.tree.Tree+Option+u64.is_at_least.Goals as goal
 
+-- each leaf of the list is a time of at least this, so is the time of each path
 pub returns : goal.returns
 returns c = of_true c.are_at_least.result c.are_at_least.ensures (λ h.
     let n = c.items.ensures.flat in

@@ -5,6 +5,7 @@ use Rattle.cpg_tree.proofs.Forks.{from_true, of_answer, of_both}
 use Rattle.cpg_tree.proofs.OnePath.{own_map}
 use Rattle.cpg_tree.proofs.tree.Tree+Option+u64.no_earlier.Goals as goal
 
+-- all times are late enough, so the copy has in each scenario the later of its time and the least
 pub returns-then-is_at_least-clause-is : goal.returns-then-is_at_least-clause-is
 returns-then-is_at_least-clause-is c =
     let tree : TreeState (Option ℕ) = c.args.self.now in
@@ -16,6 +17,7 @@ returns-then-is_at_least-clause-is c =
     (own_map answers tree (subst (λ (t : TreeState (Option ℕ)). HasOnePathEach t.faults t.paths) h.0 h.1)
     (from_true c.is_at_least.result c.if-is_at_least.true c.is_at_least.ensures)))
 
+-- the copy is the tree itself, so its variables pass the same tests
 pub returns-then-is_at_least-clause-pass : goal.returns-then-is_at_least-clause-pass
 returns-then-is_at_least-clause-pass c =
     let tree : TreeState (Option ℕ) = c.args.self.now in

@@ -3,6 +3,7 @@ use Rattle.cpg_tree.specs.Tree.{TreeState, IsValueAt}
 use Rattle.cpg_tree.proofs.Publics.{value_path, state_seen}
 use Rattle.cpg_tree.proofs.tree.Tree.at.Goals as goal
 
+-- the value that a scenario comes to in the list is that of its path
 pub returns : goal.returns
 returns g c =
     let n = c.items.ensures.flat in

@@ -11,6 +11,7 @@ of-requires g c = let w = some_whole c.args.k in (Leaf c.args.value, search rule
 pub returns-clause-is : goal.returns-clause-is
 returns-clause-is g c = c.of.ensures.is (Leaf c.args.value) (search rules)
 
+-- one value has no forks, so every test passes
 pub returns-clause-pass : goal.returns-clause-pass
 returns-clause-pass g c test =
     subst (λ (t : TreeState g.row.T.Denot). DoPathsPass test t.paths)

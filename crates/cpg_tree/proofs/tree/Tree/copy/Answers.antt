@@ -3,6 +3,7 @@ use Rattle.cpg_tree.specs.Decision.{IsGood}
 use Rattle.cpg_tree.proofs.Publics.{state, state_seen}
 use Rattle.cpg_tree.proofs.tree.Tree.copy.Goals as goal
 
+-- the copied items are those of the tree, so they are a good list
 pub of-requires : goal.of-requires
 of-requires g c =
     let n = c.items.ensures.flat in (
@@ -11,6 +12,7 @@ of-requires g c =
       subst (λ (m : ℕ). IsGood m n.0) (sym c.faults.ensures) (c.items.ensures.good n.0 n.1),
     )
 
+-- the copied list shows the same paths
 pub returns-clause-is : goal.returns-clause-is
 returns-clause-is g c =
     let n = c.items.ensures.flat in

@@ -2,6 +2,7 @@ use Rattle.cpg_tree.proofs.Flats.{all_added}
 use Rattle.cpg_tree.proofs.Publics.{join_shown, join_passes, good_made}
 use Rattle.cpg_tree.proofs.tree.Tree.join_with.Goals as goal
 
+-- the tree that is made fits the space of all scenarios, so its list is good
 pub of-requires : goal.of-requires
 of-requires g c =
     let n = c.items.ensures.flat in
@@ -11,6 +12,7 @@ of-requires g c =
     good_made c.faults-faults.result c.whole-space.result r.0 c.join_items.new.out.items
     c.whole-space.ensures.is r.2.fit are
 
+-- the facts about the lists become facts about the paths that callers see
 pub returns-clause-is : goal.returns-clause-is
 returns-clause-is g c =
     let n = c.items.ensures.flat in
@@ -26,6 +28,7 @@ returns-clause-is g c =
     ) z) c.requires.same
     c.whole-space.result c.whole-space.ensures.is c.whole-space.ensures.lies r.2.fit r.2.made
 
+-- each fork of the tree that is made is on a variable of one of the two, so what passes for them passes for it
 pub returns-clause-pass : goal.returns-clause-pass
 returns-clause-pass g c test =
     let n = c.items.ensures.flat in

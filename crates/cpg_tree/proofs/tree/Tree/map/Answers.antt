@@ -2,6 +2,7 @@ use Rattle.cpg_tree.proofs.Flats.{all_added}
 use Rattle.cpg_tree.proofs.Publics.{good_mapped, map_shown, map_passes}
 use Rattle.cpg_tree.proofs.tree.Tree.map.Goals as goal
 
+-- the tree of the answers has the forks of the first, so its list is good
 pub of-requires : goal.of-requires
 of-requires g c =
     let n = c.items.ensures.flat in
@@ -14,6 +15,7 @@ of-requires g c =
           c.faults.result c.faults.ensures r.0 r.2,
     )
 
+-- the facts about the list become facts about the paths that callers see
 pub returns-clause-is : goal.returns-clause-is
 returns-clause-is g c =
     let n = c.items.ensures.flat in
@@ -23,6 +25,7 @@ returns-clause-is g c =
     (c.items.ensures.good n.0 n.1) (c.items.ensures.paths n.0 n.1)
     c.faults.result c.faults.ensures r.0 r.2 c.of.result (c.of.ensures.is r.0 are)
 
+-- the tree of the answers has forks on variables of the first only, so what passes for that passes for it
 pub returns-clause-pass : goal.returns-clause-pass
 returns-clause-pass g c =
     let n = c.items.ensures.flat in

@@ -2,6 +2,7 @@ use Rattle.cpg_tree.proofs.Flats.{all_added}
 use Rattle.cpg_tree.proofs.Publics.{pick_shown, pick_passes, good_made}
 use Rattle.cpg_tree.proofs.tree.Tree.pick.Goals as goal
 
+-- the tree that is made fits the space of all scenarios, so its list is good
 pub of-requires : goal.of-requires
 of-requires g c =
     let n = c.items.ensures.flat in
@@ -12,6 +13,7 @@ of-requires g c =
     good_made c.faults-faults.result c.whole-space.result r.0 c.pick_items.new.out.items
     c.whole-space.ensures.is r.2.fit are
 
+-- the facts about the lists become facts about the paths that callers see
 pub returns-clause-is : goal.returns-clause-is
 returns-clause-is g c =
     let n = c.items.ensures.flat in
@@ -26,6 +28,7 @@ returns-clause-is g c =
     c.requires.first c.requires.second c.whole-space.result c.whole-space.ensures.is c.whole-space.ensures.lies
     r.2.fit r.2.made
 
+-- each fork of the tree that is made is on a variable of one of the three, so what passes for them passes for it
 pub returns-clause-pass : goal.returns-clause-pass
 returns-clause-pass g c test =
     let n = c.items.ensures.flat in

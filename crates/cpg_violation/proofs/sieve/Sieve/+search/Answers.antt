@@ -4,6 +4,7 @@ use Rattle.cpg_violation.specs.Sieves.{places_in}
 use Rattle.cpg_violation.proofs.SieveLaws.{side_of}
 use Rattle.cpg_violation.proofs.sieve.Sieve.+search.Goals as goal
 
+-- a scenario goes to one side of the cut, and the places there were all found
 pub search-returns-in_ok-search_side-in-Cut-2-clause-all : goal.search-returns-in_ok-search_side-in-Cut-2-clause-all
 search-returns-in_ok-search_side-in-Cut-2-clause-all t c = rw (← c.self.view_is, c.in-Cut.is) (λ s i m k.
     side_of (nat_le (number_of s c.in-Cut.variable) c.in-Cut.most) (places_in c.in-Cut.below.value s)
