@@ -1,7 +1,7 @@
 //! The tuning that a command asks for.
-ghost use Rattle.std.specs.Prelude.{◌≡◌, All, IfOk, IfErr, string_bytes};
+ghost use Rattle.std.specs.Prelude.{◌≡◌, ◌+◌, All, IfOk, IfErr, string_bytes};
 ghost use Rattle.cpg_rules.specs.Admission.{IsAdmitted};
-ghost use Rattle.cpg_tune.specs.Tuned.{IsTuning};
+ghost use Rattle.cpg_tune.specs.Tuned.{AreAnswers, IsTuning};
 ghost use Rattle.cpg_tune.specs.RetunedLaws.{ShowsNoFault};
 ghost use Rattle.cpg_refusal.specs.declared.halt.Halt.TheVariants.{Memory};
 ghost use Rattle.cpg_app.specs.Outputs.{Puts};
@@ -9,7 +9,7 @@ ghost use Rattle.cpg_app.specs.Tunes.{IsCompileAnswer, IsJudged, IsTuningText};
 ghost use Rattle.cpg_outputs.specs.Tunes.{IsNamedRow};
 
 use crate::output::Output;
-use cpg_base::{OutOfMemory, Problem};
+use cpg_base::{MOST_FAULTS, OutOfMemory, Problem};
 use cpg_core::{CompileFault, greatest_finish};
 use cpg_outputs::tuning_text;
 use cpg_refusal::Halt;
@@ -18,12 +18,12 @@ use cpg_tune::{Judge, Judged, Tuned, tune};
 use std::alloc::Global;
 
 /// Admits a graph that breaks no rule.
-fn admit_again(alloc: Global, problem: &Problem) -> Result<Admitted, OutOfMemory>
-    requires { ShowsNoFault problem.now }
-    ensures graph { IfOk result (λ a. a.graph ≡ problem.now) }
+fn admit_again(alloc: Global, problem: Problem) -> Result<Admitted, OutOfMemory>
+    requires { ShowsNoFault problem }
+    ensures graph { IfOk result (λ a. a.graph ≡ problem) }
     ensures admitted { IfOk result (λ a. IsAdmitted a.graph a.order a.guards) }
 {
-    match admit(alloc, problem.copy()?) {
+    match admit(alloc, problem) {
         Ok(admitted) => Ok(admitted),
         Err(refused) => match refused.fault {
             RuleFault::OutOfMemory => Err(OutOfMemory),
@@ -46,6 +46,20 @@ fn compile_answer(alloc: Global, admitted: &Admitted) -> Result<Judged, OutOfMem
     }
 }
 
+/// The answers for an admitted graph with each fault number from 0 to 8. The graph is admitted once: its rules, orders and guards don't
+/// rest on that number.
+fn compile_answers(alloc: Global, admitted: Admitted) -> Result<Vec<Judged>, OutOfMemory>
+    ensures { IfOk result (λ answers. AreAnswers IsJudged admitted.graph (MOST_FAULTS + 1) answers.items) }
+{
+    let mut row = admitted;
+    let mut answers = Vec::new(alloc);
+    for faults in 0..=MOST_FAULTS {
+        row = row.with_fault_number(alloc, faults)?;
+        answers.push(compile_answer(alloc, &row)?)?;
+    }
+    Ok(answers)
+}
+
 /// Judges a graph by its compile.
 #[derive(Drop)]
 struct Compiler {
@@ -61,9 +75,12 @@ impl Judge for Compiler {
 
     ghost answers = { λ _ g judged. IsJudged g judged };
 
-    fn judge(&mut self, problem: &Problem) -> Result<Judged, OutOfMemory> {
+    fn judge_each(&mut self, problem: Problem) -> Result<Vec<Judged>, OutOfMemory> {
+        // called for its contract: the graph is within its limits
+        let _faults = problem.faults();
         let admitted = admit_again(self.alloc, problem)?;
-        compile_answer(self.alloc, &admitted)
+        let answers = compile_answers(self.alloc, admitted)?;
+        Ok(answers)
     }
 
     ghost one_answer = { λ _ g a b _ x y. one_judged g a b x y };

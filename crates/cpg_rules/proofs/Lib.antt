@@ -21,3 +21,4 @@ pub mod Rested
 pub mod Outcome
 pub mod Sharing
 pub mod SharedSteps
+pub mod FaultNumbers

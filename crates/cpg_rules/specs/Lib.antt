@@ -1,6 +1,7 @@
 pub mod Rules
 pub mod Given
 pub mod Admission
+pub mod FaultNumber
 pub mod Admitted
 pub mod Faults
 pub mod Trees

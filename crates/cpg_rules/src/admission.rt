@@ -1,7 +1,8 @@
 //! The admission of a graph.
-ghost use Rattle.std.specs.Prelude.{◌≡◌, List, ℕ, IfOk, IfErr, IfSome};
+ghost use Rattle.std.specs.Prelude.{◌≡◌, ◌≤◌, List, ℕ, IfOk, IfErr, IfSome};
 ghost use Rattle.std.specs.Option.{option_map};
 ghost use Rattle.cpg_base.specs.Limits.{IsWithinLimits};
+ghost use Rattle.cpg_base.specs.declared.limits.TheConstants.{MOST_FAULTS};
 ghost use Rattle.cpg_base.specs.WellFormed.{HasSenderSlots};
 ghost use Rattle.cpg_order.specs.Urgency.{IsTopological, first_order};
 ghost use Rattle.cpg_rules.specs.Guards.{AreGuardsOf};
@@ -10,15 +11,17 @@ ghost use Rattle.cpg_rules.specs.Given.{GivesTopological};
 ghost use Rattle.cpg_rules.specs.Sharing.{trees_of, AreRoots, AreTreesOf};
 ghost use Rattle.cpg_base.specs.Graph.{process_count};
 ghost use Rattle.cpg_rules.specs.Admission.{IsAdmitted};
+ghost use Rattle.cpg_rules.specs.FaultNumber.{with_fault_number};
 ghost use Rattle.cpg_rules.specs.Faults.{IsOrdered, HasFewTracks, HasFewInputs, HasSizes, ShowsFault};
 
+use crate::fault_number::with_fault_number;
 use crate::given::{GivenFault, given_order};
 use crate::joins::least_alternatives;
 use crate::shared::SharedParts;
 use crate::slots::{above_slot, without_slot};
 use crate::trees::{SharedGuards, shared_guards};
 use crate::{GuardFault, GuardTrees};
-use cpg_base::{Order, Problem, Scenario};
+use cpg_base::{Order, OutOfMemory, Problem, Scenario};
 use cpg_order::{OrderFault, Walk, urgency};
 use std::alloc::Global;
 use std::marker::Model;
@@ -267,5 +270,18 @@ impl Admitted {
         ensures admitted { IsAdmitted self.now.graph self.now.order self.now.guards }
     {
         &self.guards
+    }
+
+    /// The graph with another fault number. It keeps all rules too, with the same orders and guards, so nothing is judged
+    /// again: no rule rests on that number.
+    pub fn with_fault_number(self, alloc: Global, faults: u8) -> Result<Admitted, OutOfMemory>
+        requires { faults ≤ MOST_FAULTS }
+        ensures graph { IfOk result (λ admitted. admitted.graph ≡ with_fault_number self.graph faults) }
+        ensures order { IfOk result (λ admitted. admitted.order ≡ self.order) }
+        ensures guards { IfOk result (λ admitted. admitted.guards ≡ self.guards) }
+        ensures admitted { IfOk result (λ admitted. IsAdmitted admitted.graph admitted.order admitted.guards) }
+    {
+        let problem = with_fault_number(alloc, &self.problem, faults)?;
+        Ok(Admitted { problem, ..self })
     }
 }

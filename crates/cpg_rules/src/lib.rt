@@ -7,6 +7,7 @@ mod admission;
 mod apart;
 mod composing;
 mod edges;
+mod fault_number;
 mod given;
 mod growing;
 mod joins;

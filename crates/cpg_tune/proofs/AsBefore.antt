@@ -1,5 +1,5 @@
 -- What other parts and another fault number leave as it was.
-use Rattle.std.proofs.Common.{ℕ, zero, suc, ◌+◌, ◌<◌, ◌≤◌, ◌≡◌, ◌⊎◌, IfSome, None, List, [], ◌∷◌, ◌++◌, length, get_or}
+use Rattle.std.proofs.Common.{ℕ, zero, suc, ◌+◌, ◌<◌, ◌≤◌, ◌≡◌, ◌⊎◌, IfSome, List, [], ◌∷◌, ◌++◌, length, get_or}
 use Rattle.std.proofs.Common.{take, filter, All, refl, sym, ap, ap₂, ◌∙◌, subst, inl, inr, arith, append-nil}
 use Rattle.std.proofs.lemmas.List.{length-map, get_or-map, get_or_default, take_more}
 use Rattle.std.proofs.lemmas.List.Elements.{All-map}
@@ -102,25 +102,6 @@ retuned_within g parts faults w a few = record {
     name_at : (i : ℕ) (d : Process) → i < length g.processes →
         (get_or (in_parts_each g.processes parts) i d).name ≡ (get_or g.processes i d).name
     name_at i d l = ap (λ (p : Process). p.name) (each_at g.processes parts i d a.one_each l)
-
--- a graph stays within the limits without its order
-pub orderless_within : (g : Graph) → IsWithinLimits g → IsWithinLimits (record g { order = None })
-orderless_within g w = record {
-  faults = w.faults;
-  deadline = w.deadline;
-  few_nodes = w.few_nodes;
-  few_slots = w.few_slots;
-  few_processes = w.few_processes;
-  few_edges = w.few_edges;
-  few_conditions = w.few_conditions;
-  slots = w.slots;
-  processes = w.processes;
-  edges = w.edges;
-  node_names = w.node_names;
-  process_names = w.process_names;
-  own_slots = w.own_slots;
-  order = tt;
-}
 
 -- the best parts are from 1 to 255
 pub best_parts_of : (g : Graph) → ArePartsOf g (best_parts g)

@@ -2,3 +2,4 @@ pub mod Fewest
 pub mod Tolerating
 pub mod AsBefore
 pub mod Kept
+pub mod Answered

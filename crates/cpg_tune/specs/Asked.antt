@@ -2,6 +2,7 @@
 use Rattle.std.specs.Prelude.{ℕ, ◌≤◌, ◌↔◌}
 use Rattle.cpg_base.specs.declared.limits.TheConstants.{MOST_FAULTS}
 use Rattle.cpg_base.specs.Graph.{Graph}
+use Rattle.cpg_rules.specs.FaultNumber.{with_fault_number}
 use Rattle.cpg_tune.specs.declared.judge.Judged.{Judged}
 use Rattle.cpg_tune.specs.Best.{best_parts}
 use Rattle.cpg_tune.specs.Retuned.{retuned}
@@ -13,6 +14,10 @@ row_graph g faults = retuned g (best_parts g) faults
 -- the judge may be asked about the graph of each row
 abbrev pub MayAskRows : (Graph → Type 0) → Graph → Type 0
 MayAskRows may g = (faults : ℕ) → faults ≤ MOST_FAULTS → may (row_graph g faults)
+
+-- the judge may be asked about a graph with each fault number
+abbrev pub MayAskEach : (Graph → Type 0) → Graph → Type 0
+MayAskEach may g = (faults : ℕ) → faults ≤ MOST_FAULTS → may (with_fault_number g faults)
 
 -- the judge may be asked about the same graphs
 abbrev pub SameQuestions : (Graph → Type 0) → (Graph → Type 0) → Type 0

@@ -3,6 +3,7 @@ use Rattle.std.specs.Prelude.{ℕ, ◌+◌, ◌≡◌, ◌<◌, Bool, true, fals
 use Rattle.std.specs.Prelude.{length, get_or}
 use Rattle.cpg_base.specs.declared.limits.TheConstants.{MOST_FAULTS}
 use Rattle.cpg_base.specs.Graph.{Graph}
+use Rattle.cpg_rules.specs.FaultNumber.{with_fault_number}
 use Rattle.cpg_tune.specs.declared.judge.Judged.{Judged}
 use Rattle.cpg_tune.specs.declared.judge.Judged.TheVariants.{Worst, Late, Wide}
 use Rattle.cpg_tune.specs.Best.{best_parts}
@@ -36,6 +37,11 @@ tolerated_from faults found (row ∷ rows) =
 -- the greatest fault number whose row is accepted
 abbrev pub tolerated : List Judged → Option ℕ
 tolerated rows = tolerated_from 0 None rows
+
+-- one answer for each fault number from 0 on: that for the graph with this number in place of its own
+pub record AreAnswers (answers : Graph → Judged → Type 0) (g : Graph) (count : ℕ) (judged : List Judged) : Type 0 where
+  pub long : length judged ≡ count
+  pub each : (faults : ℕ) → faults < count → answers (with_fault_number g faults) (row_at judged faults)
 
 -- one row for each fault number from 0 on: the judge's answer for the graph with its best parts and that number
 pub record AreRows (answers : Graph → Judged → Type 0) (g : Graph) (count : ℕ) (rows : List Judged) : Type 0 where

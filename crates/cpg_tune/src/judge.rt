@@ -1,6 +1,8 @@
 //! Judges, which say whether a graph is accepted.
-ghost use Rattle.std.specs.Prelude.{IfOk};
-ghost use Rattle.cpg_tune.specs.Asked.{SameQuestions, SameAnswers};
+ghost use Rattle.std.specs.Prelude.{IfOk, ◌+◌};
+ghost use Rattle.cpg_base.specs.declared.limits.TheConstants.{MOST_FAULTS};
+ghost use Rattle.cpg_tune.specs.Asked.{MayAskEach, SameQuestions, SameAnswers};
+ghost use Rattle.cpg_tune.specs.Tuned.{AreAnswers};
 
 use cpg_base::{OutOfMemory, Problem};
 
@@ -29,12 +31,12 @@ pub trait Judge {
     /// Whether this is the answer for a graph.
     ghost answers: { Self → Graph → Judged → Type 0 };
 
-    /// The answer for a graph.
-    fn judge(&mut self, problem: &Problem) -> Result<Judged, OutOfMemory>
-        requires { may_ask self.old problem.now }
+    /// The answers for a graph with each fault number from 0 to 8 in place of its own.
+    fn judge_each(&mut self, problem: Problem) -> Result<Vec<Judged>, OutOfMemory>
+        requires { MayAskEach (may_ask self.old) problem }
         ensures questions { SameQuestions (may_ask self.old) (may_ask self.new) }
         ensures same { SameAnswers (answers self.old) (answers self.new) }
-        ensures answer { IfOk result (answers self.old problem.now) };
+        ensures answers { IfOk result (λ judged. AreAnswers (answers self.old) problem (MOST_FAULTS + 1) judged.items) };
 
     ghost one_answer: { (judge : Self) (g : Graph) (a b : Judged) → may_ask judge g → answers judge g a → answers judge g b → a ≡ b };
 }

@@ -1,7 +1,7 @@
 //! The tuning of a graph.
 ghost use Rattle.std.specs.Prelude.{◌≡◌, ◌≤◌, ◌+◌, IfOk, length};
 ghost use Rattle.cpg_tune.specs.Best.{best_parts};
-ghost use Rattle.cpg_tune.specs.Asked.{MayAskRows, SameQuestions, SameAnswers, row_graph};
+ghost use Rattle.cpg_tune.specs.Asked.{MayAskRows, SameQuestions, SameAnswers};
 ghost use Rattle.cpg_tune.specs.Tuned.{AreRows, IsTuning, is_accepted, tolerated, IsGreatestAccepted};
 
 use crate::{Judge, Judged, best_parts, retuned};
@@ -63,25 +63,6 @@ fn best_of_each(alloc: Global, problem: &Problem) -> Result<Vec<u32>, OutOfMemor
     Ok(parts)
 }
 
-/// What the judge says of the graph with its best parts and a fault number.
-fn judged<J: Judge>(
-    alloc: Global,
-    problem: &Problem,
-    parts: &[u32],
-    faults: u8,
-    judge: &mut J,
-) -> Result<Judged, OutOfMemory>
-    requires parts { parts.now ≡ best_parts problem.now }
-    requires faults { faults ≤ MOST_FAULTS }
-    requires may { J.may_ask judge.old (row_graph problem.now faults) }
-    ensures questions { SameQuestions (J.may_ask judge.old) (J.may_ask judge.new) }
-    ensures same { SameAnswers (J.answers judge.old) (J.answers judge.new) }
-    ensures answer { IfOk result (J.answers judge.old (row_graph problem.now faults)) }
-{
-    let row = retuned(alloc, problem, parts, faults)?;
-    judge.judge(&row)
-}
-
 /// The judge's answers for the graph with its best parts, for each fault number from 0 to 8.
 fn rows_of<J: Judge>(
     alloc: Global,
@@ -95,10 +76,8 @@ fn rows_of<J: Judge>(
     ensures same { SameAnswers (J.answers judge.old) (J.answers judge.new) }
     ensures rows { IfOk result (λ rows. AreRows (J.answers judge.old) problem.now (MOST_FAULTS + 1) rows.items) }
 {
-    let mut rows = Vec::new(alloc);
-    for faults in 0..=MOST_FAULTS {
-        rows.push(judged(alloc, problem, parts, faults, judge)?)?;
-    }
+    let tuned = retuned(alloc, problem, parts, problem.faults())?;
+    let rows = judge.judge_each(tuned)?;
     Ok(rows)
 }
 

@@ -1,16 +1,10 @@
-use Rattle.std.proofs.Common.{rules, ◌≡◌, ◌∙◌, List, Option, Some, None, IfSome, ap, subst, sym}
-use Rattle.std.specs.Option.{option_map}
+use Rattle.std.proofs.Common.{rules, ◌≡◌, ◌∙◌, None, IfSome, ap, subst, sym}
 use Rattle.cpg_base.specs.Graph.{Graph, process_count}
 use Rattle.cpg_base.specs.Limits.{IsOrderWithin}
+use Rattle.cpg_rules.proofs.FaultNumbers.{orderless_within, of_view}
 use Rattle.cpg_tune.specs.Retuned.{retuned}
-use Rattle.cpg_tune.proofs.AsBefore.{retuned_within, orderless_within}
+use Rattle.cpg_tune.proofs.AsBefore.{retuned_within}
 use Rattle.cpg_tune.proofs.retuning.retuned.Goals as goal
-
--- what holds of the view of an optional value holds of the value
-of_view : {X Y : Type 0} (f : X → Y) (P : Y → Type 0) (r : Option X) (o : Option Y) → option_map f r ≡ o → IfSome o P →
-    IfSome r (λ x. P (f x))
-of_view f P None o e h = tt
-of_view f P (Some x) o e h = subst (λ q. IfSome q P) (sym e) h
 
 -- the retuned graph without its order is within the limits
 pub of-retuned-requires : goal.of-retuned-requires

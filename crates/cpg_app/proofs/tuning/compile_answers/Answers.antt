@@ -1,0 +1,27 @@
+use Rattle.std.proofs.Common.{◌≡◌, ◌+◌, ◌∙◌, sym, ap, subst}
+use Rattle.cpg_base.specs.Graph.{Graph}
+use Rattle.cpg_rules.specs.FaultNumber.{with_fault_number}
+use Rattle.cpg_tune.specs.Tuned.{AreAnswers}
+use Rattle.cpg_tune.proofs.Answered.{answers_push}
+use Rattle.cpg_app.specs.Tunes.{IsJudged}
+use Rattle.cpg_app.proofs.tuning.compile_answers.Goals as goal
+
+pub loop-faults-preserved : goal.loop-faults-preserved
+loop-faults-preserved c =
+    let g : Graph = c.args.admitted.graph in
+    let row = c.in_ok-row.row in
+    let faults = c.loop-faults.faults in
+    let is : row.graph ≡ with_fault_number g faults = c.in_ok-row.ensures.graph ∙ c.loop-faults.invariant.same faults in
+    let judged : IsJudged row.graph c.in_ok-compile_answer.field-0 = record {
+      order = row.order;
+      guards = row.guards;
+      admitted = c.in_ok-row.ensures.admitted;
+      answer = c.in_ok-compile_answer.ensures;
+    } in
+    record {
+      same = λ k. ap (λ (h : Graph). with_fault_number h k) is;
+      answers = subst (AreAnswers IsJudged g (faults + 1)) (sym c.in_ok-push.ensures.items)
+          (answers_push IsJudged g faults c.loop-faults.answers.items c.in_ok-compile_answer.field-0
+          c.loop-faults.invariant.answers
+          (subst (λ (h : Graph). IsJudged h c.in_ok-compile_answer.field-0) is judged));
+    }

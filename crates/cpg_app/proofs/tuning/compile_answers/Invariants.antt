@@ -1,0 +1,12 @@
+use Rattle.std.proofs.Common.{ℕ, ◌≡◌}
+use Rattle.cpg_rules.specs.Admission.{IsAdmitted}
+use Rattle.cpg_rules.specs.FaultNumber.{with_fault_number}
+use Rattle.cpg_tune.specs.Tuned.{AreAnswers}
+use Rattle.cpg_app.specs.Tunes.{IsJudged}
+use Rattle.cpg_app.proofs.tuning.compile_answers.Given as goal
+
+abbrev pub invariant-loop-faults : goal.invariant-loop-faults
+invariant-loop-faults l = record {
+  same : (faults : ℕ) → with_fault_number l.row.graph faults ≡ with_fault_number l.fn.admitted.graph faults;
+  answers : AreAnswers IsJudged l.fn.admitted.graph l.faults l.answers.items;
+}

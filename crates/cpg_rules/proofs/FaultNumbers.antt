@@ -1,0 +1,196 @@
+-- An admitted graph is admitted with any other fault number, and its order and guards stay: only how many faults there
+-- may be rests on that number.
+use Rattle.std.proofs.Common.{ℕ, zero, suc, ◌+◌, ◌≤◌, ◌≡◌, ◌==◌, if◌then◌else◌, Bool, false, not, ◌&&◌, ◌||◌}
+use Rattle.std.proofs.Common.{List, length, get_or, refl, sym, ap, ◌∙◌, subst}
+use Rattle.std.specs.Prelude.{nat_lt, IfSome, IsTrue, Option, None, Some}
+use Rattle.std.specs.Option.{option_map}
+use Rattle.cpg_base.specs.declared.limits.TheConstants.{MOST_FAULTS}
+use Rattle.cpg_base.specs.Numbers.{numbers_below, greatest}
+use Rattle.cpg_base.specs.Graph.{Graph, process_count, condition_count, process_at, edge_at, source, target, inputs}
+use Rattle.cpg_base.specs.Graph.{outputs, is_message, process_of}
+use Rattle.cpg_base.specs.Activity.{is_active, takes, value_of, activation_within, activation, live}
+use Rattle.cpg_base.specs.Bus.{round}
+use Rattle.cpg_base.specs.Duration.{duration}
+use Rattle.cpg_base.specs.Limits.{IsWithinLimits}
+use Rattle.cpg_base.specs.Order.{place}
+use Rattle.cpg_base.specs.WellFormed.{WellFormed, HasSingleJoins}
+use Rattle.cpg_base.proofs.Inputs.{same_activation_by}
+use Rattle.cpg_base.proofs.Lists.{same_filter, same_all, same_map}
+use Rattle.cpg_order.specs.Deciding.{outcomes}
+use Rattle.cpg_order.specs.Guard.{Guard, Leaf, Test, IsOrderedFrom, IsGuardOf}
+use Rattle.cpg_order.specs.Track.{is_track, track_count, most_tracks}
+use Rattle.cpg_order.specs.Urgency.{tail_within, tail, IsUrgencyOrder, IsTopological}
+use Rattle.cpg_rules.specs.Admission.{IsAdmitted}
+use Rattle.cpg_rules.specs.FaultNumber.{with_fault_number}
+use Rattle.cpg_rules.specs.Given.{GivesTopological}
+use Rattle.cpg_rules.specs.Guards.{Guards, tree_of, AreGuardsOf}
+
+-- the graph stays within the limits
+pub limits_same : (g : Graph) (faults : ℕ) → IsWithinLimits g → faults ≤ MOST_FAULTS →
+    IsWithinLimits (with_fault_number g faults)
+limits_same g faults w few = record {
+  faults = few;
+  deadline = w.deadline;
+  few_nodes = w.few_nodes;
+  few_slots = w.few_slots;
+  few_processes = w.few_processes;
+  few_edges = w.few_edges;
+  few_conditions = w.few_conditions;
+  slots = w.slots;
+  processes = w.processes;
+  edges = w.edges;
+  node_names = w.node_names;
+  process_names = w.process_names;
+  own_slots = w.own_slots;
+  order = w.order;
+}
+
+-- a graph stays within the limits without its order
+pub orderless_within : (g : Graph) → IsWithinLimits g → IsWithinLimits (record g { order = None })
+orderless_within g w = record {
+  faults = w.faults;
+  deadline = w.deadline;
+  few_nodes = w.few_nodes;
+  few_slots = w.few_slots;
+  few_processes = w.few_processes;
+  few_edges = w.few_edges;
+  few_conditions = w.few_conditions;
+  slots = w.slots;
+  processes = w.processes;
+  edges = w.edges;
+  node_names = w.node_names;
+  process_names = w.process_names;
+  own_slots = w.own_slots;
+  order = tt;
+}
+
+-- what holds of a view of what is there holds of it
+pub of_view : {X Y : Type 0} (f : X → Y) (P : Y → Type 0) (r : Option X) (o : Option Y) → option_map f r ≡ o →
+    IfSome o P →
+    IfSome r (λ x. P (f x))
+of_view f P None o e h = tt
+of_view f P (Some x) o e h = subst (λ q. IfSome q P) (sym e) h
+
+module _ (g : Graph) (faults : ℕ) where
+  abbrev h : Graph
+  h = with_fault_number g faults
+
+  -- ---- activity
+
+  activation_within_same : (depth : ℕ) (values : List Bool) (p : ℕ) →
+      activation_within depth h values p ≡ activation_within depth g values p
+  activation_within_same zero values p = refl
+  activation_within_same (suc depth) values p =
+      same_activation_by (process_at g p).join (inputs g p) _ _
+      (λ e among. ap (λ a. is_active a && takes (edge_at g e).when (value_of g values (source g e)))
+      (activation_within_same depth values (source g e)))
+
+  activation_same : (values : List Bool) (p : ℕ) → activation h values p ≡ activation g values p
+  activation_same values p = activation_within_same (process_count g) values p
+
+  live_same : (values : List Bool) (e : ℕ) → live h values e ≡ live g values e
+  live_same values e = ap (λ a. is_active a && takes (edge_at g e).when (value_of g values (source g e)))
+      (activation_same values (source g e))
+
+  -- ---- tracks and joins
+
+  track_same : (o : List Bool) → is_track h o ≡ is_track g o
+  track_same o = same_all _ _ (numbers_below (condition_count g))
+      (λ c among. ap (λ a. not (get_or o c false) || is_active a) (activation_same o (process_of g c)))
+
+  tracks_same : track_count h ≡ track_count g
+  tracks_same =
+      ap length (same_filter (is_track h) (is_track g) (outcomes (condition_count g)) (λ o among. track_same o))
+
+  joins_same : HasSingleJoins g → HasSingleJoins h
+  joins_same single p values l join long =
+      subst (λ n. n ≤ 1)
+      (sym (ap length (same_filter (live h values) (live g values) (inputs g p) (λ e among. live_same values e))))
+      (single p values l join long)
+
+  -- ---- orders
+
+  topological_same : (order : List ℕ) → IsTopological g order → IsTopological h order
+  topological_same order top = record { all = top.all; forward = top.forward }
+
+  given_same : GivesTopological g → GivesTopological h
+  given_same = go g.order
+    where
+      go : (o : Option (List ℕ)) → IfSome o (IsTopological g) → IfSome o (IsTopological h)
+      go None none = none
+      go (Some order) top = topological_same order top
+
+  tail_within_same : (depth p : ℕ) → tail_within depth h p ≡ tail_within depth g p
+  tail_within_same zero p = refl
+  tail_within_same (suc depth) p =
+      ap (λ ways. duration g p 0 + greatest ways)
+      (same_map _ _ (outputs g p)
+      (λ e among. ap (λ way. (if is_message g e then round g else 0) + way) (tail_within_same depth (target g e))))
+
+  tail_same : (p : ℕ) → tail h p ≡ tail g p
+  tail_same p = tail_within_same (process_count g) p
+
+  urgency_same : (order : List ℕ) → IsUrgencyOrder g order → IsUrgencyOrder h order
+  urgency_same order urgent = record {
+    all = urgent.all;
+    falling = λ i j d before l. (let p = get_or order i d in let q = get_or order j d in
+        subst (λ n. IsTrue (nat_lt n (tail h p) || ((tail h p == n) && nat_lt p q))) (sym (tail_same q))
+        (subst (λ n. IsTrue (nat_lt (tail g q) n || ((n == tail g q) && nat_lt p q))) (sym (tail_same p))
+        (urgent.falling i j d before l)));
+  }
+
+  -- ---- guards
+
+  ordered_same : (order : List ℕ) (k : ℕ) (tree : Guard) → IsOrderedFrom g order k tree → IsOrderedFrom h order k tree
+  ordered_same order k (Leaf a) is = is
+  ordered_same order k (Test c off on) (within, later, is_off, is_on) = (
+    within,
+    later,
+    ordered_same order (place order (process_of g c) + 1) off is_off,
+    ordered_same order (place order (process_of g c) + 1) on is_on,
+  )
+
+  guard_same : (order : List ℕ) (p : ℕ) (tree : Guard) → IsGuardOf g order p tree → IsGuardOf h order p tree
+  guard_same order p tree guard = record {
+    is = λ o long. guard.is o long ∙ sym (activation_same o p);
+    ordered = ordered_same order 0 tree guard.ordered;
+    reduced = guard.reduced;
+  }
+
+  guards_same : (order : List ℕ) (guards : Guards) → AreGuardsOf g order guards → AreGuardsOf h order guards
+  guards_same order guards are = record {
+    conditions = are.conditions;
+    count = are.count;
+    trees = λ p l. guard_same order p (tree_of guards p) (are.trees p l);
+    edges = are.edges;
+  }
+
+  well_formed_same : WellFormed g → WellFormed h
+  well_formed_same w = record {
+    sources = w.sources;
+    targets = w.targets;
+    nodes = w.nodes;
+    works = w.works;
+    parts = w.parts;
+    slot_nodes = w.slot_nodes;
+    slot_lengths = w.slot_lengths;
+    own_slots = w.own_slots;
+    senders = w.senders;
+    few_processes = w.few_processes;
+    few_conditions = w.few_conditions;
+  }
+
+  pub admitted_same : (order : List ℕ) (guards : Guards) → faults ≤ MOST_FAULTS → IsAdmitted g order guards →
+      IsAdmitted h order guards
+  admitted_same order guards few is = record {
+    limits = limits_same g faults is.limits few;
+    well_formed = well_formed_same is.well_formed;
+    urgency = urgency_same order is.urgency;
+    topological = topological_same order is.topological;
+    tracks = subst (λ n. n ≤ most_tracks) (sym tracks_same) is.tracks;
+    guards = guards_same order guards is.guards;
+    joins = joins_same is.joins;
+    slots = is.slots;
+    sizes = is.sizes;
+    given = given_same is.given;
+  }

@@ -1,0 +1,19 @@
+use Rattle.std.proofs.Common.{◌∙◌, sym, ap, subst}
+use Rattle.cpg_base.specs.Graph.{Graph}
+use Rattle.cpg_rules.specs.Admission.{IsAdmitted}
+use Rattle.cpg_rules.proofs.FaultNumbers.{admitted_same}
+use Rattle.cpg_rules.proofs.admission.Admitted.with_fault_number.Goals as goal
+
+pub invariant_of-result : goal.invariant_of-result
+invariant_of-result c =
+    let self = c.self.inside in (
+      subst (λ (g : Graph). IsAdmitted g self.order self.guards) (sym c.in_ok-problem.ensures)
+          (admitted_same self.problem c.args.faults self.order self.guards c.requires c.self.invariant.0),
+      c.self.invariant.1 ∙ sym (ap (λ (g : Graph). g.order) c.in_ok-problem.ensures),
+    )
+
+pub returns-clause-admitted : goal.returns-clause-admitted
+returns-clause-admitted c =
+    let self = c.self.inside in
+    subst (λ (g : Graph). IsAdmitted g self.order self.guards) (sym c.in_ok-problem.ensures)
+    (admitted_same self.problem c.args.faults self.order self.guards c.requires c.self.invariant.0)
