@@ -188,9 +188,10 @@ module _ {g : Graph} {tables : List NodeTable} {lasts : Scenario → ℕ} {y : �
   ]
 
 -- the courses of two items
-module _ {g : Graph} {tables : List NodeTable} (lasts : ℕ → Scenario → ℕ) {y x : ℕ} {one other : Course}
-    (is : IsCourse g tables (lasts y) y one) (by : IsCourse g tables (lasts x) x other) where
-  -- an item that is over by the first column of another is over before it
+module _ {g : Graph} {tables : List NodeTable}
+    (lasts : ℕ → Scenario → ℕ) {long : Scenario → ℕ} {y x : ℕ} {one other : Course}
+    (is : IsCourse g tables (lasts y) y one) (by : IsCourse g tables long x other) where
+  -- what is over by the first column of another is over before it
   pub early_before : one.last + one.span.longest ≤ other.first → IsOver lasts g tables y x
   early_before h s c law here m = early_over is law c.time
       (omega (arith, h, All-contains (λ (d : Column). other.first ≤ d.time) (columns_of tables x) c by.first here))

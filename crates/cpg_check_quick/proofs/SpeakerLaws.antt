@@ -1,9 +1,11 @@
 -- What frames that reach a node tell it.
 use Rattle.std.proofs.Common.{ℕ, ◌+◌, ◌<◌, ◌≤◌, ◌≡◌, ◌⊎◌, true, List, Option, None, Some, All, Contains, IfSome, get_or}
-use Rattle.std.proofs.Common.{length, refl, sym, ap, ◌∙◌, subst, arith, inl, inr, leb-true}
+use Rattle.std.proofs.Common.{length, take, drop, ◌++◌, refl, sym, ap, ◌∙◌, subst, arith, inl, inr, leb-true}
 use Rattle.std.proofs.lemmas.Bool.{and_parts}
-use Rattle.std.proofs.lemmas.List.{get_or_default}
-use Rattle.std.proofs.lemmas.List.Elements.{All-contains, Contains-append_left, Contains-append_right, Contains-get_or}
+use Rattle.std.proofs.lemmas.List.{get_or_default, take-append-drop}
+use Rattle.std.proofs.lemmas.List.Elements.{All-contains, Contains-append_cases, Contains-append_left}
+use Rattle.std.proofs.lemmas.List.Elements.{Contains-append_right, Contains-get_or}
+use Rattle.std.proofs.lemmas.List.Folds.{list_all-append}
 use Rattle.cpg_base.specs.Bus.{slot_length}
 use Rattle.cpg_base.specs.Graph.{Graph, home, item_at}
 use Rattle.cpg_base.proofs.Lists.{from_all}
@@ -16,7 +18,7 @@ use Rattle.cpg_cube.specs.declared.column.Column.{Column}
 use Rattle.cpg_cube.specs.Column.{column_at}
 use Rattle.cpg_row_trees.specs.Places.{IsAmong, place_at}
 use Rattle.cpg_row_trees.proofs.TreeLaws.{place_matches, place_there}
-use Rattle.cpg_check_quick.specs.Hearing.{AreLeft, IsHeardIn}
+use Rattle.cpg_check_quick.specs.Hearing.{AreLeft, IsAllHeard, IsHeardIn}
 use Rattle.cpg_check_quick.specs.Speakers.{AreToldIn, HasCome, IsSpeaker, IsTold, IsToldIn}
 use Rattle.cpg_check_quick.specs.declared.speakers.Speaker.{Speaker}
 use Rattle.cpg_check_quick.proofs.HeardLaws.{heard_frame}
@@ -104,6 +106,40 @@ module _ (g : Graph) (tables : List NodeTable) (node : ℕ) (c : Column) where
     among = λ l h. before.among l (here.among l h);
     heard = λ l h. elim (before.heard l h) [ inl kept ↦ here.heard l kept | inr heard ↦ inr heard ];
   }
+
+-- the speaker that a look-up finds
+pub speaker_at : {g : Graph} {tables : List NodeTable} {node : ℕ} {all : List Speaker} →
+    All (IsSpeaker g tables node) all
+    → (i : ℕ) (speaker : Speaker) (list : List Speaker) → list ≡ all → i < length list → speaker ≡ get_or list i speaker
+    → IsSpeaker g tables node speaker
+speaker_at {g = g} {tables = tables} {node = node} each i speaker list same l is =
+    subst (IsSpeaker g tables node) (sym (is ∙ ap (λ (ys : List Speaker). get_or ys i speaker) same))
+    (each i speaker (omega (arith, l, ap length same)))
+
+-- a column that begins with the literals of one whose frame has come by its time
+module _ {g : Graph} {tables : List NodeTable}
+    {node : ℕ} {speaker : Speaker} (is : IsSpeaker g tables node speaker) (c d : Column)
+    (there : Contains (columns_of tables speaker.item) d) (come : d.time + speaker.delay ≤ c.time)
+    (begins : take (length d.cube) c.cube ≡ d.cube) where
+  both_parts : d.cube ++ drop (length d.cube) c.cube ≡ c.cube
+  both_parts = ap (λ front. front ++ drop (length d.cube) c.cube) (sym begins) ∙ take-append-drop (length d.cube) c.cube
+
+  first_matches : (s : Scenario) → matches c.cube s ≡ true → matches d.cube s ≡ true
+  first_matches s m = (and_parts _ _ (sym (list_all-append (holds s) d.cube (drop (length d.cube) c.cube))
+      ∙ ap (λ cube. matches cube s) both_parts ∙ m)).0
+
+  -- if the literals behind these are heard, all are
+  pub begun_heard : ((l : Literal) → Contains (drop (length d.cube) c.cube) l → IsHeardIn g tables node c l) →
+      IsAllHeard g tables node c
+  begun_heard behind l h = elim (Contains-append_cases d.cube (drop (length d.cube) c.cube) l
+      (subst (λ cube. Contains cube l) (sym both_parts) h)) as (λ _. IsHeardIn g tables node c l) [
+        | inl first ↦
+            λ s law m. heard_frame g tables node c.time s l speaker.item d l is.item is.heard there (first_matches s m)
+            (omega (arith, come, is.delay))
+            (Contains-append_left d.cube (frame_value s (item_at g speaker.item)) l first) refl
+            (omega arith) (omega arith)
+        | inr rest ↦ behind l rest
+      ]
 
 -- the column at the only place is that at all
 pub only_place : (columns : List Column) (places : List ℕ) (c : Column) → length places ≡ 1 →

@@ -1,5 +1,5 @@
 -- Literals of columns that nodes have heard by the columns' times.
-use Rattle.std.specs.Prelude.{ℕ, ◌≡◌, ◌<◌, ◌⊎◌, true, false, Bool, List, Contains, get_or}
+use Rattle.std.specs.Prelude.{ℕ, ◌≡◌, ◌<◌, ◌⊎◌, true, false, Bool, List, All, Contains, drop, get_or, length, take}
 use Rattle.cpg_base.specs.Activity.{active}
 use Rattle.cpg_base.specs.Graph.{Graph, IsVariable, home, node_of, process_count, process_of_variable}
 use Rattle.cpg_base.specs.Scenario.{Scenario, IsScenario}
@@ -50,6 +50,11 @@ pub record IsOwnEnded (g : Graph) (tables : List NodeTable) (x v : ℕ) : Type 0
 -- all variables that are marked are of processes on the item's node that have always ended by its columns
 abbrev pub AreOwnEnded : Graph → List NodeTable → ℕ → List Bool → Type 0
 AreOwnEnded g tables x marks = (v : ℕ) → get_or marks v false ≡ true → IsOwnEnded g tables x v
+
+-- literals begin with others, and all behind these are on marked variables
+pub record BeginsWith (known : List Bool) (literals others : List Literal) : Type 0 where
+  pub first : take (length others) literals ≡ others
+  pub behind : All (λ l. get_or known l.variable false ≡ true) (drop (length others) literals)
 
 -- the process of a variable is on a node and over by a time
 pub record IsOwnOver (g : Graph) (tables : List NodeTable) (node v time : ℕ) (s : Scenario) : Type 0 where

@@ -24,14 +24,14 @@ use std::alloc::Global;
 #[derive(Drop)]
 struct TimeParts<'a> {
     columns: &'a [Column],
-    span: ItemSpan,
-    other: ItemSpan,
+    span: &'a ItemSpan,
+    other: &'a ItemSpan,
     time: u64,
 }
 
 impl<'a> Test for TimeParts<'a> {
-    ghost guarantees = { λ test place s. IfSome place (λ i. IsPast test.span (column_at test.columns.now i).time test.time s ⊎
-        IsPast test.other test.time (column_at test.columns.now i).time s) };
+    ghost guarantees = { λ test place s. IfSome place (λ i. IsPast test.span.now (column_at test.columns.now i).time test.time s ⊎
+        IsPast test.other.now test.time (column_at test.columns.now i).time s) };
 
     fn passes(&self, place: Option<u32>, space: &Space) -> bool {
         let Some(place) = place else {
@@ -77,8 +77,8 @@ impl<'a> Course<'a> {
         };
         let test = TimeParts {
             columns: self.columns,
-            span: self.span,
-            other: other.span,
+            span: &self.span,
+            other: &other.span,
             time,
         };
         tree.do_pass(space, &test)

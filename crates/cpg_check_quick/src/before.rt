@@ -21,12 +21,12 @@ use cpg_tree::Space;
 #[derive(Drop)]
 struct Ends<'a> {
     columns: &'a [Column],
-    span: ItemSpan,
+    span: &'a ItemSpan,
     time: u64,
 }
 
 impl<'a> Test for Ends<'a> {
-    ghost guarantees = { λ test place s. IfSome place (λ i. IsPast test.span (column_at test.columns.now i).time test.time s) };
+    ghost guarantees = { λ test place s. IfSome place (λ i. IsPast test.span.now (column_at test.columns.now i).time test.time s) };
 
     fn passes(&self, place: Option<u32>, space: &Space) -> bool {
         // no column matches, so there is nothing to be over
@@ -88,7 +88,7 @@ impl<'a> Course<'a> {
     {
         let test = Ends {
             columns: self.columns,
-            span: self.span,
+            span: &self.span,
             time,
         };
         test.passes(place, space)
@@ -97,8 +97,8 @@ impl<'a> Course<'a> {
     /// Whether the item is over before another that has a tree: a walk down both trees has the scenarios of each two
     /// columns.
     fn ends_before(&self, everywhere: &Space, other: &Course<'_>, tree: &Places) -> bool
-        ensures { OnTrue result ((g : Graph) (tables : List NodeTable) (lasts : ℕ → Scenario → ℕ) (y x : ℕ) → HasAll g everywhere.now →
-            IsCourse g tables (lasts y) y self.now → IsCourse g tables (lasts x) x other.now → other.now.tree.now ≡ Some tree.now → IsOver lasts g tables y x) }
+        ensures { OnTrue result ((g : Graph) (tables : List NodeTable) (lasts : ℕ → Scenario → ℕ) (long : Scenario → ℕ) (y x : ℕ) →
+            HasAll g everywhere.now → IsCourse g tables (lasts y) y self.now → IsCourse g tables long x other.now → other.now.tree.now ≡ Some tree.now → IsOver lasts g tables y x) }
     {
         // its latest end is no later than the other's first time
         if has_come(self.last, self.span.longest, other.first) {
@@ -129,7 +129,7 @@ impl<'a> Course<'a> {
         };
         let test = Ends {
             columns: self.columns,
-            span: self.span,
+            span: &self.span,
             time,
         };
         tree.do_pass(space, &test)
@@ -202,8 +202,8 @@ impl<'a> Courses<'a> {
 
     /// Whether each of these items is over before another, which has a tree: wherever a column of each matches.
     fn end_before(&self, items: &[u32], course: &Course<'_>, tree: &Places) -> bool
-        ensures { OnTrue result ((g : Graph) (tables : List NodeTable) (lasts : ℕ → Scenario → ℕ) (x : ℕ) → AreCourses lasts g tables self.now →
-            IsCourse g tables (lasts x) x course.now → course.now.tree.now ≡ Some tree.now → All (λ y. IsOver lasts g tables y x) items.now) }
+        ensures { OnTrue result ((g : Graph) (tables : List NodeTable) (lasts : ℕ → Scenario → ℕ) (long : Scenario → ℕ) (x : ℕ) →
+            AreCourses lasts g tables self.now → IsCourse g tables long x course.now → course.now.tree.now ≡ Some tree.now → All (λ y. IsOver lasts g tables y x) items.now) }
     {
         for item in items {
             let Some(one) = self.list.get(*item as usize) else {
@@ -219,8 +219,8 @@ impl<'a> Courses<'a> {
     /// Whether each of these items is over before another, by the other's tree, if it has one: wherever a column of
     /// each matches.
     pub(crate) fn precede(&self, items: &[u32], course: &Course<'_>) -> bool
-        ensures { OnTrue result ((g : Graph) (tables : List NodeTable) (lasts : ℕ → Scenario → ℕ) (x : ℕ) →
-            AreCourses lasts g tables self.now → IsCourse g tables (lasts x) x course.now → All (λ y. IsOver lasts g tables y x) items.now) }
+        ensures { OnTrue result ((g : Graph) (tables : List NodeTable) (lasts : ℕ → Scenario → ℕ) (long : Scenario → ℕ) (x : ℕ) →
+            AreCourses lasts g tables self.now → IsCourse g tables long x course.now → All (λ y. IsOver lasts g tables y x) items.now) }
     {
         // without a tree of the other's row, its columns are gone over one by one
         let Some(tree) = course.tree else {

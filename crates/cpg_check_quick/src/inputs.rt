@@ -55,7 +55,7 @@ fn is_sure(
         IsSure waiting.now.admitted.now.graph tables Rule.Inputs item)) }
 {
     if item as usize >= waiting.admitted.problem().processes().len() {
-        return Ok(waiting.is_after_producer(item, columns));
+        return Ok(waiting.is_after_producer(item));
     }
     let sure = is_start_sure(alloc, waiting, item, columns)?;
     Ok(sure)

@@ -9,17 +9,18 @@ ghost use Rattle.cpg_table.specs.declared.rule.Rule.{Rule};
 ghost use Rattle.cpg_tree.specs.Space.{IsInSpace};
 ghost use Rattle.cpg_violation.specs.Sure.{IsSure};
 ghost use Rattle.cpg_violation.specs.Violation.{AllHold, row_rules};
-ghost use Rattle.cpg_check_quick.specs.Hearing.{AreLeft, AreOwnEnded, IsAllHeard, IsEndedBy, IsOwnEnded, IsOwnOver, IsOwner};
+ghost use Rattle.cpg_check_quick.specs.Hearing.{AreLeft, AreOwnEnded, BeginsWith, IsAllHeard, IsEndedBy, IsOwnEnded, IsOwnOver, IsOwner};
 ghost use Rattle.cpg_check_quick.specs.Listening.{IsListener};
 ghost use Rattle.cpg_check_quick.specs.Order.{IsOverBy, execution};
 ghost use Rattle.cpg_check_quick.specs.Speakers.{AreToldIn, IsSpeaker};
 ghost use Rattle.cpg_check_quick.specs.Turns.{AreTurns};
 
 use crate::bounds::list_unknown;
-use crate::speakers::Speaker;
+use crate::speakers::{Speaker, has_come};
 use crate::turns::Turns;
 use cpg_base::{OutOfMemory, Problem, Variable};
 use cpg_cube::{Column, Cube, Literal, VARIABLES};
+use cpg_row_trees::are_same_literals;
 use cpg_rules::Admitted;
 use cpg_tree::Space;
 use std::alloc::Global;
@@ -185,6 +186,20 @@ pub(crate) fn are_all_known(known: &[bool; VARIABLES], columns: &[Column]) -> bo
     true
 }
 
+/// Whether literals begin with others, and those behind them are all on known variables.
+fn begin_with(known: &[bool; VARIABLES], literals: &[Literal], others: &[Literal]) -> bool
+    ensures { OnTrue result (BeginsWith known.now literals.now others.now) }
+{
+    let count = others.len();
+    if literals.len() < count {
+        return false;
+    }
+    if !are_known(known, &literals[count..]) {
+        return false;
+    }
+    are_same_literals(&literals[..count], others)
+}
+
 /// What the node of an item knows by the item's columns: the variables of its own processes that have always ended, and
 /// what it hears.
 #[derive(Drop)]
@@ -245,6 +260,45 @@ impl<'a> Listener<'a> {
         true
     }
 
+    /// Whether the frame of an item's column at a place tells all of a column that the node doesn't know: the column begins with that
+    /// one's literals.
+    fn is_told_by(&self, speaker: &Speaker<'_>, place: usize, column: &Column) -> bool
+        ensures { OnTrue result ((tables : List NodeTable) (x : ℕ) → IsListener tables x self.now →
+            IsSpeaker self.now.admitted.now.graph tables self.now.node speaker.now → AllHold self.now.admitted.now.graph tables row_rules →
+            Contains (columns_of tables x) column.now → IsAllHeard self.now.admitted.now.graph tables self.now.node column.now) }
+    {
+        // called for its contract: the graph is admitted
+        let _problem = self.admitted.problem();
+        let Some(own) = speaker.columns.get(place) else {
+            return false;
+        };
+        if !has_come(own.time, speaker.delay, column.time) {
+            return false;
+        }
+        begin_with(&self.known, column.cube.literals(), own.cube.literals())
+    }
+
+    /// Whether the first item that the node hears tells all of a column that the node doesn't know, by its own column at a place or by
+    /// the next, whose place is then noted: mostly the columns of a message and of its target stand alike.
+    fn is_told(&self, column: &Column, place: &mut usize) -> bool
+        ensures { OnTrue result ((tables : List NodeTable) (x : ℕ) → IsListener tables x self.now →
+            AllHold self.now.admitted.now.graph tables row_rules → Contains (columns_of tables x) column.now →
+            IsAllHeard self.now.admitted.now.graph tables self.now.node column.now) }
+    {
+        let Some(speaker) = self.speakers.get(0) else {
+            return false;
+        };
+        if self.is_told_by(speaker, *place, column) {
+            return true;
+        }
+        let next = place.saturating_add(1);
+        if !self.is_told_by(speaker, next, column) {
+            return false;
+        }
+        *place = next;
+        true
+    }
+
     /// Keeps those of the wanted literals, each as wide as one of a column, that the node hasn't been told by others by the
     /// column's time wherever that matches, in a space that has all these scenarios. `left` is for literals.
     fn listen(
@@ -274,10 +328,11 @@ impl<'a> Listener<'a> {
     }
 
     /// Whether the node has heard all literals of one of the item's columns by its time, wherever it matches: the low of
-    /// each and its high, which different items may have told.
+    /// each and its high, which different items may have told. One column of the first item, at a place, may tell all.
     fn hears(
         &self,
         column: &Column,
+        place: &mut usize,
         places: &mut Vec<u32>,
         wanted: &mut Vec<Literal>,
         left: &mut Vec<Literal>,
@@ -286,6 +341,9 @@ impl<'a> Listener<'a> {
             AllHold self.now.admitted.now.graph tables row_rules → Contains (columns_of tables x) column.now →
             IsAllHeard self.now.admitted.now.graph tables self.now.node column.now)) }
     {
+        if self.is_told(column, place) {
+            return Ok(true);
+        }
         let literals = column.cube.literals();
         let problem = self.admitted.problem();
         // in place, since a space is long to copy
@@ -304,11 +362,12 @@ impl<'a> Listener<'a> {
             AllHold self.now.admitted.now.graph tables row_rules → columns.now ≡ columns_of tables x →
             All (IsAllHeard self.now.admitted.now.graph tables self.now.node) columns.now)) }
     {
+        let mut place = 0;
         let mut places = Vec::new(alloc);
         let mut wanted = Vec::new(alloc);
         let mut left = Vec::new(alloc);
         for column in columns {
-            let heard = self.hears(column, &mut places, &mut wanted, &mut left)?;
+            let heard = self.hears(column, &mut place, &mut places, &mut wanted, &mut left)?;
             if !heard {
                 return Ok(false);
             }

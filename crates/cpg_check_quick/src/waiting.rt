@@ -4,7 +4,7 @@ ghost use Rattle.std.specs.Bool.{OnTrue};
 ghost use Rattle.cpg_base.specs.Activity.{live};
 ghost use Rattle.cpg_base.specs.Graph.{edge_count, item_count, process_count, producer};
 ghost use Rattle.cpg_base.specs.Scenario.{Scenario, IsScenario};
-ghost use Rattle.cpg_table.specs.Table.{NodeTable, columns_of};
+ghost use Rattle.cpg_table.specs.Table.{NodeTable};
 ghost use Rattle.cpg_tree.specs.Space.{IsInSpace};
 ghost use Rattle.cpg_violation.specs.Violation.{AllHold, row_rules};
 ghost use Rattle.cpg_check_quick.specs.Inputs.{IsFromBefore, IsInputCourse, IsInputOver, IsInputThere, IsLateEnough, IsWaiting};
@@ -182,12 +182,15 @@ impl<'a> Waiting<'a> {
     }
 
     /// Whether the producer of a send is always over before each of its columns.
-    pub(crate) fn is_after_producer(&self, item: u32, columns: &[Column]) -> bool
+    pub(crate) fn is_after_producer(&self, item: u32) -> bool
         requires item { item < item_count self.now.admitted.now.graph }
         ensures { OnTrue result ((tables : List NodeTable) → IsWaiting self.now.admitted.now.graph tables self.now →
-            columns.now ≡ columns_of tables item → IsBefore self.now.admitted.now.graph tables (producer self.now.admitted.now.graph item) item) }
+            IsBefore self.now.admitted.now.graph tables (producer self.now.admitted.now.graph item) item) }
     {
         let producer = self.admitted.problem().producer(item);
-        self.turns.courses.come_before(&[producer], columns)
+        let Some(course) = self.frames.list.get(item as usize) else {
+            return false;
+        };
+        self.turns.courses.precede(&[producer], course)
     }
 }

@@ -46,6 +46,10 @@ fn is_sure(admitted: &Admitted, trees: &[Option<Places>], item: u32) -> bool
     let Some(Some(tree)) = trees.get(item as usize) else {
         return false;
     };
+    // mostly so, and then nothing is to be asked of scenarios
+    if tree.are_everywhere() {
+        return true;
+    }
     let space = Space::whole(admitted.problem().faults());
     tree.do_pass(&space, &Presence { admitted, item })
 }

@@ -9,5 +9,6 @@ mod trees;
 mod walk;
 
 pub use places::Places;
+pub use slices::are_same_literals;
 pub use trees::{row_trees, tree_of};
 pub use walk::{PairTest, Test};

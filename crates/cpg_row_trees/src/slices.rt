@@ -270,7 +270,7 @@ fn are_each_same(literals: &[Literal], others: &[Literal]) -> bool
 }
 
 /// Whether literals are the same.
-pub(crate) fn are_same_literals(literals: &[Literal], others: &[Literal]) -> bool
+pub fn are_same_literals(literals: &[Literal], others: &[Literal]) -> bool
     ensures { OnTrue result (literals.now ≡ others.now) }
 {
     // fewer than eight are left: these are compared one by one

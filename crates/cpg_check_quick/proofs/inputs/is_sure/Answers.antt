@@ -15,5 +15,4 @@ returns-then-item-processes c =
       ap length c.processes.ensures.processes,
       ap process_count c.problem.ensures.problem,
     ) in
-    send_sure g tables rules c.problem.ensures.admitted.well_formed c.args.item c.requires.item send
-    (before tables w is))
+    send_sure g tables rules c.problem.ensures.admitted.well_formed c.args.item c.requires.item send (before tables w))

@@ -1,9 +1,20 @@
 use Rattle.std.proofs.Common.{◌≡◌, ◌∙◌, ap}
 use Rattle.cpg_base.specs.Graph.{Graph}
+use Rattle.cpg_tree.proofs.Forks.{from_true}
 use Rattle.cpg_tree.proofs.Passes.{of_true}
 use Rattle.cpg_check_rows.proofs.TreeRows.{present_sure, tree_at}
 use Rattle.cpg_violation.proofs.SpaceLaws.{few_of}
 use Rattle.cpg_check_rows.proofs.quick_present.is_sure.Goals as goal
+
+-- the tree has a place everywhere, so the item is present in each scenario and keeps V3
+pub returns-then-are_everywhere : goal.returns-then-are_everywhere
+returns-then-are_everywhere c tables are =
+    let g = c.args.admitted.now.graph in
+    let there = from_true c.are_everywhere.result c.if-are_everywhere.true c.are_everywhere.ensures in
+    present_sure g tables c.args.item (tree_at g tables c.args.trees.now c.args.item c.in-Some-Some.field-0.now
+    c.in-Some-Some.tree c.in-Some-Some.ensures.lookup.3.0 c.in-Some-Some.ensures.lookup.1
+    c.in-Some-Some.field-0-is are)
+    (λ s law none. absurd (there s none))
 
 -- wherever the tree has no place, the item is inactive, so the item keeps V3
 pub returns : goal.returns

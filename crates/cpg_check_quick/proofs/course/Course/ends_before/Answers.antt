@@ -5,10 +5,10 @@ use Rattle.cpg_check_quick.proofs.course.Course.ends_before.Goals as goal
 
 -- the item ends by the earliest time of the other, so it is over before it begins
 pub returns-then-has_come : goal.returns-then-has_come
-returns-then-has_come c = λ g tables lasts y x everywhere is by there.
+returns-then-has_come c = λ g tables lasts long y x everywhere is by there.
     early_before lasts is by (OnTrue_at c.if-has_come.true c.has_come.ensures)
 
 -- the two trees are walked together, and wherever both have a time, the item is over by the other's
 pub returns : goal.returns
-returns c = of_true c.do_pass_with.result c.do_pass_with.ensures (λ all g tables lasts y x everywhere is by there.
+returns c = of_true c.do_pass_with.result c.do_pass_with.ensures (λ all g tables lasts long y x everywhere is by there.
     walked_before lasts is by c.in-Some.own c.args.tree.now c.in-Some.is there (λ s law. all s (everywhere.lies s law)))

@@ -15,8 +15,8 @@ loop-place-preserved c = turn_step c.args.self.now c.args.items.now c.loop-place
     (λ g tables lasts are.
     let course = course_at are (get_or c.args.items.now c.loop-place.place 0) c.in-Some.course.now c.deref.result.now
     c.deref.ensures.value c.in-Some.ensures.lookup.3.0 c.in-Some.ensures.lookup.1 in
-    OnTrue_at c.if-not-precede.false c.precede.ensures g tables lasts
-    (get_or c.args.items.now c.loop-place.place 0) are course)
+    let item = get_or c.args.items.now c.loop-place.place 0 in
+    OnTrue_at c.if-not-precede.false c.precede.ensures g tables lasts (lasts item) item are course)
     c.loop-place.invariant
 
 -- all places are gone over, so all items are in turn

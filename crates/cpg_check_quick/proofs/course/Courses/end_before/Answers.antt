@@ -8,16 +8,16 @@ use Rattle.cpg_check_quick.proofs.course.Courses.end_before.Goals as goal
 
 -- the next item ends before the other, by the course that was looked up
 pub loop-item-preserved : goal.loop-item-preserved
-loop-item-preserved c = λ g tables lasts x are is there.
+loop-item-preserved c = λ g tables lasts long x are is there.
     let item = get_or c.args.items.now c.loop-item.item-index 0 in
     All-more (λ y. IsOver lasts g tables y x) c.args.items.now c.loop-item.item-index 0 c.loop-item-test.true
-    (c.loop-item.invariant g tables lasts x are is there)
-    (OnTrue_at c.if-not-ends_before.false c.ends_before.ensures g tables lasts item x are.everywhere
+    (c.loop-item.invariant g tables lasts long x are is there)
+    (OnTrue_at c.if-not-ends_before.false c.ends_before.ensures g tables lasts long item x are.everywhere
     (course_at are item c.in-Some.one.now c.deref.result.now c.deref.ensures.value c.in-Some.ensures.lookup.3.0
     c.in-Some.ensures.lookup.1) is there)
 
 -- the loop has gone over all of them, so what holds of those so far holds of all
 pub returns : goal.returns
-returns c = λ g tables lasts x are is there.
+returns c = λ g tables lasts long x are is there.
     each_all (λ y. IsOver lasts g tables y x) c.args.items.now c.loop-item.item-index c.loop-item-test.false
-    (c.loop-item.invariant g tables lasts x are is there)
+    (c.loop-item.invariant g tables lasts long x are is there)

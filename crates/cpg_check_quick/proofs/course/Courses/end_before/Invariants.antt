@@ -8,7 +8,7 @@ use Rattle.cpg_check_quick.proofs.course.Courses.end_before.Given as goal
 
 -- each item so far is over before the item of the other course, wherever columns of both match
 abbrev pub invariant-loop-item : goal.invariant-loop-item
-invariant-loop-item l = (g : Graph) (tables : List NodeTable) (lasts : ℕ → Scenario → ℕ) (x : ℕ) →
-    AreCourses lasts g tables l.self → IsCourse g tables (lasts x) x l.course →
+invariant-loop-item l = (g : Graph) (tables : List NodeTable) (lasts : ℕ → Scenario → ℕ) (long : Scenario → ℕ) (x : ℕ) →
+    AreCourses lasts g tables l.self → IsCourse g tables long x l.course →
     l.course.tree.now ≡ Some l.tree →
     All (λ y. IsOver lasts g tables y x) (take l.item-index l.items)

@@ -4,9 +4,9 @@ use Rattle.cpg_check_quick.proofs.course.Courses.precede.Goals as goal
 -- the other item has no tree, so its columns are gone over
 pub returns-in_default : goal.returns-in_default
 returns-in_default c = of_true c.come_before.result c.come_before.ensures
-    (λ all g tables lasts x are is. all g tables lasts x are is.columns)
+    (λ all g tables lasts long x are is. all g tables lasts x are is.columns)
 
 -- the other item has a tree, along which each item ends before it
 pub returns : goal.returns
 returns c = of_true c.end_before.result c.end_before.ensures
-    (λ all g tables lasts x are is. all g tables lasts x are is c.in-Some.is)
+    (λ all g tables lasts long x are is. all g tables lasts long x are is c.in-Some.is)
