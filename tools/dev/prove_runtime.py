@@ -12,11 +12,15 @@ some are named. With --memory it does the first one alone, which is the quick wa
 - Table: WP on the lemmas of cpg_spec.h, and on the behavior `table` of one function of cpg_node.c after another, with a line for each. A
   function is asked in a file of its own, with the contracts of those that it calls, so that a prover reads no more than it needs.
 
-A line after it names each goal that wasn't proved. The last line has the sum. The status is 0 if all were proved. With --smoke it also looks
-whether a contract can't be met, so that all of it would be proved in vain. With --wrong it tries the wrong bodies of runtime/c/test/wrong.py
-instead, with the default macros and for x86_64 unless others are named. It asks for the goals that are to refuse a body, which each names, and
-says which are left. A body is refused if one is, and the right body leaves none by the same limits. If frama-c, why3 or a prover is missing,
-a line says so, and nothing is done.
+A line after it names each goal that wasn't proved. The last line has the sum. The status is 0 if all were proved.
+
+runtime/c/test/left_by_PROVER.txt keeps the goals by a lawful table that one prover leaves alone: a machine model, macros and a goal a line. If
+just that prover is asked, by one --by, the status is 0 too if it leaves no other goal. A line names each that it proves though it is kept.
+
+With --smoke the tool also looks whether a contract can't be met, so that all of it would be proved in vain. With --wrong it tries the wrong
+bodies of runtime/c/test/wrong.py instead, with the default macros and for x86_64 unless others are named. It asks for the goals that are to
+refuse a body, which each names, and says which are left. A body is refused if one is, and the right body leaves none by the same limits. If
+frama-c, why3 or a prover is missing, a line says so, and nothing is done.
 
 Debian's packages: frama-c-base why3 cvc4 cvc5 z3.
 """
@@ -25,6 +29,7 @@ import hashlib
 import importlib.util
 import os
 import re
+import resource
 import subprocess
 import tempfile
 import time
@@ -36,7 +41,7 @@ from cpgc_tools import cli, program
 
 Setting = tuple[str, str]  # a machine model and a name of MACROS
 Run = tuple[str, Path, list[str], list[str]]  # of WP: its name, a source, functions of it, and more words
-Answer = tuple[int, int, list[str]]  # the goals that are proved, all of them, and the names of those that aren't
+Answer = tuple[int, int, list[str], list[str]]  # how many goals are proved, how many there are, and names of those that aren't and that are
 
 FOLDER = Path(__file__).resolve().parents[2] / "runtime" / "c"
 SOURCES = ["cpg_node.c", "cpg_open.c"]
@@ -45,13 +50,19 @@ MACROS: dict[str, list[str]] = {
     "default": [],
     # those of `c-table pair.pack N2 --sizes`
     "small": ["CPG_MAX_PROCESSES=2U", "CPG_MAX_CONDITIONS=1U", "CPG_MAX_OWN=1U", "CPG_MAX_ROWS=2U", "CPG_MAX_COLUMNS=4U"]}
-# In the order in which they are tried, each with its words. With --macros-quant cvc4 puts definitions in their places.
+# In the order in which they are tried, each with its words. With --macros-quant a prover puts definitions in their places.
 PROVERS: dict[str, tuple[str, str, str]] = {
     "cvc4-macros": ("cvc4", "--lang=smt2 --macros-quant", "cvc4_17"),
     "cvc5": ("cvc5", "--lang=smt2 --force-logic=ALL", "cvc4_17"),
+    "cvc5-macros": ("cvc5", "--lang=smt2 --force-logic=ALL --macros-quant", "cvc4_17"),
     "cvc4": ("cvc4", "--lang=smt2", "cvc4_17"),
     "z3": ("z3", "-smt2 -T:1000000", "z3_440")}
-SHORT = [("cvc4-macros", 1), ("cvc5", 1), ("cvc4-macros", 3), ("cvc5", 3)]  # seconds, before each prover has all of its time
+# Seconds, before each prover has all of its time. z3 proves one lemma at once that the others leave.
+SHORT = [("cvc4-macros", 2), ("cvc5", 3), ("cvc4-macros", 8), ("z3", 1), ("cvc5-macros", 6)]
+# Frama-C itself takes a third of the processor time. So a simplification without which all is proved too is left out, and garbage is
+# collected less often.
+QUICK = ["-wp-no-ground"]
+OCAML = "s=8M,o=400"
 LEMMAS = "lemmas"  # asks for the lemmas of cpg_spec.h, in place of a function
 LONGEST = 3600  # seconds of the clock for a goal, on a machine that does much else
 # What would let a goal be proved in vain: an annotation that isn't understood, and a function that is called without a contract.
@@ -59,6 +70,7 @@ FATAL = "annot-error=abort,annot:missing-spec=abort,typing:implicit-function-dec
 DEFINITION = re.compile(r"^(?:static )?\w+ (\w+)\([^;{]*\)\n\{", re.MULTILINE)
 COUNTS = re.compile(r"Proved goals:\s*(\d+) / (\d+)")
 LEFT = re.compile(r"^\[wp\] \[[^]]*\] Goal (\w+)(?! : Valid)\b", re.MULTILINE)
+PROVED = re.compile(r"^\[wp\] \[[^]]*\] Goal (\w+) : Valid\b", re.MULTILINE)
 # What is said by a lawful table: a behavior, at the end of its comment or alone in it, clauses of loops, and assertions.
 BY_TABLE = re.compile(r"/\*@ behavior table:.*?\*/|\n\s*behavior table:.*?(?= \*/)|for table: .*?;(?=\n| \*/)", re.DOTALL)
 EMPTY = re.compile(r"/\*@\s*\*/|//@\s*(?=\n)")
@@ -138,18 +150,32 @@ def command(source: Path, functions: list[str], words: list[str], setting: Setti
     flags = " ".join(["-std=c99", f"-I{source.parent}", f"-I{FOLDER}", *(f"-D{macro}" for macro in MACROS[macros])])
     provers = ",".join(f"{name}:{seconds}" for name, seconds in tries(asked))
     smoke = ["-wp-smoke-tests"] if asked.smoke else []
-    return ["frama-c", "-machdep", machine, f"-cpp-extra-args={flags}", "-kernel-warn-key", FATAL, str(source), "-wp", "-wp-rte",
+    return ["frama-c", "-machdep", machine, f"-cpp-extra-args={flags}", "-kernel-warn-key", FATAL, str(source), "-wp", "-wp-rte", *QUICK,
             *words, "-wp-prover", provers, "-wp-timeout", str(LONGEST), "-wp-par", "1", "-wp-cache", "update", "-wp-cache-dir", asked.keep, *smoke,
             *(["-wp-fct", ",".join(functions)] if functions else [])]
 
 
 def prove(source: Path, functions: list[str], words: list[str], setting: Setting, asked: argparse.Namespace) -> Answer:
     """What WP says of the goals of some functions, each of which has some."""
-    done = subprocess.run(command(source, functions, words, setting, asked), capture_output=True, text=True)
+    done = subprocess.run(command(source, functions, words, setting, asked), capture_output=True, text=True,
+                          env={"OCAMLRUNPARAM": OCAML, **os.environ})
     counts = COUNTS.search(done.stdout)
     if done.returncode != 0 or counts is None or counts[2] == "0":
         cli.fail(f"frama-c failed on {', '.join(functions) or LEMMAS}\n{(done.stdout + done.stderr)[-2000:]}")
-    return int(counts[1]), int(counts[2]), LEFT.findall(done.stdout)
+    return int(counts[1]), int(counts[2]), LEFT.findall(done.stdout), PROVED.findall(done.stdout)
+
+
+def kept_of(setting: Setting, by: list[str] | None) -> set[str]:
+    """The goals by a lawful table that a prover leaves by itself."""
+    file = FOLDER / "test" / f"left_by_{by[0]}.txt" if by and len(by) == 1 else None
+    lines = [line.split() for line in file.read_text().splitlines()] if file and file.exists() else []
+    return {line[2] for line in lines if line[:2] == [*setting]}
+
+
+def processor_time() -> float:
+    """Of all programs that have ended."""
+    used = resource.getrusage(resource.RUSAGE_CHILDREN)
+    return used.ru_utime + used.ru_stime
 
 
 def wrong_bodies() -> Any:
@@ -203,8 +229,9 @@ def words() -> argparse.Namespace:
     parser.add_argument("--by", action="append", choices=list(PROVERS), metavar="PROVER", help=f"a prover (all by default): {', '.join(PROVERS)}")
     parser.add_argument("--smoke", action="store_true", help="look for contracts that can't be met")
     parser.add_argument("--wrong", action="store_true", help="try the wrong bodies of runtime/c/test/wrong.py")
-    parser.add_argument("--seconds", type=int, default=10, metavar="S", help="how much processor time a prover has for a goal (10)")
-    parser.add_argument("--provers", type=int, default=1, metavar="N", help="how many provers work at a time (1)")
+    parser.add_argument("--seconds", type=int, default=20, metavar="S", help="how much processor time a prover has for a goal (20)")
+    parser.add_argument("--provers", type=int, default=2, metavar="N", help="how many functions are asked at a time (2, as Frama-C "
+                        "waits for half of its time)")
     parser.add_argument("--keep", metavar="FOLDER", help="where to look for what provers have answered, and to keep it (nowhere, and never with --wrong)")
     return parser.parse_args()
 
@@ -240,9 +267,10 @@ def by_table(place: Path, asked: argparse.Namespace) -> Iterator[Run]:
                 yield f"{function}, table", file, [function], ["-wp-bhv", "table", "-wp-split"]
 
 
-def prove_all(place: Path, setting: Setting, asked: argparse.Namespace) -> tuple[int, int]:
-    totals = (0, 0)
-    began = time.monotonic()
+def prove_all(place: Path, setting: Setting, asked: argparse.Namespace) -> tuple[int, int, int]:
+    """The goals that are proved, all of them, and those that are left and not kept."""
+    proved, goals, new, kept = 0, 0, 0, kept_of(setting, asked.by)
+    began, used = time.monotonic(), processor_time()
     runs = [*on_memory(place, asked)] if not asked.table else []
     runs += by_table(place, asked) if not asked.memory else []
 
@@ -251,12 +279,14 @@ def prove_all(place: Path, setting: Setting, asked: argparse.Namespace) -> tuple
         return prove(source, functions, more, setting, asked)
 
     with ThreadPoolExecutor(asked.provers) as pool:
-        for (name, *_), (proved, all_, left) in zip(runs, pool.map(answer, runs)):
-            totals = totals[0] + proved, totals[1] + all_
-            print(f"{name}: {proved} of {all_}", *(f"  left: {goal}" for goal in left), sep="\n", flush=True)
-    machine, macros = setting
-    print(f"{machine}, {macros} macros: {totals[0]} of {totals[1]} goals proved, in {time.monotonic() - began:.0f} s", flush=True)
-    return totals
+        for (name, *_), (some, all_, left, others) in zip(runs, pool.map(answer, runs)):
+            known = set() if name.endswith(", memory") else kept
+            proved, goals, new = proved + some, goals + all_, new + all_ - some - len(known.intersection(left))
+            print(f"{name}: {some} of {all_}", *(f"  left{', as is kept' if goal in known else ''}: {goal}" for goal in left),
+                  *(f"  proved, though it is kept: {goal}" for goal in others if goal in known), sep="\n", flush=True)
+    print(f"{', '.join(setting)} macros: {proved} of {goals} goals proved, in {time.monotonic() - began:.0f} s, "
+          f"{processor_time() - used:.0f} s of a processor", flush=True)
+    return proved, goals, new
 
 
 def main() -> int:
@@ -269,7 +299,7 @@ def main() -> int:
     unknown = [function for function in asked.functions if function not in [*known, LEMMAS]]
     if unknown:
         cli.fail(f"no function: {unknown[0]}")
-    totals = [0, 0]
+    totals = [0, 0, 0]
     with tempfile.TemporaryDirectory() as place:
         asked.keep = str(answers_of(asked.keep if asked.keep and not asked.wrong else place))
         Path(asked.keep).mkdir(parents=True, exist_ok=True)
@@ -278,7 +308,7 @@ def main() -> int:
             return 1 if try_wrong(Path(place), asked) else 0
         for machine in asked.machine or MACHINES:
             for macros in asked.macros or MACROS:
-                proved, all_ = prove_all(Path(place), (machine, macros), asked)
-                totals = [totals[0] + proved, totals[1] + all_]
-    print(f"{totals[0]} of {totals[1]} goals proved")
-    return 0 if totals[0] == totals[1] else 1
+                totals = [sum(it) for it in zip(totals, prove_all(Path(place), (machine, macros), asked))]
+    proved, goals, new = totals
+    print(f"{proved} of {goals} goals proved{f', and {goals - proved - new} are kept as left' if goals - proved - new else ''}")
+    return 1 if new else 0

@@ -364,6 +364,18 @@ class Contracts(Tree):
             at = source.index(f" {name}(")
             self.assertIn(source[source.rindex("/*@", 0, at):source.index(end, at) + len(end)].rstrip("\n"), given)
 
+    def test_kept(self) -> None:
+        """One prover may leave just the goals that are kept for it, in the setting for which they are."""
+        words = ["--table", "tell_end", "--machine", "x86_32", "--macros", "small"]
+        says = "echo '[wp] Proved goals:    1 / 2'; echo '[wp] [Timeout] Goal typed_one (cvc5)'; echo '[wp] [Qed] Goal typed_other : Valid'"
+        (self.top / "runtime/c/test/left_by_cvc5.txt").write_text("# Kept\nx86_32 small typed_one\nx86_64 small typed_other\n")
+        self.assertEqual([it for it in self.prove(says, *words, "--by", "cvc5") if " s " not in it],
+                         ["tell_end, table: 1 of 2", "  left, as is kept: typed_one", "1 of 2 goals proved, and 1 are kept as left", "status 0"])
+        self.assertEqual(self.prove(says, *words)[-2:], ["1 of 2 goals proved", "status 1"])
+        (self.top / "runtime/c/test/left_by_cvc5.txt").write_text("x86_32 small typed_other\n")
+        said = self.prove(says, *words, "--by", "cvc5")
+        self.assertEqual([*said[1:3], *said[-2:]], ["  left: typed_one", "  proved, though it is kept: typed_other", "1 of 2 goals proved", "status 1"])
+
     def test_wrong(self) -> None:
         """A body is refused where a goal is left that the right one doesn't leave."""
         left = "echo '[wp] Proved goals:    1 / 2'; echo '[wp] [Timeout] Goal typed_is_heard_ensures (cvc5)'"
