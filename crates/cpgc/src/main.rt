@@ -82,20 +82,9 @@ fn outcome<S: Shelf, O: Sink, E: Sink>(
     }
 }
 
-/// How large a block may be that raises what glibc keeps, in bytes: with its head and in whole pages it is a page below 32 MiB.
-const LARGEST_KEPT: usize = 33_550_312;
-
-/// Takes a block of memory and gives it back untouched, if there is memory for it. glibc gives a large block back to the system
-/// unless one as large was given back before, and the system clears what it hands out: so from now on blocks of up to 32 MiB stay
-/// with the program, and are used again as they are.
-fn keep_blocks(alloc: Global) {
-    let _block: Result<Vec<u8>, AllocError> = Vec::with_capacity(alloc, LARGEST_KEPT);
-}
-
 /// The program: a run over the machine's arguments, files, standard output and standard error, which ends with its status. No
 /// other function is handed the runtime.
 fn main(rt: HostRuntime) -> ExitCode {
-    keep_blocks(rt.alloc());
     let words = words(rt.alloc(), env::args(&rt));
     let mut shelf = FileShelf::new(&rt);
     let mut out = StreamSink::new(rt.stdout());
