@@ -1,6 +1,7 @@
--- The text of tables by the rows of a compile, without the tables.
-use Rattle.std.proofs.Common.{ℕ, List, subst, sym}
+-- What is written of tables that have a compile's rows, though the tables aren't made.
+use Rattle.std.proofs.Common.{◌≡◌, subst, sym}
 use Rattle.cpg_base.specs.Graph.{Graph}
+use Rattle.cpg_base.specs.Limits.{IsWithinLimits}
 use Rattle.cpg_base.specs.WellFormed.{WellFormed}
 use Rattle.cpg_rules.specs.Admission.{Admission}
 use Rattle.cpg_head.specs.GraphHead.{head_of}
@@ -9,15 +10,18 @@ use Rattle.cpg_codec.specs.Packs.{AreLawful, IsPackHead}
 use Rattle.cpg_codec.proofs.Lengths.{all_short}
 use Rattle.cpg_expand.specs.declared.built_rows.BuiltRows.{BuiltRows}
 use Rattle.cpg_core.specs.Compilation.{AreCompiledRows, IsCompilation, compiled_of}
+use Rattle.cpg_core.specs.declared.compiling.Compiled.{Compiled}
+use Rattle.cpg_packing.proofs.Spelled.{spelled}
+use Rattle.cpg_words.specs.Parts.{Text}
 use Rattle.cpg_show.proofs.Rows.{tables_have_text}
-use Rattle.cpg_app.specs.Outputs.{IsMadeOf, shown, shown_by}
+use Rattle.cpg_app.specs.Outputs.{IsMadeOf, packed, packed_by, shown, shown_by}
 use Rattle.cpg_app.proofs.Safe.{compilations_are_safe}
 
--- the text of rows is that of the tables that have them
-pub shown_of_rows : (a : Admission) → WellFormed a.graph → IsPackHead (head_of a.graph) → (r : BuiltRows) →
-    AreCompiledRows a.graph a.order r →
-    IsMadeOf a shown (shown_by a.graph r)
-shown_of_rows a formed head r are =
+-- what is told of the tables, if the bytes are what they spell
+made_of_rows : (a : Admission) → WellFormed a.graph → IsPackHead (head_of a.graph) →
+    (r : BuiltRows) (are : AreCompiledRows a.graph a.order r) (spell : Graph → Compiled → Text) (bytes : Text) →
+    bytes ≡ spell a.graph (compiled_of r are.tables) → IsMadeOf a spell bytes
+made_of_rows a formed head r are spell bytes is =
     let t = are.tables in
     let compilation : IsCompilation a.graph a.order (compiled_of r t) = are.compilation t are.written in
     let lawful : AreLawful t = record {
@@ -29,5 +33,20 @@ shown_of_rows a formed head r are =
       compilation = compilation;
       pack = record { head = are.written.head; lawful = lawful; short = all_short t lawful };
       safe = compilations_are_safe a.graph formed a.order (compiled_of r t) compilation;
-      spelled = sym (tables_have_text a.graph r.order r.rows.items r.worst.time t.nodes are.written.columns);
+      spelled = is;
     }
+
+-- the text of rows is that of the tables that have them
+pub shown_of_rows : (a : Admission) → WellFormed a.graph → IsPackHead (head_of a.graph) → (r : BuiltRows) →
+    AreCompiledRows a.graph a.order r →
+    IsMadeOf a shown (shown_by a.graph r)
+shown_of_rows a formed head r are = made_of_rows a formed head r are shown (shown_by a.graph r)
+    (sym (tables_have_text a.graph r.order r.rows.items r.worst.time are.tables.nodes are.written.columns))
+
+-- and so is their pack
+pub packed_of_rows : (a : Admission) → IsWithinLimits a.graph → WellFormed a.graph → IsPackHead (head_of a.graph) →
+    (r : BuiltRows) →
+    AreCompiledRows a.graph a.order r →
+    IsMadeOf a packed (packed_by a.graph r)
+packed_of_rows a within formed head r are = made_of_rows a formed head r are packed (packed_by a.graph r)
+    (sym (spelled a.graph within formed r.rows.items are.writable are.tables are.written))

@@ -7,7 +7,6 @@ use Rattle.cpg_words.specs.declared.command.Command.TheVariants.{Show, Compile, 
 use Rattle.cpg_words.specs.declared.command.Command.TheVariants.{Tune, Audit}
 use Rattle.cpg_rules.specs.Admission.{Admission}
 use Rattle.cpg_table.specs.Lawful.{Tables}
-use Rattle.cpg_codec.specs.Spelling.{spelling}
 use Rattle.cpg_log.specs.Log.{Log}
 use Rattle.cpg_scenario.specs.declared.reading.Played.{Played}
 use Rattle.cpg_hyper.specs.declared.part.Part.{Part}
@@ -23,7 +22,7 @@ use Rattle.cpg_app.specs.declared.output.Output.{Output}
 use Rattle.cpg_app.specs.declared.output.Output.TheVariants.{Lines, Table as Shown, NodeTable as OfNode, Pack, Stream}
 use Rattle.cpg_app.specs.Causes.{IsNotUnrolled, IsUncompiled, OrMemory, StopsNaming, StopsVerdict, StopsWork}
 use Rattle.cpg_app.specs.Outputs.{Answers, IsAuditedText, IsFollower, IsMadeOf, IsNodeText, IsPlayedText, IsSafeText}
-use Rattle.cpg_app.specs.Outputs.{IsTrialText, IsUnrolledText, Opens, Puts, PutsOut, packed, shown, shown_by}
+use Rattle.cpg_app.specs.Outputs.{IsTrialText, IsUnrolledText, Opens, Puts, PutsOut, packed, packed_by, shown, shown_by}
 use Rattle.cpg_app.specs.Tunes.{IsTuningText}
 
 -- ---- answers
@@ -42,7 +41,7 @@ put_on : {P Q : Text → Type 0} (o : Output) → ((text : Text) → P text → 
 put_on (Lines text) f p = f (string_bytes text) p
 put_on (Shown made) f p = f (shown_by made.admitted.graph made.rows) p
 put_on (OfNode tables node) f p = (p.0, f (node_text tables node) p.1)
-put_on (Pack tables) f p = f (spelling tables) p
+put_on (Pack made) f p = (p.0, f (packed_by made.admitted.graph made.rows) p.1)
 put_on (Stream follower path) f p = p
 
 module _ (c : Command) (vs : List Value) (r : Result Output Halt) where
@@ -184,14 +183,14 @@ abbrev pub IsText : Output → Type 0
 IsText (Lines text) = Unit {0}
 IsText (Shown made) = Unit {0}
 IsText (OfNode tables node) = Unit {0}
-IsText (Pack tables) = Unit {0}
+IsText (Pack made) = Unit {0}
 IsText (Stream follower path) = ⊥
 
 not_opened : (t : Tables) (name stream : Text) (o : Output) → IsText o → Opens t name stream o → ⊥
 not_opened t name stream (Lines text) is opens = opens
 not_opened t name stream (Shown made) is opens = opens
 not_opened t name stream (OfNode tables node) is opens = opens
-not_opened t name stream (Pack tables) is opens = opens
+not_opened t name stream (Pack made) is opens = opens
 not_opened t name stream (Stream follower path) is opens = is
 
 -- an answer that is a text is the output that the command puts out

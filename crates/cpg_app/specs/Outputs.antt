@@ -13,6 +13,7 @@ use Rattle.cpg_head.specs.GraphHead.{head_of}
 use Rattle.cpg_table.specs.Lawful.{Tables}
 use Rattle.cpg_table.specs.Table.{NodeTable, table_at}
 use Rattle.cpg_table.specs.Valid.{IsValid}
+use Rattle.cpg_table.specs.Writing.{AreWritable}
 use Rattle.cpg_violation.specs.Heads.{IsHeadFor}
 use Rattle.cpg_codec.specs.Packs.{AreLawful}
 use Rattle.cpg_codec.specs.Spelling.{spelling}
@@ -24,6 +25,7 @@ use Rattle.cpg_expand.specs.declared.built_rows.BuiltRows.{BuiltRows}
 use Rattle.cpg_core.specs.declared.compiling.Compiled.{Compiled}
 use Rattle.cpg_core.specs.Compilation.{IsCompilation}
 use Rattle.cpg_cluster.specs.Correct.{IsCorrect, IsLively, IsSteady, EndsAsPlanned}
+use Rattle.cpg_packing.specs.PackBytes.{pack_bytes}
 use Rattle.cpg_show.specs.TableText.{table_text, text_of_rows}
 use Rattle.cpg_show.specs.NodeText.{node_text}
 use Rattle.cpg_log.specs.Log.{Log}
@@ -75,6 +77,10 @@ shown g c = table_text g c.order c.built.tables.nodes c.built.worst
 -- the text of tables that have these rows
 abbrev pub shown_by : Graph → BuiltRows → Text
 shown_by g r = text_of_rows g r.order r.rows.items r.worst.time
+
+-- the pack of tables that have these rows
+abbrev pub packed_by : Graph → BuiltRows → Text
+packed_by g r = pack_bytes g r.rows.items
 
 -- the pack of tables
 abbrev pub packed : Graph → Compiled → Text
@@ -147,12 +153,14 @@ PutsOut (Hyper pairs) values text = OnParts pairs values (λ parts. IsUnrolledTe
 PutsOut (Tune graph) values text = OnGraph values (λ a. IsTuningText a.graph text)
 PutsOut (Audit graph pack log) values text = OnLogged values (λ a t l. IsAuditedText a t l text)
 
--- the text or the pack that is put out is as stated; if it is a node's table, the tables have that node
+-- The text or the pack that is put out is as stated. If it is a node's table, the tables have that node, and if it is a
+-- pack, there are tables of its rows.
 abbrev pub Puts : Output → (Text → Type 0) → Type 0
 Puts (Lines text) Is = Is (string_bytes text)
 Puts (Shown made) Is = Is (shown_by made.admitted.graph made.rows)
 Puts (OfNode tables node) Is = (node < length tables.head.nodes) × Is (node_text tables node)
-Puts (Pack tables) Is = Is (spelling tables)
+Puts (Pack made) Is =
+    AreWritable made.admitted.graph made.rows.rows.items × Is (packed_by made.admitted.graph made.rows)
 Puts (Stream follower path) Is = ⊥
 
 -- the first node of that name is to follow a stream

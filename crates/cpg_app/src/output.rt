@@ -1,14 +1,15 @@
 //! What a command puts out.
 ghost use Rattle.std.specs.Prelude.{◌<◌, length};
-ghost use Rattle.cpg_codec.specs.Spelling.{spelling};
 ghost use Rattle.cpg_show.specs.NodeText.{node_text};
-ghost use Rattle.cpg_app.specs.Outputs.{shown_by};
+ghost use Rattle.cpg_app.specs.Outputs.{packed_by, shown_by};
+ghost use Rattle.cpg_table.specs.Writing.{AreWritable};
 ghost use Rattle.cpg_outputs.specs.Told.{IsWritten, sent};
 
-use cpg_codec::{WriteFault, write_pack};
+use cpg_codec::WriteFault;
 use cpg_expand::BuiltRows;
 use cpg_io::Sink;
 use cpg_live::Follower;
+use cpg_packing::write_made;
 use cpg_rules::Admitted;
 use cpg_show::{write_node, write_table};
 use cpg_table::Tables;
@@ -39,8 +40,8 @@ pub enum Output {
         /// The node's number.
         node: u32,
     },
-    /// Tables, as a pack.
-    Pack(Tables),
+    /// The tables of a graph, as a pack that is written by their rows.
+    Pack(Made),
     /// What a node does on a stream, as it goes.
     Stream {
         /// The node, before its stream.
@@ -57,15 +58,12 @@ pub enum Output {
 pub fn put_tables<O: Sink>(alloc: Global, made: Made, out: &mut O) -> Result<(), WriteFault>
     ensures { IsWritten (sent (O.state out.old) (O.state out.new)) result (shown_by made.admitted.graph made.rows) }
 {
-    let rows = &made.rows;
-    let order = &rows.order;
-    let worst = rows.worst.time;
     let written = write_table(
         alloc,
         &made.admitted,
-        order,
-        rows.rows.as_slice(),
-        worst,
+        &made.rows.order,
+        made.rows.rows.as_slice(),
+        made.rows.worst.time,
         out,
     );
     forget(made);
@@ -87,11 +85,13 @@ pub fn put_node_table<O: Sink>(
     written
 }
 
-/// Writes tables as a pack.
-pub fn put_pack<O: Sink>(alloc: Global, tables: Tables, out: &mut O) -> Result<(), WriteFault>
-    ensures { IsWritten (sent (O.state out.old) (O.state out.new)) result (spelling tables) }
+/// Writes the tables of a graph as a pack.
+pub fn put_pack<O: Sink>(alloc: Global, made: Made, out: &mut O) -> Result<(), WriteFault>
+    requires { AreWritable made.admitted.graph made.rows.rows.items }
+    ensures { IsWritten (sent (O.state out.old) (O.state out.new)) result (packed_by made.admitted.graph made.rows) }
 {
-    let written = write_pack(alloc, &tables, out);
-    forget(tables);
+    let problem = made.admitted.problem();
+    let written = write_made(alloc, problem, made.rows.rows.as_slice(), out);
+    forget(made);
     written
 }

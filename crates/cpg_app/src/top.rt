@@ -48,7 +48,7 @@ fn finish<S: Shelf, O: Sink, E: Sink>(
             put_node_table(alloc, tables, node, out),
             err,
         ),
-        Ok(Output::Pack(tables)) => end(put_pack(alloc, tables, out), err),
+        Ok(Output::Pack(made)) => end(put_pack(alloc, made, out), err),
         Ok(
             Output::Stream {
                 mut follower,

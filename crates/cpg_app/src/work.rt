@@ -1,7 +1,6 @@
 //! What each command does with what its files say.
 ghost use Rattle.std.specs.Prelude.{◌≡◌, ◌<◌, IfErr, IfOk, IfSome, List, length};
 ghost use Rattle.std.specs.Str.{bytes_eq};
-ghost use Rattle.cpg_core.specs.Compilation.{IsCompilation};
 ghost use Rattle.cpg_log.specs.Log.{IsLog};
 ghost use Rattle.cpg_scenario.specs.File.{IsPlayed};
 ghost use Rattle.cpg_words.specs.declared.command.Command.{Command};
@@ -9,7 +8,7 @@ ghost use Rattle.cpg_inputs.specs.declared.inputs.Inputs.{Inputs};
 ghost use Rattle.cpg_inputs.specs.Inputs.{AreFit, AreInputs};
 ghost use Rattle.cpg_inputs.specs.Says.{Value};
 ghost use Rattle.cpg_app.specs.Causes.{first_named, IsUncompiled, OrMemory, StopsNaming, StopsVerdict, StopsWork};
-ghost use Rattle.cpg_app.specs.Outputs.{packed, shown, Answers, AreJudgedSafe, ArePackOf, AreSafe, IsAuditedText, IsMadeOf, IsNodeText, IsPlayedText, IsSafeText, Opens, Puts};
+ghost use Rattle.cpg_app.specs.Outputs.{packed, shown, Answers, AreJudgedSafe, IsAuditedText, IsMadeOf, IsNodeText, IsPlayedText, IsSafeText, Opens, Puts};
 
 use crate::auditing::audit_text;
 use crate::halt::halt_of_compile;
@@ -21,15 +20,13 @@ use crate::trials::trial;
 use crate::tuning::tune_admitted;
 use cpg_base::Name;
 use cpg_check::{Verdict, check};
-use cpg_codec::tables_are_lawful;
-use cpg_core::{Compiled, compile, compile_rows};
+use cpg_core::compile_rows;
 use cpg_head::Head;
 use cpg_inputs::{Inputs, Purpose};
 use cpg_live::Follower;
 use cpg_log::Log;
 use cpg_refusal::{Halt, Refusal};
 use cpg_rules::Admitted;
-use cpg_run::Built;
 use cpg_scenario::Played;
 use cpg_table::Tables;
 use cpg_words::Word;
@@ -50,33 +47,18 @@ fn text_of(alloc: Global, admitted: Admitted) -> Result<Output, Halt>
     }
 }
 
-/// Compiles an admitted graph.
-fn compile_graph(alloc: Global, admitted: Admitted) -> Result<Compiled, Halt>
-    ensures compiled { IfOk result (IsCompilation admitted.graph admitted.order) }
-    ensures pack { IfOk result (λ c. ArePackOf admitted.graph c.built.tables) }
-    ensures safe { IfOk result (λ c. AreSafe admitted.graph c.built.tables.nodes) }
-    ensures halt { IfErr result (IsUncompiled admitted) }
-{
-    // its contract says that the graph is admitted
-    let _graph = admitted.problem();
-    match compile(alloc, &admitted) {
-        Ok(compiled) => {
-            tables_are_lawful(&compiled.built.tables);
-            Ok(compiled)
-        }
-        Err(fault) => Err(halt_of_compile(admitted, fault)),
-    }
-}
-
-/// The pack of an admitted graph.
+/// The pack of an admitted graph, by the rows of its tables, which aren't assembled.
 fn pack_of(alloc: Global, admitted: Admitted) -> Result<Output, Halt>
     ensures pack { IfOk result (λ o. Puts o (IsMadeOf admitted packed)) }
     ensures halt { IfErr result (IsUncompiled admitted) }
 {
-    let compiled = compile_graph(alloc, admitted)?;
-    let Compiled { built, .. } = compiled;
-    let Built { tables, .. } = built;
-    Ok(Output::Pack(tables))
+    // its contract says that the graph is admitted
+    let graph = admitted.problem();
+    head_is_lawful(graph);
+    match compile_rows(alloc, &admitted) {
+        Ok(rows) => Ok(Output::Pack(Made { admitted, rows })),
+        Err(fault) => Err(halt_of_compile(admitted, fault)),
+    }
 }
 
 /// Checks that tables are valid for an admitted graph, and hands the graph back if they are.

@@ -29,6 +29,11 @@ block_moved f all old new left rest n e is r =
 pub appended : (old new piece : List ℕ) (b : Bool) → new ≡ cond b (old ++ piece) old → b ≡ true → new ≡ old ++ piece
 appended old new piece b e on = e ∙ ap (λ c. cond c (old ++ piece) old) on
 
+-- sixteen literals, taken by their numbers, have the same bytes as their list
+pub sixteen_bytes : (ls : List Literal) (d : Literal) → length ls ≡ 16 →
+    flat_map literal_bytes (map (λ k. get_or ls k d) (numbers_below 16)) ≡ flat_map literal_bytes ls
+sixteen_bytes ls d e = ap (flat_map literal_bytes) (sym (elements ls 16 d e))
+
 -- eight literals, taken by their numbers, have the same bytes as their list
 pub eight_bytes : (ls : List Literal) (d : Literal) → length ls ≡ 8 →
     flat_map literal_bytes (map (λ k. get_or ls k d) (numbers_below 8)) ≡ flat_map literal_bytes ls

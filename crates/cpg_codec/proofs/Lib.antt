@@ -18,5 +18,6 @@ pub mod WholePack
 pub mod Records
 pub mod Lengths
 pub mod Taking
+pub mod Fronts
 pub mod Rests
 pub mod Blocks

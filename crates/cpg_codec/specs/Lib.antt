@@ -1,5 +1,6 @@
 pub mod Reading
 pub mod Spelling
+pub mod Fronts
 pub mod Grammar
 pub mod Behind
 pub mod Packs

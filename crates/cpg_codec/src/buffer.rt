@@ -31,7 +31,28 @@ impl Model for Buffer {
     ghost invariant = { λ b. (vec_len b.bytes ≤ 65536) × (65536 ≤ vec_capacity b.bytes) };
 }
 
-/// Adds eight literals, three bytes each, for which there is room.
+/// Adds sixteen literals, three bytes each, for which there is room.
+fn push_sixteen(bytes: &mut Vec<u8>, literals: &[Literal; 16])
+    requires { vec_len bytes.old + 48 ≤ vec_capacity bytes.old }
+    ensures items { bytes.new.items ≡ bytes.old.items ++ flat_map literal_bytes literals.now }
+    ensures len { vec_len bytes.new ≡ vec_len bytes.old + 48 }
+    ensures capacity { vec_capacity bytes.old ≤ vec_capacity bytes.new }
+{
+    let [a, b, c, d, e, f, g, h, i, j, k, l, m, n, o, p] = *literals;
+    let block = [
+        a.variable, a.low, a.high, b.variable, b.low, b.high, c.variable, c.low, c.high,
+        d.variable, d.low, d.high, e.variable, e.low, e.high, f.variable, f.low, f.high,
+        g.variable, g.low, g.high, h.variable, h.low, h.high, i.variable, i.low, i.high,
+        j.variable, j.low, j.high, k.variable, k.low, k.high, l.variable, l.low, l.high,
+        m.variable, m.low, m.high, n.variable, n.low, n.high, o.variable, o.low, o.high,
+        p.variable, p.low, p.high,
+    ];
+    if bytes.extend_from_slice(&block).is_err() {
+        unreachable!()
+    }
+}
+
+/// Adds eight literals.
 fn push_eight(bytes: &mut Vec<u8>, literals: &[Literal; 8])
     requires { vec_len bytes.old + 24 ≤ vec_capacity bytes.old }
     ensures items { bytes.new.items ≡ bytes.old.items ++ flat_map literal_bytes literals.now }
@@ -96,7 +117,23 @@ fn push_few(bytes: &mut Vec<u8>, literals: &[Literal])
     push_each(bytes, rest);
 }
 
-/// Adds literals as `push_each` does, eight at a time.
+/// Adds literals as `push_each` does, eight at once.
+fn push_some(bytes: &mut Vec<u8>, literals: &[Literal])
+    requires { vec_len bytes.old + 3 * length literals.now ≤ vec_capacity bytes.old }
+    ensures items { bytes.new.items ≡ bytes.old.items ++ flat_map literal_bytes literals.now }
+    ensures len { vec_len bytes.new ≡ vec_len bytes.old + 3 * length literals.now }
+    ensures capacity { vec_capacity bytes.old ≤ vec_capacity bytes.new }
+{
+    // fewer than eight
+    let Some((block, rest)) = literals.split_first_chunk::<8>() else {
+        push_few(bytes, literals);
+        return;
+    };
+    push_eight(bytes, block);
+    push_few(bytes, rest);
+}
+
+/// Adds literals as `push_each` does, sixteen at a time.
 fn push_literals(bytes: &mut Vec<u8>, literals: &[Literal])
     requires { vec_len bytes.old + 3 * length literals.now ≤ vec_capacity bytes.old }
     ensures items { bytes.new.items ≡ bytes.old.items ++ flat_map literal_bytes literals.now }
@@ -104,11 +141,11 @@ fn push_literals(bytes: &mut Vec<u8>, literals: &[Literal])
     ensures capacity { vec_capacity bytes.old ≤ vec_capacity bytes.new }
 {
     let mut left = literals;
-    while let Some((block, rest)) = left.split_first_chunk::<8>() {
-        push_eight(bytes, block);
+    while let Some((block, rest)) = left.split_first_chunk::<16>() {
+        push_sixteen(bytes, block);
         left = rest;
     }
-    push_few(bytes, left);
+    push_some(bytes, left);
 }
 
 /// Adds a column's time and how many literals it has, for which there is room.

@@ -28,8 +28,10 @@ pub use fixed::{
     Fixed, column_literals, column_time, edge_from, edge_to, literal_high, literal_low,
     literal_variable, long_number, process_flag, process_node,
 };
+pub use head_writing::put_head;
 pub use lawful::tables_are_lawful;
 pub use reading::read_pack;
+pub use row_writing::{put_column, put_short};
 pub use writing::write_pack;
 
 /// A pack is the spelling of one value: tables with equal spellings are equal.

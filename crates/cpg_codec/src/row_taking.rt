@@ -1,10 +1,13 @@
-//! Rows taken from bytes as they stand: the literals of a column are checked together. If bytes make no row, reading
-//! them field by field shows where they go wrong.
-ghost use Rattle.std.specs.Prelude.{◌≡◌, ◌≤◌, ◌+◌, ◌++◌, ◌∷◌, All, length, Ok, IfOk};
+//! Rows taken from bytes as they stand: the literals of a column are checked together, from the first on that differs
+//! from the column before. If bytes make no row, reading them field by field shows where they go wrong.
+ghost use Rattle.std.specs.Prelude.{◌≡◌, ◌≤◌, ◌+◌, ◌*◌, ◌++◌, ◌∷◌, [], All, length, Ok, IfOk};
+ghost use Rattle.std.specs.Bool.{OnTrue};
 ghost use Rattle.std.specs.List.{flat_map};
 ghost use Rattle.std.specs.Int.{w64, to_be_bytes};
-ghost use Rattle.cpg_table.specs.Lawful.{IsLawfulColumn};
+ghost use Rattle.cpg_cube.specs.Cube.{IsRising};
+ghost use Rattle.cpg_table.specs.Lawful.{IsLawfulColumn, IsLawfulLiteral};
 ghost use Rattle.cpg_codec.specs.Spelling.{literal_bytes, column_bytes, row_bytes};
+ghost use Rattle.cpg_codec.specs.Fronts.{HasFront};
 ghost use Rattle.cpg_codec.specs.Grammar.{IsSpace, read_row};
 
 use crate::fault::Untaken;
@@ -126,30 +129,165 @@ fn take_literals<'a>(
     take_few(held, rest, left)
 }
 
-/// A lawful column. `held` is for its literals, which a cube keeps in its own memory.
-fn take_column<'a>(
+/// Whether three bytes spell this literal.
+fn is_spelled(literal: Literal, variable: u8, low: u8, high: u8) -> bool
+    ensures { OnTrue result (literal_bytes literal ≡ variable ∷ low ∷ high ∷ []) }
+{
+    (literal.variable == variable) & (literal.low == low) & (literal.high == high)
+}
+
+/// Whether bytes spell these literals. It never stops early, so that the compiler compares them at once.
+fn are_spelled<const N: usize, const M: usize>(literals: &[Literal; N], bytes: &[u8; M]) -> bool
+    requires { M ≡ 3 * N }
+    ensures { OnTrue result (flat_map literal_bytes literals.now ≡ bytes.now) }
+{
+    let mut are = true;
+    for at in 0..N {
+        are &= is_spelled(
+            literals[at],
+            bytes[3 * at],
+            bytes[3 * at + 1],
+            bytes[3 * at + 2],
+        );
+    }
+    are
+}
+
+/// How many of the first `most` literals of `bytes` are those of a list, by eights, and the bytes after these.
+fn skip_eights<'a>(literals: &[Literal], bytes: &'a [u8], most: usize) -> (usize, &'a [u8])
+    ensures { HasFront literals.now bytes.now most result.0 result.1.now }
+{
+    let mut left = literals;
+    let mut rest = bytes;
+    let mut count = 0;
+    while most - count >= 8 {
+        let Some((block, behind)) = left.split_first_chunk::<8>() else {
+            return (count, rest);
+        };
+        let Some((spelled, after)) = rest.split_first_chunk::<24>() else {
+            return (count, rest);
+        };
+        if !are_spelled(block, spelled) {
+            return (count, rest);
+        }
+        count += 8;
+        left = behind;
+        rest = after;
+    }
+    (count, rest)
+}
+
+/// Does what `skip_eights` does, for four literals at most.
+fn skip_four<'a>(literals: &[Literal], bytes: &'a [u8], most: usize) -> (usize, &'a [u8])
+    ensures { HasFront literals.now bytes.now most result.0 result.1.now }
+{
+    // too few for a block of four
+    if most < 4 {
+        return (0, bytes);
+    }
+    let Some((block, _)) = literals.split_first_chunk::<4>() else {
+        return (0, bytes);
+    };
+    let Some((spelled, rest)) = bytes.split_first_chunk::<12>() else {
+        return (0, bytes);
+    };
+    if are_spelled(block, spelled) {
+        return (4, rest);
+    }
+    (0, bytes)
+}
+
+/// Does what `skip_eights` does, one by one.
+fn skip_each<'a>(literals: &[Literal], bytes: &'a [u8], most: usize) -> (usize, &'a [u8])
+    ensures { HasFront literals.now bytes.now most result.0 result.1.now }
+{
+    let mut rest = bytes;
+    for count in 0..most.min(literals.len()) {
+        let [variable, low, high, after @ ..] = rest else {
+            return (count, rest);
+        };
+        if !is_spelled(literals[count], *variable, *low, *high) {
+            return (count, rest);
+        }
+        rest = after;
+    }
+    (most.min(literals.len()), rest)
+}
+
+/// How many of the first `most` literals of `bytes` are those of a list, and the bytes after these. Columns that are
+/// neighbours mostly differ in the last literals alone, so it looks at many together.
+fn skip_same<'a>(literals: &[Literal], bytes: &'a [u8], most: usize) -> (usize, &'a [u8])
+    ensures { HasFront literals.now bytes.now most result.0 result.1.now }
+{
+    let (eights, rest) = skip_eights(literals, bytes, most);
+    let (four, rest) = skip_four(&literals[eights..], rest, most - eights);
+    let same = eights + four;
+    let (ones, rest) = skip_each(&literals[same..], rest, most - same);
+    (same + ones, rest)
+}
+
+/// The cube of the first `count` literals of `bytes`, each lawful. Those that are the first ones of the column before
+/// aren't judged again. `held` is for the others.
+fn take_cube<'a>(
     alloc: Global,
     held: &mut Vec<Literal>,
+    before: &[Literal],
     bytes: &'a [u8],
     space: &VariableSpace,
-) -> Result<(Column, &'a [u8]), Untaken>
-    requires { IsSpace space.now }
-    ensures taken { IfOk result (λ x. bytes.now ≡ column_bytes x.0 ++ x.1.now) }
-    ensures lawful { IfOk result (λ x. IsLawfulColumn space.now x.0) }
+    count: u8,
+) -> Result<(Cube, &'a [u8]), Untaken>
+    requires space { IsSpace space.now }
+    requires rising { IsRising before.now }
+    requires lawful { All (IsLawfulLiteral space.now) before.now }
+    ensures taken { IfOk result (λ x. bytes.now ≡ flat_map literal_bytes x.0 ++ x.1.now) }
+    ensures count { IfOk result (λ x. length x.0 ≡ count) }
+    ensures lawful { IfOk result (λ x. All (IsLawfulLiteral space.now) x.0) }
 {
-    let (time, count, rest) = take_front(bytes)?;
+    let (same, rest) = skip_same(before, bytes, count as usize);
+    let rest = take_literals(held, rest, count - same as u8)?;
     // any of these cases is left to the reader by fields, which finds the place of the fault
-    if time >= TIME_END {
-        return Err(Untaken::Odd);
-    }
-    let rest = take_literals(held, rest, count)?;
-    let Some(cube) = Cube::new(alloc, held.as_slice())? else {
+    let Some(cube) = Cube::joined(alloc, &before[..same], held.as_slice())? else {
         return Err(Untaken::Odd);
     };
     if !are_lawful(space, held.as_slice()) {
         return Err(Untaken::Odd);
     }
+    Ok((cube, rest))
+}
+
+/// A lawful column. `before` are the literals of the column before, and `held` is for those that differ from them.
+fn take_column<'a>(
+    alloc: Global,
+    held: &mut Vec<Literal>,
+    before: &[Literal],
+    bytes: &'a [u8],
+    space: &VariableSpace,
+) -> Result<(Column, &'a [u8]), Untaken>
+    requires space { IsSpace space.now }
+    requires rising { IsRising before.now }
+    requires lawful { All (IsLawfulLiteral space.now) before.now }
+    ensures taken { IfOk result (λ x. bytes.now ≡ column_bytes x.0 ++ x.1.now) }
+    ensures lawful { IfOk result (λ x. IsLawfulColumn space.now x.0) }
+{
+    let (time, count, rest) = take_front(bytes)?;
+    // a time out of range is left to the reader by fields, too
+    if time >= TIME_END {
+        return Err(Untaken::Odd);
+    }
+    let (cube, rest) = take_cube(alloc, held, before, rest, space, count)?;
     Ok((Column { time, cube }, rest))
+}
+
+/// The literals of the last of lawful columns; none if there is no column.
+fn last_literals<'a>(space: &VariableSpace, columns: &'a [Column]) -> &'a [Literal]
+    requires { All (IsLawfulColumn space.now) columns.now }
+    ensures rising { IsRising result.now }
+    ensures lawful { All (IsLawfulLiteral space.now) result.now }
+{
+    match columns.last() {
+        Some(column) => column.cube.literals(),
+        None => &[],
+    }
 }
 
 /// Takes `count` lawful columns from `bytes`, and returns them with the bytes after them.
@@ -168,7 +306,8 @@ fn take_columns<'a>(
     let mut columns = Vec::with_capacity(alloc, count as usize)?;
     let mut rest = bytes;
     for _ in 0..count {
-        let (column, after) = take_column(alloc, held, rest, space)?;
+        let before = last_literals(space, columns.as_slice());
+        let (column, after) = take_column(alloc, held, before, rest, space)?;
         columns.push(column)?;
         rest = after;
     }

@@ -54,28 +54,39 @@ fn put_counted<O: Sink>(
 }
 
 /// A column, part by part.
-fn put_parts<O: Sink>(buffer: &mut Buffer, sink: &mut O, column: &Column) -> Result<(), Failed>
-    requires { length column.now.cube ≤ 255 }
-    ensures put { Puts (O.state sink.old).taken (O.state sink.new).taken buffer.old buffer.new result (column_bytes column.now) }
+fn put_parts<O: Sink>(
+    buffer: &mut Buffer,
+    sink: &mut O,
+    time: u64,
+    literals: &[Literal],
+) -> Result<(), Failed>
+    requires { length literals.now ≤ 255 }
+    ensures put { Puts (O.state sink.old).taken (O.state sink.new).taken buffer.old buffer.new result (to_be_bytes w64 time
+        ++ byte (length literals.now) ++ flat_map literal_bytes literals.now) }
     ensures cause { HasCause (O.state sink.old).faults (O.state sink.new).faults result }
 {
-    put_long(buffer, sink, column.time)?;
-    put_counted(buffer, sink, column.cube.literals())
+    put_long(buffer, sink, time)?;
+    put_counted(buffer, sink, literals)
 }
 
-/// A column: all at once if the buffer has room for it, which it usually has.
-fn put_column<O: Sink>(buffer: &mut Buffer, sink: &mut O, column: &Column) -> Result<(), Failed>
-    requires { length column.now.cube ≤ 255 }
-    ensures put { Puts (O.state sink.old).taken (O.state sink.new).taken buffer.old buffer.new result (column_bytes column.now) }
+/// A column of this time and these literals: all at once if the buffer has room for it, which it usually has.
+pub fn put_column<O: Sink>(
+    buffer: &mut Buffer,
+    sink: &mut O,
+    time: u64,
+    literals: &[Literal],
+) -> Result<(), Failed>
+    requires { length literals.now ≤ 255 }
+    ensures put { Puts (O.state sink.old).taken (O.state sink.new).taken buffer.old buffer.new result (to_be_bytes w64 time
+        ++ byte (length literals.now) ++ flat_map literal_bytes literals.now) }
     ensures cause { HasCause (O.state sink.old).faults (O.state sink.new).faults result }
 {
-    let literals = column.cube.literals();
     // eight bytes of the time, one of the count, and three for each literal
     if 9 + 3 * literals.len() <= buffer.room() {
-        buffer.hold_column(column.time, literals);
+        buffer.hold_column(time, literals);
         return Ok(());
     }
-    put_parts(buffer, sink, column)
+    put_parts(buffer, sink, time, literals)
 }
 
 /// Columns, one after another.
@@ -85,7 +96,7 @@ fn put_columns<O: Sink>(buffer: &mut Buffer, sink: &mut O, columns: &[Column]) -
     ensures cause { HasCause (O.state sink.old).faults (O.state sink.new).faults result }
 {
     for column in columns {
-        put_column(buffer, sink, column)?;
+        put_column(buffer, sink, column.time, column.cube.literals())?;
     }
     Ok(())
 }

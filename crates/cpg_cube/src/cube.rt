@@ -43,14 +43,14 @@ impl Model for Cube {
 #[derive(Clone, Copy)]
 pub struct Narrowing {
     /// The place of the literal that narrowed the cube.
-    place: usize,
+    pub place: usize,
     /// The literal on its variable that was there; `None` if there was none.
-    was: Option<Literal>,
+    pub was: Option<Literal>,
 }
 
 impl Narrowing {
     /// The range of a literal's variable that is left where it and what was there match.
-    fn left(&self, literal: Literal) -> Literal
+    pub fn left(&self, literal: Literal) -> Literal
         ensures { result ≡ left_of literal self.now.was }
     {
         match self.was {
@@ -78,7 +78,7 @@ fn do_variables_rise(literals: &[Literal]) -> bool
 }
 
 /// The place of the first literal on this variable or on one above.
-fn first_literal_from(literals: &[Literal], variable: u8) -> Option<usize>
+pub fn first_literal_from(literals: &[Literal], variable: u8) -> Option<usize>
     ensures place { result ≡ position (λ l. nat_le variable l.variable) literals.now }
     ensures within { IfSome result (λ place. place < length literals.now) }
 {
@@ -88,7 +88,7 @@ fn first_literal_from(literals: &[Literal], variable: u8) -> Option<usize>
 }
 
 /// Whether a variable is above all of these literals.
-fn is_above(literals: &[Literal], variable: u8) -> bool
+pub fn is_above(literals: &[Literal], variable: u8) -> bool
     requires { IsRising literals.now }
     ensures { OnTrue result (All (λ l. l.variable < variable) literals.now) }
 {
@@ -156,6 +156,42 @@ fn copied(alloc: Global, literals: &[Literal]) -> Result<SmallVec<Literal, FEW>,
     Ok(SmallVec::from_vec(copy))
 }
 
+/// A copy of literals and of others behind them.
+fn copied_together(
+    alloc: Global,
+    front: &[Literal],
+    rest: &[Literal],
+) -> Result<SmallVec<Literal, FEW>, OutOfMemory>
+    ensures { IfOk result (λ copy. copy.items ≡ front.now ++ rest.now) }
+{
+    // only the others are there, and they may be few
+    if front.is_empty() {
+        let copy = copied(alloc, rest)?;
+        return Ok(copy);
+    }
+    let mut copy = Vec::with_capacity(alloc, front.len().saturating_add(rest.len()))?;
+    copy.extend_from_slice(front)?;
+    copy.extend_from_slice(rest)?;
+    Ok(SmallVec::from_vec(copy))
+}
+
+/// Whether literals rise together with others before them, which do.
+fn do_rise_behind(front: &[Literal], rest: &[Literal]) -> bool
+    requires { IsRising front.now }
+    ensures { IsTrue result ↔ IsRising (front.now ++ rest.now) }
+{
+    let Some(last) = front.last() else {
+        return do_variables_rise(rest);
+    };
+    let Some((first, _)) = rest.split_first() else {
+        return true;
+    };
+    if last.variable >= first.variable {
+        return false;
+    }
+    do_variables_rise(rest)
+}
+
 impl Cube {
     /// The cube without literals, which matches every scenario.
     pub fn whole(alloc: Global) -> Cube
@@ -176,6 +212,24 @@ impl Cube {
             return Ok(None);
         }
         let literals = copied(alloc, literals)?;
+        Ok(Some(Cube { literals }))
+    }
+
+    /// The cube of literals that rise and of others behind them, and `None` exactly if their variables don't rise together.
+    pub fn joined(
+        alloc: Global,
+        front: &[Literal],
+        rest: &[Literal],
+    ) -> Result<Option<Cube>, OutOfMemory>
+        requires front { IsRising front.now }
+        ensures cube { IfOk result (λ r. IfSome r (λ cube. cube ≡ front.now ++ rest.now)) }
+        ensures rising { IfOk result (λ r. IfSome r (λ _. IsRising (front.now ++ rest.now))) }
+        ensures refused { IfOk result (λ r. IfNone r (¬ IsRising (front.now ++ rest.now))) }
+    {
+        if !do_rise_behind(front, rest) {
+            return Ok(None);
+        }
+        let literals = copied_together(alloc, front, rest)?;
         Ok(Some(Cube { literals }))
     }
 

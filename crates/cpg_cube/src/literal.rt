@@ -67,7 +67,7 @@ impl Literal {
     }
 
     /// What this range and that of another literal on the variable have in common.
-    pub(crate) fn met(&self, other: Literal) -> Literal
+    pub fn met(&self, other: Literal) -> Literal
         ensures { result ≡ meet_literal self.now other }
     {
         Literal {

@@ -25,3 +25,5 @@ pub mod Waited
 pub mod Large
 pub mod WideRows
 pub mod BuiltRows
+pub mod MadeColumns
+pub mod Sources

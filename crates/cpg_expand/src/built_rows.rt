@@ -3,11 +3,12 @@ ghost use Rattle.std.specs.Prelude.{IfOk};
 ghost use Rattle.cpg_expand.specs.BuiltRows.{IsAssembledOf};
 ghost use Rattle.cpg_table.specs.Writing.{AreWritable};
 
+use crate::made_row::{MadeRow, listed_rows};
 use crate::measuring::Peak;
 use cpg_base::{Order, OutOfMemory};
 use cpg_rules::Admitted;
 use cpg_run::{Built, FrozenTimes};
-use cpg_table::{Row, tables_of};
+use cpg_table::tables_of;
 use std::alloc::Global;
 
 /// All that is built under an order but its tables, which repeat a row for each node that hears its item.
@@ -16,7 +17,7 @@ pub struct BuiltRows {
     /// The order.
     pub order: Order,
     /// The row of each item, by number.
-    pub rows: Vec<Row>,
+    pub rows: Vec<MadeRow>,
     /// The times of frozen items.
     pub frozen: FrozenTimes,
     /// The greatest finish of all runs, in time units, with its first scenario by the urgency order.
@@ -38,6 +39,7 @@ impl BuiltRows {
             excess,
             ..
         } = self;
+        let rows = listed_rows(alloc, rows)?;
         let tables = tables_of(alloc, admitted.problem(), rows)?;
         Ok(Built {
             tables,

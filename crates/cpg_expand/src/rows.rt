@@ -3,20 +3,23 @@ ghost use Rattle.std.specs.Prelude.{◌+◌, ◌*◌, ◌≡◌, ◌≤◌, ◌<
 ghost use Rattle.cpg_base.specs.Graph.{item_at, item_count, process_count};
 ghost use Rattle.cpg_base.specs.Numbers.{numbers_below};
 ghost use Rattle.cpg_expand.specs.Agreeing.{IsTree};
-ghost use Rattle.cpg_expand.specs.MadeRows.{AreMergedOf, AreRowsOf, IsRowOf};
+ghost use Rattle.cpg_expand.specs.MadeRows.{AreEntriesOf, AreMergedOf, AreRowsOf, IsRowOf};
 ghost use Rattle.cpg_expand.specs.Large.{ShowsLarge};
 ghost use Rattle.cpg_expand.specs.WideRows.{AreFewIf, HaveWideRows, IsLoadIf};
 ghost use Rattle.cpg_order.specs.Reach.{rows_of_item};
 ghost use Rattle.cpg_run.specs.Found.{DoRowsFit};
+ghost use Rattle.cpg_tree_columns.specs.Columns.{columns_of_paths};
 
+use crate::made_row::MadeRow;
 use cpg_base::{MOST_COLUMNS, MOST_LOAD, Order, OutOfMemory, Problem};
 use cpg_cube::Column;
-use cpg_merging::merged_tidy;
+use cpg_merging::{do_demands_differ, merged_tidy};
 use cpg_reach::rows_of_item;
 use cpg_run::BuildFault;
-use cpg_table::Row;
 use cpg_tree::Tree;
-use cpg_tree_columns::{columns, listing_along};
+use cpg_tree_columns::{
+    column_count, columns, columns_are_tidy, demands_along, listing_along, stand_along,
+};
 use std::alloc::Global;
 
 /// The columns of a start, merged.
@@ -37,26 +40,92 @@ fn start_entries(
     Ok(columns)
 }
 
+/// How many columns the tree of a start has, if they are its row as they are found: they stand by their least scenarios, and none of
+/// them touch.
+fn start_as_found(
+    problem: &Problem,
+    urgency: &Order,
+    tree: &Tree<Option<u64>>,
+) -> Result<Option<usize>, OutOfMemory>
+    requires order { IsPermutation (numbers_below (process_count problem.now)) urgency.now }
+    requires tree { IsTree problem.now tree.now }
+    ensures count { IfOk result (λ r. IfSome r (λ count. count ≡ length (columns_of_paths tree.now.paths))) }
+    ensures merged { IfOk result (λ r. IfSome r (λ _. AreMergedOf problem.now urgency.now tree.now (columns_of_paths tree.now.paths))) }
+{
+    // called for their contracts: the graph is within its limits, and the columns are of it
+    let _processes = problem.processes();
+    columns_are_tidy(tree, problem);
+    let Some(demands) = demands_along(tree, problem, urgency)? else {
+        return Ok(None);
+    };
+    let count = demands.len();
+    if do_demands_differ(demands) {
+        return Ok(None);
+    }
+    Ok(Some(count))
+}
+
+/// The row of a start, its columns merged.
+fn start_row(
+    alloc: Global,
+    problem: &Problem,
+    urgency: &Order,
+    tree: Tree<Option<u64>>,
+    item: u32,
+) -> Result<MadeRow, OutOfMemory>
+    requires order { IsPermutation (numbers_below (process_count problem.now)) urgency.now }
+    requires tree { IsTree problem.now tree }
+    ensures item { IfOk result (λ row. row.item ≡ item) }
+    ensures columns { IfOk result (λ row. AreMergedOf problem.now urgency.now tree row.columns) }
+{
+    if let Some(count) = start_as_found(problem, urgency, &tree)? {
+        return Ok(MadeRow::kept(item, tree, count));
+    }
+    let columns = start_entries(alloc, problem, urgency, &tree)?;
+    Ok(MadeRow::listed(item, columns))
+}
+
+/// The row of a send, its columns by their least scenarios.
+fn send_row(
+    problem: &Problem,
+    urgency: &Order,
+    tree: Tree<Option<u64>>,
+    item: u32,
+) -> Result<MadeRow, OutOfMemory>
+    requires order { IsPermutation (numbers_below (process_count problem.now)) urgency.now }
+    requires tree { IsTree problem.now tree }
+    ensures item { IfOk result (λ row. row.item ≡ item) }
+    ensures columns { IfOk result (λ row. AreEntriesOf problem.now urgency.now tree row.columns) }
+{
+    // called for its contract: the columns are of the graph
+    columns_are_tidy(&tree, problem);
+    if stand_along(&tree, problem, urgency)? {
+        let count = column_count(&tree);
+        return Ok(MadeRow::kept(item, tree, count));
+    }
+    let columns = columns(&tree, problem, urgency)?;
+    Ok(MadeRow::listed(item, columns))
+}
+
 /// The row of an item. The columns of a start are merged.
 fn row(
     alloc: Global,
     problem: &Problem,
     urgency: &Order,
-    tree: &Tree<Option<u64>>,
+    tree: Tree<Option<u64>>,
     item: u32,
-) -> Result<Row, OutOfMemory>
+) -> Result<MadeRow, OutOfMemory>
     requires order { IsPermutation (numbers_below (process_count problem.now)) urgency.now }
-    requires tree { IsTree problem.now tree.now }
-    ensures { IfOk result (IsRowOf problem.now urgency.now tree.now item) }
+    requires tree { IsTree problem.now tree }
+    ensures { IfOk result (IsRowOf problem.now urgency.now tree item) }
 {
     let processes = problem.processes().len() as u32;
     if item < processes {
-        let columns = start_entries(alloc, problem, urgency, tree)?;
-        return Ok(Row::new(item, columns));
+        let row = start_row(alloc, problem, urgency, tree, item)?;
+        return Ok(row);
     }
-    // the columns stand by their least scenarios
-    let columns = columns(tree, problem, urgency)?;
-    Ok(Row::new(item, columns))
+    let row = send_row(problem, urgency, tree, item)?;
+    Ok(row)
 }
 
 /// The number of columns of the rows so far in all tables, with those of one more row, if there is an item to name.
@@ -64,7 +133,7 @@ fn row(
 fn load_with(
     problem: &Problem,
     wide: Option<u32>,
-    row: &Row,
+    row: &MadeRow,
     item: u32,
     load: u64,
 ) -> Result<u64, BuildFault>
@@ -78,7 +147,7 @@ fn load_with(
     let Some(name) = wide else {
         return Ok(load);
     };
-    let columns = row.columns().len() as u64;
+    let columns = row.count() as u64;
     if columns > MOST_COLUMNS {
         return Err(BuildFault::TooWide(name));
     }
@@ -89,15 +158,15 @@ fn load_with(
     Ok(sum)
 }
 
-/// A row for each item. Its tree, which is larger, is not kept beside it. If there is an item to name, columns are
-/// counted: `TooWide` names it if a row has more than 16,384, or all rows of all tables more than 524,288.
+/// A row for each item: its tree is either kept in it or given back. If there is an item to name, columns are counted:
+/// `TooWide` names it if a row has more than 16,384, or all rows of all tables more than 524,288.
 pub(crate) fn rows(
     alloc: Global,
     problem: &Problem,
     urgency: &Order,
     times: Vec<Tree<Option<u64>>>,
     wide: Option<u32>,
-) -> Result<Vec<Row>, BuildFault>
+) -> Result<Vec<MadeRow>, BuildFault>
     requires order { IsPermutation (numbers_below (process_count problem.now)) urgency.now }
     requires count { length times.items ≡ item_count problem.now }
     requires trees { All (IsTree problem.now) times.items }
@@ -111,7 +180,7 @@ pub(crate) fn rows(
     let mut item = 0;
     let mut load = 0;
     for tree in times {
-        let row = row(alloc, problem, urgency, &tree, item)?;
+        let row = row(alloc, problem, urgency, tree, item)?;
         load = load_with(problem, wide, &row, item, load)?;
         rows.push(row)?;
         item += 1;

@@ -2,12 +2,13 @@
 //! column may have, so that writing needs no memory.
 ghost use Rattle.std.specs.Prelude.{◌≡◌, ◌+◌, ◌*◌, ◌<◌, ◌≤◌, ◌++◌, ◌∷◌, [], IfOk, get_or, length, take};
 ghost use Rattle.std.specs.Bool.{OnTrue};
+ghost use Rattle.cpg_cube.specs.Cube.{IsRising};
 ghost use Rattle.cpg_label.specs.Labels.{Labels};
 ghost use Rattle.cpg_label.specs.Lines.{AreAlike, IsLine, IsLineOf, front_text};
 
 use crate::columns::{MOST_LITERAL, place_after};
 use crate::labels::Labels;
-use cpg_cube::{Cube, Literal};
+use cpg_cube::Literal;
 use std::alloc::{AllocError, Global};
 
 /// How many literals a column may have: their variables are numbers of a byte, and rise.
@@ -118,17 +119,15 @@ fn count_up_to(variable: u8) -> usize
     usize::from(variable) + 1
 }
 
-/// The literals of a cube. They are few, since their variables rise.
-fn literals_of(cube: &Cube) -> &[Literal]
-    ensures literals { result.now ≡ cube.now }
-    ensures few { length result.now ≤ MOST_LITERALS }
+/// Its contract says that literals whose variables rise are few.
+fn are_few(literals: &[Literal])
+    requires { IsRising literals.now }
+    ensures { length literals.now ≤ MOST_LITERALS }
 {
-    let literals = cube.literals();
     if let Some(last) = literals.last() {
         // its clauses bound the number of literals
         let _count = count_up_to(last.variable);
     }
-    literals
 }
 
 impl Line {
@@ -194,12 +193,14 @@ impl Line {
         }
     }
 
-    /// Turns into the line of a cube.
-    pub fn turn_into(&mut self, labels: &Labels<'_>, cube: &Cube)
-        requires { IsLine labels.now self.old }
-        ensures { IsLineOf labels.now cube.now self.new }
+    /// Turns into the line of literals whose variables rise.
+    pub fn turn_into(&mut self, labels: &Labels<'_>, literals: &[Literal])
+        requires line { IsLine labels.now self.old }
+        requires rising { IsRising literals.now }
+        ensures { IsLineOf labels.now literals.now self.new }
     {
-        let literals = literals_of(cube);
+        // called for its contract
+        are_few(literals);
         // the literals that both begin with stay, with their text
         let count = common_front(self.literals(), literals);
         self.keep(labels, count);

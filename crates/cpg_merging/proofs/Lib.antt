@@ -9,3 +9,4 @@ pub mod MergingTotals
 pub mod MergingBlocks
 pub mod MergingDemands
 pub mod MergingKinds
+pub mod MergingListed

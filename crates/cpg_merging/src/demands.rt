@@ -1,5 +1,5 @@
 //! How much columns ask above 0 in all. This usually shows at once that no two of them touch.
-ghost use Rattle.std.specs.Prelude.{◌≡◌, ◌/◌, ◌%◌, IfOk, length, map, sum_by};
+ghost use Rattle.std.specs.Prelude.{◌≡◌, ◌+◌, ◌*◌, ◌/◌, ◌^◌, ◌%◌, IfOk, length, map, sum_by};
 ghost use Rattle.std.specs.Bool.{OnFalse};
 ghost use Rattle.cpg_merging.specs.Demands.{AgreeByTime, demand_of, low_of};
 ghost use Rattle.cpg_merging.specs.Totals.{DoNotFall};
@@ -22,12 +22,18 @@ fn asked_in(literals: &[Literal]) -> u8
     asked
 }
 
+/// A time with how much is asked above 0 in all, in a byte, in one number.
+pub fn demand(time: u64, asked: u8) -> u64
+    ensures { result ≡ (time * 256 % 2 ^ 64 + asked) % 2 ^ 64 }
+{
+    time.wrapping_mul(ASKED).wrapping_add(u64::from(asked))
+}
+
 /// A column's time with how much it asks above 0 in all.
 fn demand_of(column: &Column) -> u64
     ensures { result ≡ demand_of column.now }
 {
-    let asked = u64::from(asked_in(column.cube.literals()));
-    column.time.wrapping_mul(ASKED).wrapping_add(asked)
+    demand(column.time, asked_in(column.cube.literals()))
 }
 
 /// The demands of columns.
@@ -62,12 +68,20 @@ fn do_any_differ(sorted: &[u64]) -> bool
     false
 }
 
+/// Whether any two demands of one time differ. If none do, no two columns that have these demands touch.
+pub fn do_demands_differ(demands: Vec<u64>) -> bool
+    ensures { OnFalse result (AgreeByTime demands.items) }
+{
+    let mut demands = demands;
+    // most rows have few, so that this takes little
+    demands.sort_unstable();
+    do_any_differ(demands.as_slice())
+}
+
 /// Whether any two columns of one time differ in how much they ask, as those do that touch.
 pub(crate) fn have_many_demands(alloc: Global, columns: &[Column]) -> Result<bool, OutOfMemory>
     ensures { IfOk result (λ r. OnFalse r (AgreeByTime (map demand_of columns.now))) }
 {
-    let mut demands = demands(alloc, columns)?;
-    // most rows have few columns, so this costs little
-    demands.sort_unstable();
-    Ok(do_any_differ(demands.as_slice()))
+    let demands = demands(alloc, columns)?;
+    Ok(do_demands_differ(demands))
 }

@@ -8,4 +8,5 @@ mod marks;
 mod merging;
 mod totals;
 
+pub use demands::{demand, do_demands_differ};
 pub use merging::{merged, merged_tidy};

@@ -5,14 +5,24 @@ use Rattle.std.proofs.lemmas.Grind.{flat_map-append}
 use Rattle.cpg_base.specs.Graph.{Graph, item_count}
 use Rattle.cpg_base.specs.Numbers.{numbers_below}
 use Rattle.cpg_base.proofs.Lists.{below_push, same_flat_map}
+use Rattle.cpg_cube.specs.declared.column.Column.{Column}
+use Rattle.cpg_expand.specs.Sources.{ShowsSource}
+use Rattle.cpg_expand.specs.declared.made_row.Source.{Source}
+use Rattle.cpg_expand.specs.declared.made_row.Source.TheVariants.{Listed, Kept}
 use Rattle.cpg_table.specs.Table.{NodeTable, Row, columns_of}
 use Rattle.cpg_table.specs.Writing.{row_for}
 use Rattle.cpg_label.specs.CubeText.{columns_text}
 use Rattle.cpg_label.specs.Labels.{Labels, labels_of}
-use Rattle.cpg_show.specs.Sheet.{part_text}
+use Rattle.cpg_show.specs.Sheet.{columns_of_source, part_text}
 use Rattle.cpg_show.specs.TableText.{head_line, is_shown, item_text, lines_of_row, order_line, table_text, text_of_rows}
 use Rattle.cpg_show.specs.TableText.{worst_line}
 use Rattle.cpg_show.specs.declared.sheet.SheetPart.{SheetPart}
+
+-- a source has the columns that it shows
+source_shows : (source : Source) (columns : List Column) → ShowsSource source columns →
+    columns_of_source source ≡ columns
+source_shows (Listed listed) columns is = is
+source_shows (Kept tree) columns is = is
 
 pushed : (labels : Labels) (rows : List SheetPart) (part : SheetPart) →
     flat_map (part_text labels) (rows ++ part ∷ []) ≡ flat_map (part_text labels) rows ++ part_text labels part
@@ -38,12 +48,13 @@ module _ (g : Graph) (made : List Row) (labels : Labels) (n : ℕ) (rows : List 
   -- an item with lines adds its part to the text of the rows
   pub shown_more : (part : SheetPart) → is_shown g n ≡ true → labels ≡ labels_of g →
       string_bytes part.head ≡ head_line g n →
-      part.columns.now ≡ (row_for made n).columns →
+      ShowsSource part.columns (row_for made n).columns →
       flat_map (lines_of_row g made) (numbers_below n) ≡ flat_map (part_text labels) rows →
       flat_map (lines_of_row g made) (numbers_below (n + 1)) ≡ flat_map (part_text labels) (rows ++ part ∷ [])
   shown_more part shown names head columns e =
       let one : lines_of_row g made n ≡ part_text labels part =
-      rw shown (sym (ap₂ (λ h cs. h ++ cs) head (ap₂ columns_text names columns))) in
+      rw shown (sym (ap₂ (λ h cs. h ++ cs) head
+      (ap₂ columns_text names (source_shows part.columns (row_for made n).columns columns)))) in
       next ∙ ap₂ (λ before last. before ++ last) e one ∙ sym (pushed labels rows part)
 
 -- tables that have these rows have their text

@@ -8,6 +8,7 @@ mod putting;
 mod sheet;
 mod table;
 mod trace;
+mod walking;
 
 pub use node::write_node;
 pub use table::write_table;

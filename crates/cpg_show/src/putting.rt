@@ -1,6 +1,7 @@
 //! Texts of columns, put into a buffer in front of a sink. No memory is asked for.
 ghost use Rattle.std.specs.Prelude.{◌≡◌, ◌+◌, ◌≤◌, ◌++◌, OnOk, codes, length};
 ghost use Rattle.std.specs.Fmt.{decimal};
+ghost use Rattle.cpg_cube.specs.Cube.{IsRising};
 ghost use Rattle.cpg_io.specs.Causes.{HasCause};
 ghost use Rattle.cpg_codec.specs.Writing.{Puts};
 ghost use Rattle.cpg_label.specs.CubeText.{column_line, columns_text, cube_text};
@@ -123,23 +124,43 @@ fn put_column<O: Sink>(
     sink: &mut O,
     labels: &Labels<'_>,
     line: &Line,
-    column: &Column,
+    time: u64,
+    literals: &[Literal],
 ) -> Result<(), Failed>
-    requires { IsLineOf labels.now column.now.cube line.now }
-    ensures put { Puts (O.state sink.old).taken (O.state sink.new).taken buffer.old buffer.new result (column_line labels.now column.now) }
+    requires { IsLineOf labels.now literals.now line.now }
+    ensures put { Puts (O.state sink.old).taken (O.state sink.new).taken buffer.old buffer.new result (column_line labels.now (record { time = time; cube = literals.now })) }
     ensures cause { HasCause (O.state sink.old).faults (O.state sink.new).faults result }
 {
-    let text = cube_text(labels, line, column.cube.literals());
+    let text = cube_text(labels, line, literals);
     // the line fits whole: it is held without a test for each part
     if text.len() < buffer.room().saturating_sub(MOST_BESIDE) {
-        hold_line(buffer, column.time, text);
+        hold_line(buffer, time, text);
         return Ok(());
     }
     // no room: each part is put by itself, and the buffer is written when it is full
-    put_parts(buffer, sink, column.time, text)
+    put_parts(buffer, sink, time, text)
 }
 
-/// Puts the lines of columns. A line takes over what it has in common with the line before.
+/// Puts the line of the next column, which takes over what it has in common with the line before.
+pub(crate) fn put_next<O: Sink>(
+    buffer: &mut Buffer,
+    sink: &mut O,
+    labels: &Labels<'_>,
+    line: &mut Line,
+    time: u64,
+    literals: &[Literal],
+) -> Result<(), Failed>
+    requires line { IsLine labels.now line.old }
+    requires rising { IsRising literals.now }
+    ensures line { IsLine labels.now line.new }
+    ensures put { Puts (O.state sink.old).taken (O.state sink.new).taken buffer.old buffer.new result (column_line labels.now (record { time = time; cube = literals.now })) }
+    ensures cause { HasCause (O.state sink.old).faults (O.state sink.new).faults result }
+{
+    line.turn_into(labels, literals);
+    put_column(buffer, sink, labels, line, time, literals)
+}
+
+/// Puts the lines of columns.
 pub(crate) fn put_columns<O: Sink>(
     buffer: &mut Buffer,
     sink: &mut O,
@@ -153,9 +174,8 @@ pub(crate) fn put_columns<O: Sink>(
     ensures cause { HasCause (O.state sink.old).faults (O.state sink.new).faults result }
 {
     for column in columns {
-        // the line keeps the literals that this cube has in common with the last one
-        line.turn_into(labels, &column.cube);
-        put_column(buffer, sink, labels, line, column)?;
+        let literals = column.cube.literals();
+        put_next(buffer, sink, labels, line, column.time, literals)?;
     }
     Ok(())
 }

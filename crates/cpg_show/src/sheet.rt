@@ -4,20 +4,23 @@ ghost use Rattle.cpg_io.specs.Causes.{HasCause, Rose};
 ghost use Rattle.cpg_io.specs.Sink.{Took, TookPrefix};
 ghost use Rattle.cpg_codec.specs.Writing.{Puts};
 ghost use Rattle.cpg_label.specs.Lines.{IsLine};
-ghost use Rattle.cpg_show.specs.Sheet.{part_text, sheet_text};
+ghost use Rattle.cpg_label.specs.CubeText.{columns_text};
+ghost use Rattle.cpg_show.specs.Sheet.{columns_of_source, part_text, sheet_text};
 
 use crate::putting::{put_columns, put_text};
+use crate::walking::put_paths;
 use cpg_codec::{Buffer, WriteFault};
-use cpg_cube::Column;
+use cpg_expand::Source;
 use cpg_io::{Failed, Sink};
 use cpg_label::{Labels, Line};
+use cpg_tree_columns::PathCube;
 use std::alloc::Global;
 
 /// A line, and the columns below it.
 #[derive(Drop)]
 pub(crate) struct SheetPart<'a> {
     pub head: String,
-    pub columns: &'a [Column],
+    pub columns: Source<'a>,
 }
 
 /// A text of rows: all of it but the lines of the columns is at hand.
@@ -28,6 +31,38 @@ pub(crate) struct Sheet<'a> {
     pub parts: Vec<SheetPart<'a>>,
 }
 
+/// Puts the lines of the columns of a source.
+fn put_source<O: Sink>(
+    buffer: &mut Buffer,
+    sink: &mut O,
+    labels: &Labels<'_>,
+    line: &mut Line,
+    source: Source<'_>,
+    path: &mut PathCube,
+) -> Result<(), Failed>
+    requires line { IsLine labels.now line.old }
+    requires path { path.old ≡ [] }
+    ensures line { OnOk result (IsLine labels.now line.new) }
+    ensures path { OnOk result (path.new ≡ []) }
+    ensures put { Puts (O.state sink.old).taken (O.state sink.new).taken buffer.old buffer.new result (columns_text labels.now (columns_of_source source.entry)) }
+    ensures cause { HasCause (O.state sink.old).faults (O.state sink.new).faults result }
+{
+    match source {
+        Source::Listed(columns) => put_columns(buffer, sink, labels, line, columns),
+        Source::Kept(tree) => {
+            put_paths(
+                buffer,
+                sink,
+                labels,
+                line,
+                tree.items(),
+                tree.faults(),
+                path,
+            )
+        }
+    }
+}
+
 /// Puts a line and the lines of its columns.
 fn put_part<O: Sink>(
     buffer: &mut Buffer,
@@ -35,14 +70,17 @@ fn put_part<O: Sink>(
     labels: &Labels<'_>,
     line: &mut Line,
     part: &SheetPart<'_>,
+    path: &mut PathCube,
 ) -> Result<(), Failed>
-    requires { IsLine labels.now line.old }
+    requires line { IsLine labels.now line.old }
+    requires path { path.old ≡ [] }
     ensures line { OnOk result (IsLine labels.now line.new) }
+    ensures path { OnOk result (path.new ≡ []) }
     ensures put { Puts (O.state sink.old).taken (O.state sink.new).taken buffer.old buffer.new result (part_text labels.now part.now) }
     ensures cause { HasCause (O.state sink.old).faults (O.state sink.new).faults result }
 {
     put_text(buffer, sink, part.head.as_str())?;
-    put_columns(buffer, sink, labels, line, part.columns)
+    put_source(buffer, sink, labels, line, part.columns, path)
 }
 
 /// Puts parts, one after another.
@@ -52,13 +90,15 @@ fn put_parts<O: Sink>(
     labels: &Labels<'_>,
     line: &mut Line,
     parts: &[SheetPart<'_>],
+    path: &mut PathCube,
 ) -> Result<(), Failed>
-    requires { IsLine labels.now line.old }
+    requires line { IsLine labels.now line.old }
+    requires path { path.old ≡ [] }
     ensures put { Puts (O.state sink.old).taken (O.state sink.new).taken buffer.old buffer.new result (flat_map (part_text labels.now) parts.now) }
     ensures cause { HasCause (O.state sink.old).faults (O.state sink.new).faults result }
 {
     for part in parts {
-        put_part(buffer, sink, labels, line, part)?;
+        put_part(buffer, sink, labels, line, part, path)?;
     }
     Ok(())
 }
@@ -69,37 +109,48 @@ fn put_sheet<O: Sink>(
     sink: &mut O,
     line: &mut Line,
     sheet: &Sheet<'_>,
+    path: &mut PathCube,
 ) -> Result<(), Failed>
-    requires { IsLine sheet.now.labels line.old }
+    requires line { IsLine sheet.now.labels line.old }
+    requires path { path.old ≡ [] }
     ensures put { Puts (O.state sink.old).taken (O.state sink.new).taken buffer.old buffer.new result (sheet_text sheet.now) }
     ensures cause { HasCause (O.state sink.old).faults (O.state sink.new).faults result }
 {
     put_text(buffer, sink, sheet.front.as_str())?;
-    put_parts(buffer, sink, &sheet.labels, line, sheet.parts.as_slice())
+    put_parts(
+        buffer,
+        sink,
+        &sheet.labels,
+        line,
+        sheet.parts.as_slice(),
+        path,
+    )
 }
 
-/// Writes a sheet through an empty buffer.
+/// Writes a sheet through an empty buffer, from the root of each tree on.
 fn write_through<O: Sink>(
     buffer: &mut Buffer,
     sink: &mut O,
     line: &mut Line,
     sheet: &Sheet<'_>,
+    path: &mut PathCube,
 ) -> Result<(), Failed>
     requires empty { buffer.old ≡ [] }
     requires line { IsLine sheet.now.labels line.old }
+    requires path { path.old ≡ [] }
     ensures whole { OnOk result (Took (O.state sink.old).taken (O.state sink.new).taken (sheet_text sheet.now)) }
     ensures part { OnErr result (TookPrefix (O.state sink.old).taken (O.state sink.new).taken (sheet_text sheet.now)) }
     ensures cause { HasCause (O.state sink.old).faults (O.state sink.new).faults result }
 {
     // what the buffer still holds at the end is written behind the parts
-    put_sheet(buffer, sink, line, sheet)?;
+    put_sheet(buffer, sink, line, sheet, path)?;
     buffer.write(sink)
 }
 
 /// Writes a sheet.
 ///
-/// `Failed` only if the sink's count of faults rose. The sink has taken a proper prefix of the text then. The buffer and the
-/// line of a column are made before the first write, so on `OutOfMemory` the sink is as it was.
+/// `Failed` only if the sink's count of faults rose. The sink has taken a proper prefix of the text then. The buffer, the line of a
+/// column and the cube of a path are made before the first write, so on `OutOfMemory` the sink is as it was.
 pub(crate) fn write_sheet<O: Sink>(
     alloc: Global,
     sheet: &Sheet<'_>,
@@ -115,6 +166,7 @@ pub(crate) fn write_sheet<O: Sink>(
     // all memory is asked for here, so that nothing has been written if there is none
     let mut buffer = Buffer::new(alloc)?;
     let mut line = Line::new(alloc)?;
-    write_through(&mut buffer, sink, &mut line, sheet)?;
+    let mut path = PathCube::whole(alloc)?;
+    write_through(&mut buffer, sink, &mut line, sheet, &mut path)?;
     Ok(())
 }

@@ -2,6 +2,7 @@
 ghost use Rattle.std.specs.Prelude.{◌≡◌, ◌<◌, ◌≤◌, ◌++◌, Err, IfOk, OnOk, codes, flat_map, string_bytes};
 ghost use Rattle.cpg_base.specs.Graph.{item_count};
 ghost use Rattle.cpg_base.specs.Numbers.{numbers_below};
+ghost use Rattle.cpg_expand.specs.Sources.{ShowsSource};
 ghost use Rattle.cpg_io.specs.Causes.{Rose};
 ghost use Rattle.cpg_io.specs.Sink.{Took, TookPrefix};
 ghost use Rattle.cpg_label.specs.Labels.{labels_of, process_name};
@@ -12,11 +13,10 @@ ghost use Rattle.cpg_table.specs.Writing.{row_for};
 use crate::sheet::{Sheet, SheetPart, write_sheet};
 use cpg_base::{Item, Order, OutOfMemory, Problem};
 use cpg_codec::WriteFault;
-use cpg_cube::Column;
+use cpg_expand::{MadeRow, Source};
 use cpg_io::Sink;
 use cpg_label::{Labels, write_act};
 use cpg_rules::Admitted;
-use cpg_table::Row;
 use std::alloc::{AllocError, Global};
 
 /// Whether an item is started or sent.
@@ -84,14 +84,14 @@ fn head_line_of(
     Ok(line)
 }
 
-/// The columns of an item; none if it has no row.
-fn columns_of(rows: &[Row], item: u32) -> &[Column]
-    ensures { result.now ≡ (row_for rows.now item).columns }
+/// Where the columns of an item are read; there are none if it has no row.
+fn source_of(rows: &[MadeRow], item: u32) -> Source<'_>
+    ensures { ShowsSource result (row_for rows.now item).columns }
 {
     match rows.get(item as usize) {
         // rows stand by the number of their item
-        Some(row) => row.columns(),
-        None => &[],
+        Some(row) => row.source(),
+        None => Source::Listed(&[]),
     }
 }
 
@@ -100,7 +100,7 @@ fn parts_of<'a>(
     alloc: Global,
     problem: &Problem,
     labels: &Labels<'_>,
-    rows: &'a [Row],
+    rows: &'a [MadeRow],
 ) -> Result<Vec<SheetPart<'a>>, OutOfMemory>
     requires { labels.now ≡ labels_of problem.now }
     ensures { IfOk result (λ parts. flat_map (part_text labels.now) parts.items ≡ flat_map (lines_of_row problem.now rows.entry.now)
@@ -112,7 +112,7 @@ fn parts_of<'a>(
         if is_shown(problem, item) {
             parts.push(SheetPart {
                 head: head_line_of(alloc, problem, labels, item)?,
-                columns: columns_of(rows, item),
+                columns: source_of(rows, item),
             })?;
         }
     }
@@ -140,7 +140,7 @@ fn sheet_of<'a>(
     alloc: Global,
     problem: &'a Problem,
     order: &Order,
-    rows: &'a [Row],
+    rows: &'a [MadeRow],
     worst: u64,
 ) -> Result<Sheet<'a>, OutOfMemory>
     ensures { IfOk result (λ sheet. sheet_text sheet ≡ text_of_rows problem.entry.now order.now rows.entry.now worst) }
@@ -164,7 +164,7 @@ pub fn write_table<O: Sink>(
     alloc: Global,
     admitted: &Admitted,
     order: &Order,
-    rows: &[Row],
+    rows: &[MadeRow],
     worst: u64,
     sink: &mut O,
 ) -> Result<(), WriteFault>

@@ -5,3 +5,9 @@ pub mod Leasts
 pub mod FirstColumns
 pub mod MostLaws
 pub mod Meetings
+pub mod CountedTimes
+pub mod DemandedLows
+pub mod PathRoom
+pub mod GreatestTimes
+pub mod SidesAlong
+pub mod PathWalks

@@ -1,5 +1,5 @@
 //! Whether the columns of a tree stand by their least scenarios as they are found.
-ghost use Rattle.std.specs.Prelude.{◌≡◌, IfOk, IfSome, IsPermutation};
+ghost use Rattle.std.specs.Prelude.{◌≡◌, IfOk, IsPermutation};
 ghost use Rattle.std.specs.Bool.{OnTrue};
 ghost use Rattle.cpg_base.specs.Graph.{process_count};
 ghost use Rattle.cpg_base.specs.Numbers.{numbers_below};
@@ -16,19 +16,14 @@ use cpg_tree::{Top, Tree, TreeItem, top_of};
 /// How many places are left at the first variable along an order.
 const FIRST: u16 = 256;
 
-/// How many leaves a tree has, if the variables of the forks on each way down it stand along an order, by how many
-/// places are left at each: none at more than `left`, and none at 0. One walk does both, since a large tree is not in
-/// the cache when it is read.
-fn leaves_along<T: Copy>(
-    items: &[TreeItem<T>],
-    places: &[u16; VARIABLES],
-    left: u16,
-) -> Option<usize>
+/// Whether the variables of the forks on each way down stand along an order, by how many places are left at each: none
+/// at more than `left`, and none at 0.
+fn are_along<T: Copy>(items: &[TreeItem<T>], places: &[u16; VARIABLES], left: u16) -> bool
     requires { IsFlat items.now }
-    ensures { IfSome result (λ _. (n : TreeNode T) → items.now ≡ flat n → AreForksAlong places.now left n) }
+    ensures { OnTrue result ((n : TreeNode T) → items.now ≡ flat n → AreForksAlong places.now left n) }
 {
     match top_of(items) {
-        Top::Value(_) => Some(1),
+        Top::Value(_) => true,
         Top::Cut {
             variable,
             below,
@@ -37,36 +32,25 @@ fn leaves_along<T: Copy>(
         } => {
             let own = places[variable as usize];
             if own == 0 {
-                return None;
+                return false;
             }
             if own > left {
-                return None;
+                return false;
             }
-            let low = leaves_along(below, places, own)?;
-            let high = leaves_along(above, places, own)?;
-            Some(low.saturating_add(high))
+            if !are_along(below, places, own) {
+                return false;
+            }
+            if !are_along(above, places, own) {
+                return false;
+            }
+            true
         }
     }
 }
 
-/// How many paths there are, if the paths with a number are known to stand by the least scenario along the order that
-/// they match. No clause speaks of the number, which only serves to reserve room. The one error is `OutOfMemory`.
-pub(crate) fn count_along(
-    tree: &Tree<Option<u64>>,
-    problem: &Problem,
-    order: &Order,
-) -> Result<Option<usize>, OutOfMemory>
-    requires { IsPermutation (numbers_below (process_count problem.now)) order.now }
-    ensures { IfOk result (λ r. IfSome r (λ _. AreByLows (λ c. c.cube) problem.now order.now (columns_of_paths tree.now.paths))) }
-{
-    let places = places_along(tree.alloc(), problem, order)?;
-    let count = leaves_along(tree.items(), &places, FIRST);
-    Ok(count)
-}
-
 /// Whether the paths with a number are known to stand by the least scenario along the order that they match. The one error is
 /// `OutOfMemory`.
-pub(crate) fn stand_along(
+pub fn stand_along(
     tree: &Tree<Option<u64>>,
     problem: &Problem,
     order: &Order,
@@ -74,8 +58,6 @@ pub(crate) fn stand_along(
     requires { IsPermutation (numbers_below (process_count problem.now)) order.now }
     ensures { IfOk result (λ r. OnTrue r (AreByLows (λ c. c.cube) problem.now order.now (columns_of_paths tree.now.paths))) }
 {
-    match count_along(tree, problem, order)? {
-        Some(_) => Ok(true),
-        None => Ok(false),
-    }
+    let places = places_along(tree.alloc(), problem, order)?;
+    Ok(are_along(tree.items(), &places, FIRST))
 }

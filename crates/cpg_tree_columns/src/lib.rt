@@ -3,10 +3,15 @@
 #![tactic(auto)]
 
 mod along;
+mod demanding;
 mod listing;
 mod meeting;
+mod path;
 mod peaks;
 
-pub use listing::{columns, listing_along};
+pub use along::stand_along;
+pub use demanding::{column_count, demands_along};
+pub use listing::{columns, columns_are_tidy, columns_as_found, listing_along};
 pub use meeting::most_where;
+pub use path::PathCube;
 pub use peaks::{greatest, most};

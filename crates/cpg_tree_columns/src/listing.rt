@@ -10,7 +10,7 @@ ghost use Rattle.cpg_tree.specs.Decision.{HasCuts};
 ghost use Rattle.cpg_tree.specs.Flat.{IsFlat, flat};
 ghost use Rattle.cpg_tree.specs.TreeNode.{TreeNode};
 
-use crate::along::count_along;
+use crate::along::stand_along;
 use cpg_base::{Order, OutOfMemory, Problem, top};
 use cpg_cube::{Column, Cube, Listing, Literal};
 use cpg_tree::{Top, Tree, TreeItem, top_of};
@@ -76,25 +76,39 @@ fn push_columns(
     }
 }
 
-/// How many columns to reserve room for: a tree has no more columns than leaves.
-pub(crate) fn room_for(tree: &Tree<Option<u64>>) -> usize {
-    tree.leaves() as usize
-}
-
-/// The paths with a number, each with its own cube, from the left to the right. Room for `room` of them is reserved
-/// at once.
+/// The paths with a number, each with its own cube, from the left to the right.
 pub(crate) fn listed(
     tree: &Tree<Option<u64>>,
     problem: &Problem,
-    room: usize,
 ) -> Result<Vec<Column>, OutOfMemory>
     requires faults { tree.now.faults ≡ problem.now.faults }
     requires known { All (λ p. IsKnown problem.now p.0) tree.now.paths }
     ensures tidy { IfOk result (λ r. All (IsTidyColumn problem.now) r.items) }
     ensures all { IfOk result (λ r. r.items ≡ columns_of_paths tree.now.paths) }
 {
-    // called for its contract: the graph is within its limits
+    // called for its contract
+    columns_are_tidy(tree, problem);
+    // a tree has no more columns than leaves
+    let columns = columns_as_found(tree, tree.leaves() as usize)?;
+    Ok(columns)
+}
+
+/// Its contract says that the columns of a tree of a graph are tidy.
+pub fn columns_are_tidy(tree: &Tree<Option<u64>>, problem: &Problem)
+    requires faults { tree.now.faults ≡ problem.now.faults }
+    requires known { All (λ p. IsKnown problem.now p.0) tree.now.paths }
+    ensures { All (IsTidyColumn problem.now) (columns_of_paths tree.now.paths) }
+{
+    // their clauses tell that the graph is within its limits, and that the paths are those of a good list
     let _processes = problem.processes();
+    let _items = tree.items();
+}
+
+/// The paths with a number, each with its own cube, from the left to the right. Room is taken for `room` of them at once. The one
+/// error is `OutOfMemory`.
+pub fn columns_as_found(tree: &Tree<Option<u64>>, room: usize) -> Result<Vec<Column>, OutOfMemory>
+    ensures { IfOk result (λ r. r.items ≡ columns_of_paths tree.now.paths) }
+{
     let mut whole = Cube::whole(tree.alloc());
     let mut columns = Vec::new(tree.alloc());
     columns.reserve(room)?;
@@ -116,22 +130,9 @@ pub fn listing_along(
     ensures all { IfOk result (λ r. r.columns.items ≡ columns_of_paths tree.now.paths) }
     ensures sorted { IfOk result (λ r. OnTrue r.is_sorted (AreByLows (λ c. c.cube) problem.now order.now r.columns.items)) }
 {
-    match count_along(tree, problem, order)? {
-        Some(count) => {
-            let columns = listed(tree, problem, count)?;
-            Ok(Listing {
-                columns,
-                is_sorted: true,
-            })
-        }
-        None => {
-            let columns = listed(tree, problem, room_for(tree))?;
-            Ok(Listing {
-                columns,
-                is_sorted: false,
-            })
-        }
-    }
+    let is_sorted = stand_along(tree, problem, order)?;
+    let columns = listed(tree, problem)?;
+    Ok(Listing { columns, is_sorted })
 }
 
 /// The paths with a number, each with its own cube, by the least scenario that it matches. The one error is `OutOfMemory`.

@@ -7,6 +7,7 @@ ghost use Rattle.cpg_base.specs.Numbers.{numbers_below};
 ghost use Rattle.cpg_cube.specs.Fit.{IsKnown, lows};
 ghost use Rattle.cpg_base.specs.Scenario.{IsLeast};
 ghost use Rattle.cpg_tree_columns.specs.Columns.{columns_from, columns_of_paths, first_with};
+ghost use Rattle.cpg_tree_columns.specs.Counted.{time_of};
 ghost use Rattle.cpg_tree_columns.specs.Greatest.{HasNumberAt, HasValueAt, IsGreatestOf, IsLeastWhereSorted, IsGreatestNumber, greater, if_wanted, most_of};
 ghost use Rattle.cpg_tree.specs.Decision.{HasCuts};
 ghost use Rattle.cpg_tree.specs.Flat.{IsFlat, flat};
@@ -14,7 +15,7 @@ ghost use Rattle.cpg_tree.specs.TreeNode.{TreeNode};
 ghost use Rattle.cpg_tree.specs.Tree.{HasOnePathEach, DoPathsPass, IsMap};
 
 use crate::along::stand_along;
-use crate::listing::{listed, room_for};
+use crate::listing::listed;
 use cpg_base::{Order, OutOfMemory, Problem, Scenario, top};
 use cpg_cube::{Cube, Literal, first_by_least_scenario};
 use cpg_tree::{Top, Tree, TreeItem, top_of};
@@ -40,15 +41,26 @@ fn if_wanted(wanted: u64, time: Option<u64>) -> Option<u64>
     if time == wanted { Some(time) } else { None }
 }
 
-/// The greatest number of a leaf.
+/// The time of an item; a fork has none.
+fn time_of(item: TreeItem<Option<u64>>) -> Option<u64>
+    ensures { result ≡ time_of item }
+{
+    match item {
+        TreeItem::Value(time) => time,
+        TreeItem::Cut { .. } => None,
+    }
+}
+
+/// The greatest number of a leaf. The forks do not matter, so one pass over the items finds it.
 fn most_of(items: &[TreeItem<Option<u64>>]) -> Option<u64>
     requires { IsFlat items.now }
     ensures { (n : TreeNode (Option ℕ)) → items.now ≡ flat n → result ≡ most_of n }
 {
-    match top_of(items) {
-        Top::Value(time) => time,
-        Top::Cut { below, above, .. } => greater(most_of(below), most_of(above)),
+    let mut most = None;
+    for item in items {
+        most = greater(most, time_of(*item));
     }
+    most
 }
 
 /// The tree of one number alone.
@@ -74,7 +86,7 @@ fn first_with_number(
 {
     // called for its contract: the graph is within its limits
     let _processes = problem.processes();
-    let columns = listed(tree, problem, room_for(tree))?;
+    let columns = listed(tree, problem)?;
     let columns = columns.as_slice();
     let Some(place) = first_by_least_scenario(tree.alloc(), problem, order, columns)? else {
         return Ok(None);

@@ -1,10 +1,9 @@
 use Rattle.std.proofs.Common.{ℕ, List, inr, refl, sym, subst, string_bytes}
-use Rattle.cpg_codec.specs.Spelling.{spelling}
 use Rattle.cpg_show.specs.NodeText.{node_text}
 use Rattle.cpg_inputs.proofs.Keeping.{keeps_same}
 use Rattle.cpg_app.specs.declared.output.Output.TheVariants.{Lines, Table as Shown, NodeTable as OfNode, Pack}
 use Rattle.cpg_app.specs.Endings.{Has, Prints, Ran, seen}
-use Rattle.cpg_app.specs.Outputs.{Answers, shown_by}
+use Rattle.cpg_app.specs.Outputs.{Answers, packed_by, shown_by}
 use Rattle.cpg_outputs.specs.Told.{IsWritten, sent}
 use Rattle.cpg_app.proofs.Answered.{followed_lawful, halt_named, is_open, may_follow}
 use Rattle.cpg_app.proofs.Finished.{stopped_lawful, written_lawful}
@@ -43,6 +42,14 @@ put_node_table-requires g c =
     (text_of asked.command asked.values (OfNode c.in-Ok-NodeTable.tables c.in-Ok-NodeTable.node) tt
     (subst (Answers asked.command asked.values) c.in-Ok-NodeTable.field-0-is
     (c.in-Ok-NodeTable.ensures.output asked.command asked.values asked.are))).0
+
+-- the rows of a compile can be written in a pack
+pub put_pack-requires : goal.put_pack-requires
+put_pack-requires g c =
+    let asked = c.requires.may in
+    (text_of asked.command asked.values (Pack c.in-Ok-Pack.made) tt
+    (subst (Answers asked.command asked.values) c.in-Ok-Pack.field-0-is
+    (c.in-Ok-Pack.ensures.output asked.command asked.values asked.are))).0
 
 -- the output is a text, which was written or met a fault, so the run ends lawfully
 pub returns-in-Ok-Lines-clause-lawful : goal.returns-in-Ok-Lines-clause-lawful
@@ -112,12 +119,13 @@ returns-in-Ok-Pack-clause-lawful g c words start at =
       status = c.end-in-Ok-Pack.result;
     } in
     let has : Has r at.command at.has.values = record { words = at.words; reads = at.has.reads } in
-    let puts = text_of at.command at.has.values (Pack c.in-Ok-Pack.tables) tt
+    let puts = text_of at.command at.has.values (Pack c.in-Ok-Pack.made) tt
     (subst (Answers at.command at.has.values) c.in-Ok-Pack.field-0-is
     (c.in-Ok-Pack.ensures.output at.command at.has.values at.has.are)) in
-    let prints : Prints r (spelling c.in-Ok-Pack.tables) =
-    record { command = at.command; values = at.has.values; has = has; puts = puts } in
-    written_lawful r (spelling c.in-Ok-Pack.tables) c.put_pack.result prints c.put_pack.ensures c.end-in-Ok-Pack.ensures
+    let prints : Prints r (packed_by c.in-Ok-Pack.made.admitted.graph c.in-Ok-Pack.made.rows) =
+    record { command = at.command; values = at.has.values; has = has; puts = puts.1 } in
+    written_lawful r (packed_by c.in-Ok-Pack.made.admitted.graph c.in-Ok-Pack.made.rows) c.put_pack.result prints
+    c.put_pack.ensures c.end-in-Ok-Pack.ensures
 
 -- the node followed its stream, to the close or not, so the run ends lawfully
 pub returns-in-Ok-Stream-clause-lawful : goal.returns-in-Ok-Stream-clause-lawful

@@ -13,6 +13,6 @@ invariant-loop-block l = record {
   capacity : vec_capacity l.fn.bytes ≤ vec_capacity l.bytes;
 }
 
--- each turn takes eight of the literals that are left
+-- each turn takes sixteen of the literals that are left
 abbrev pub decreases-loop-block : goal.decreases-loop-block
 decreases-loop-block l = length l.left

@@ -9,7 +9,7 @@ pub loop-column-preserved : goal.loop-column-preserved
 loop-column-preserved g c = record {
   put = item_more column_bytes _ _ _ _ _ _ c.args.columns.now c.loop-column.column-index c.column-item.result
       c.column-item.is c.loop-column-test.true c.loop-column.invariant.put
-      c.in_ok-put_column.ensures.put;
+      (rw c.literals.ensures.literals at c.in_ok-put_column.ensures.put);
   kept = c.in_ok-put_column.ensures.cause.kept ∙ c.loop-column.invariant.kept;
 }
 
@@ -20,4 +20,4 @@ returns-in_err-put_column-clause-put g c =
     Puts-failed _ _ _ _ _ c.from_residual.result p.0 p.1
     (item_fails column_bytes _ _ _ _ _ c.args.columns.now c.loop-column.column-index c.column-item.result
     c.column-item.is c.loop-column-test.true c.loop-column.invariant.put
-    c.in_err-put_column.ensures.put)
+    (rw c.literals.ensures.literals at c.in_err-put_column.ensures.put))

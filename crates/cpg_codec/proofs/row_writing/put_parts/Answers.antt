@@ -10,12 +10,12 @@ use Rattle.cpg_codec.proofs.row_writing.put_parts.Goals as goal
 pub returns-in_err-put_long-clause-put : goal.returns-in_err-put_long-clause-put
 returns-in_err-put_long-clause-put g c =
     let p = err_from_is_err_and c.from_residual.result c.from_residual.ensures.1 in
-    Puts-first _ _ _ _ (to_be_bytes w64 c.args.column.now.time) (byte (length c.args.column.now.cube)
-    ++ flat_map literal_bytes c.args.column.now.cube) c.from_residual.result p.0 p.1
+    Puts-first _ _ _ _ (to_be_bytes w64 c.args.time)
+    (byte (length c.args.literals.now) ++ flat_map literal_bytes c.args.literals.now) c.from_residual.result p.0 p.1
     c.in_err-put_long.ensures.put
 
 -- the time is put first, and then the count with the literals
 pub returns-clause-put : goal.returns-clause-put
-returns-clause-put g c = Puts-then _ _ _ _ _ _ (to_be_bytes w64 c.args.column.now.time)
-    (byte (length c.args.column.now.cube) ++ flat_map literal_bytes c.args.column.now.cube) c.put_counted.result
-    c.in_ok-put_long.ensures.put (rw c.literals.ensures.literals at c.put_counted.ensures.put)
+returns-clause-put g c = Puts-then _ _ _ _ _ _ (to_be_bytes w64 c.args.time)
+    (byte (length c.args.literals.now) ++ flat_map literal_bytes c.args.literals.now) c.put_counted.result
+    c.in_ok-put_long.ensures.put c.put_counted.ensures.put

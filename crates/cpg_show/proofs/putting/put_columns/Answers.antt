@@ -9,16 +9,16 @@ pub loop-column-preserved : goal.loop-column-preserved
 loop-column-preserved g c = record {
   put = item_more (column_line c.args.labels.now) _ _ _ _ _ _ c.args.columns.now c.loop-column.column-index
       c.column-item.result c.column-item.is c.loop-column-test.true c.loop-column.invariant.put
-      c.in_ok-put_column.ensures.put;
-  kept = c.in_ok-put_column.ensures.cause.kept ∙ c.loop-column.invariant.kept;
-  line = c.turn_into.ensures.line;
+      (rw c.literals-literals.ensures.literals at c.in_ok-put_next.ensures.put);
+  kept = c.in_ok-put_next.ensures.cause.kept ∙ c.loop-column.invariant.kept;
+  line = c.in_ok-put_next.ensures.line;
 }
 
 -- the line of this column failed, so a front of the text was put
-pub returns-in_err-put_column-clause-put : goal.returns-in_err-put_column-clause-put
-returns-in_err-put_column-clause-put g c =
+pub returns-in_err-put_next-clause-put : goal.returns-in_err-put_next-clause-put
+returns-in_err-put_next-clause-put g c =
     let p = err_from_is_err_and c.from_residual.result c.from_residual.ensures.1 in
     Puts-failed _ _ _ _ _ c.from_residual.result p.0 p.1
     (item_fails (column_line c.args.labels.now) _ _ _ _ _ c.args.columns.now c.loop-column.column-index
     c.column-item.result c.column-item.is c.loop-column-test.true c.loop-column.invariant.put
-    c.in_err-put_column.ensures.put)
+    (rw c.literals-literals.ensures.literals at c.in_err-put_next.ensures.put))

@@ -2,16 +2,17 @@ use Rattle.std.proofs.Common.{string_bytes}
 use Rattle.std.proofs.lemmas.Result.{err_from_is_err_and}
 use Rattle.cpg_codec.proofs.Puts.{Puts-then, Puts-first}
 use Rattle.cpg_label.specs.CubeText.{columns_text}
+use Rattle.cpg_show.specs.Sheet.{columns_of_source}
 use Rattle.cpg_show.proofs.sheet.put_part.Goals as goal
 
 pub returns-in_err-put_text-clause-put : goal.returns-in_err-put_text-clause-put
 returns-in_err-put_text-clause-put g c =
     let p = err_from_is_err_and c.from_residual.result c.from_residual.ensures.1 in
     Puts-first _ _ _ _ (string_bytes c.args.part.now.head)
-    (columns_text c.args.labels.now c.args.part.now.columns.now) c.from_residual.result p.0 p.1
+    (columns_text c.args.labels.now (columns_of_source c.args.part.now.columns)) c.from_residual.result p.0 p.1
     (rw c.as_str.ensures.value at c.in_err-put_text.ensures.put)
 
 pub returns-clause-put : goal.returns-clause-put
 returns-clause-put g c = Puts-then _ _ _ _ _ _ (string_bytes c.args.part.now.head)
-    (columns_text c.args.labels.now c.args.part.now.columns.now) c.put_columns.result
-    (rw c.as_str.ensures.value at c.in_ok-put_text.ensures.put) c.put_columns.ensures.put
+    (columns_text c.args.labels.now (columns_of_source c.args.part.now.columns)) c.put_source.result
+    (rw c.as_str.ensures.value at c.in_ok-put_text.ensures.put) c.put_source.ensures.put

@@ -12,6 +12,7 @@ loop-part-preserved g c = record {
       c.in_ok-put_part.ensures.put;
   kept = c.in_ok-put_part.ensures.cause.kept ∙ c.loop-part.invariant.kept;
   line = c.in_ok-put_part.ensures.line;
+  path = c.in_ok-put_part.ensures.path;
 }
 
 -- this part failed, so a front of the text was put

@@ -9,7 +9,7 @@ loop-item-preserved c = elim c.if-is_shown.branch [
   | then-is_shown+in_ok-head_line_of+in_ok-push w ↦
       rw w.parts-is (rw w.in_ok-push.ensures.items
       (shown_more c.args.problem.now c.args.rows.now c.args.labels.now c.loop-item.item c.loop-item.parts.items _
-      (sym c.is_shown.ensures ∙ w.if-is_shown.true) c.requires w.in_ok-head_line_of.ensures w.columns_of.ensures
+      (sym c.is_shown.ensures ∙ w.if-is_shown.true) c.requires w.in_ok-head_line_of.ensures w.source_of.ensures
       c.loop-item.invariant))
   | else-is_shown w ↦ rw w.parts-is
       (hidden_more c.args.problem.now c.args.rows.now c.args.labels.now c.loop-item.item c.loop-item.parts.items

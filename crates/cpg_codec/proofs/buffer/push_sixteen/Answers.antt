@@ -1,0 +1,13 @@
+use Rattle.std.proofs.Common.{◌≡◌, ◌∙◌, ◌++◌, true, is_ok, length, ap, rules}
+use Rattle.cpg_codec.proofs.Blocks.{appended, sixteen_bytes}
+use Rattle.cpg_codec.proofs.buffer.push_sixteen.Goals as goal
+
+-- the added bytes are those of the sixteen literals
+pub returns-clause-items : goal.returns-clause-items
+returns-clause-items c =
+    let old = c.args.bytes.now.items in
+    let new = c.extend_from_slice.new.self.items in
+    let sixteen : length c.args.literals.now ≡ 16 = search rules in
+    let ok : is_ok c.extend_from_slice.result ≡ true = search rules in
+    appended old new _ _ c.extend_from_slice.ensures.items ok
+    ∙ ap (λ bs. old ++ bs) (sixteen_bytes c.args.literals.now _ sixteen)

@@ -1,0 +1,6 @@
+use Rattle.cpg_codec.specs.Fronts.{HasFront}
+use Rattle.cpg_codec.proofs.row_taking.skip_each.Given as goal
+
+-- the bytes begin with the literals so far
+abbrev pub invariant-loop-count : goal.invariant-loop-count
+invariant-loop-count l = HasFront l.fn.literals l.fn.bytes l.fn.most l.count l.rest

@@ -1,0 +1,76 @@
+-- Rising literals with others behind them.
+use Rattle.std.proofs.Common.{ℕ, ◌-◌, ◌<◌, ◌≤◌, ◌≡◌, Bool, true, List, [], ◌∷◌, ◌++◌, length, get_or, All, Some}
+use Rattle.std.proofs.Common.{None, Contains, arith, sym, subst, ◌∙◌, ⊎_elim}
+use Rattle.std.specs.Prelude.{slice_get}
+use Rattle.std.proofs.lemmas.List.Elements.{All-contains, Contains-append_right}
+use Rattle.std.proofs.lemmas.Option.{slice_get-get_or}
+use Rattle.cpg_base.proofs.Lists.{Contains-first, Contains-cases, Contains-nil, Contains-slice_get}
+use Rattle.cpg_base.proofs.Pairs.{AllPairs-append}
+use Rattle.cpg_cube.specs.Cube.{Literal, IsRising}
+use Rattle.cpg_cube.specs.Rising.{rises_from}
+use Rattle.cpg_cube.proofs.Above.{all_under}
+use Rattle.cpg_cube.proofs.Ranges.{rising_rest, rising_first}
+use Rattle.cpg_cube.proofs.Rising.{rising_from, rises_by}
+
+-- literals rise if they do together with others before them
+pub rising_behind : (xs ys : List Literal) → IsRising (xs ++ ys) → IsRising ys
+rising_behind [] ys r = r
+rising_behind (x ∷ xs) ys r = rising_behind xs ys (rising_rest x (xs ++ ys) r)
+
+-- in literals that rise together, each of the first ones is below each of those behind them
+rising_across : (xs ys : List Literal) → IsRising (xs ++ ys) → (x y : Literal) → Contains xs x → Contains ys y →
+    x.variable < y.variable
+rising_across [] ys r x y here there = absurd (Contains-nil x here)
+rising_across (z ∷ xs) ys r x y here there = ⊎_elim
+    (λ (e : z ≡ x). subst (λ (l : Literal). l.variable < y.variable) e
+    (rising_first z y (xs ++ ys) r (Contains-append_right xs ys y there)))
+    (λ (later : Contains xs x). rising_across xs ys (rising_rest z (xs ++ ys) r) x y later there)
+    (Contains-cases z xs x here)
+
+-- the first of rising literals is on the lowest variable
+least_first : (f : Literal) (ls : List Literal) → IsRising (f ∷ ls) → (y : Literal) → Contains (f ∷ ls) y →
+    f.variable ≤ y.variable
+least_first f ls r y there = ⊎_elim
+    (λ (e : f ≡ y). subst (λ (l : Literal). f.variable ≤ l.variable) e (omega arith))
+    (λ (later : Contains ls y). let lower = rising_first f y ls r later in omega (arith, lower))
+    (Contains-cases f ls y there)
+
+-- rising literals rise together with others before them whose last variable is below the first
+rising_joined : (xs : List Literal) (last first : Literal) (rest : List Literal) → IsRising xs →
+    slice_get xs (length xs - 1) ≡ Some last → last.variable < first.variable → IsRising (first ∷ rest) →
+    IsRising (xs ++ first ∷ rest)
+rising_joined xs last first rest rx is lower ry =
+    AllPairs-append (λ (l m : Literal). l.variable < m.variable) xs (first ∷ rest) rx ry
+    (λ x y here there.
+    let under = All-contains (λ (l : Literal). l.variable < first.variable) xs x
+    (all_under xs first.variable last rx is lower) here in
+    let least = least_first first rest ry y there in
+    omega (arith, under, least))
+
+-- with nothing before them, one pass says whether literals rise
+pub rises_alone : (xs ys : List Literal) (b : Bool) → slice_get xs (length xs - 1) ≡ None → b ≡ rises_from 0 ys →
+    (b ≡ true → IsRising (xs ++ ys)) × (IsRising (xs ++ ys) → b ≡ true)
+rises_alone [] ys b none e = (λ t. rising_from 0 ys (sym e ∙ t), λ r. e ∙ rises_by 0 ys r (λ l k. omega arith))
+rises_alone (x ∷ xs) ys b none e =
+    let last = slice_get-get_or (x ∷ xs) (length (x ∷ xs) - 1) x (omega arith) in
+    absurd (let is : None ≡ Some (get_or (x ∷ xs) (length (x ∷ xs) - 1) x) = sym none ∙ last in cc)
+
+-- literals don't rise together with others whose last variable isn't below their first
+pub rises_not : (xs ys : List Literal) (last first : Literal) (rest : List Literal) →
+    slice_get xs (length xs - 1) ≡ Some last → ys ≡ first ∷ rest → first.variable ≤ last.variable →
+    ¬ IsRising (xs ++ ys)
+rises_not xs ys last first rest is e le r =
+    let below = rising_across xs ys r last first (Contains-slice_get xs (length xs - 1) last is)
+    (subst (λ ls. Contains ls first) (sym e) (Contains-first first rest)) in
+    omega (arith, below, le)
+
+-- if the last variable before them is below their first, one pass over literals says whether they rise together
+pub rises_together : (xs ys : List Literal) (last first : Literal) (rest : List Literal) (b : Bool) → IsRising xs →
+    slice_get xs (length xs - 1) ≡ Some last → ys ≡ first ∷ rest → last.variable < first.variable →
+    b ≡ rises_from 0 ys →
+    (b ≡ true → IsRising (xs ++ ys)) × (IsRising (xs ++ ys) → b ≡ true)
+rises_together xs ys last first rest b rx is e lower says = (
+  λ t. subst (λ ls. IsRising (xs ++ ls)) (sym e)
+      (rising_joined xs last first rest rx is lower (subst IsRising e (rising_from 0 ys (sym says ∙ t)))),
+  λ r. says ∙ rises_by 0 ys (rising_behind xs ys r) (λ l k. omega arith),
+)

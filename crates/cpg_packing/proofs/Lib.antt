@@ -1,0 +1,4 @@
+pub mod Spelled
+pub mod PathBytes
+pub mod Fitting
+pub mod MoreItems

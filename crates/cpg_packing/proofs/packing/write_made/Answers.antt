@@ -1,0 +1,12 @@
+use Rattle.cpg_table.proofs.NodeRows.{long}
+use Rattle.cpg_packing.proofs.Fitting.{packable_rows}
+use Rattle.cpg_packing.proofs.packing.write_made.Goals as goal
+
+-- rows that tables can have fit the fields of a pack
+pub write_through-requires-clause-packable : goal.write_through-requires-clause-packable
+write_through-requires-clause-packable g c =
+    packable_rows c.args.problem.now c.nodes-nodes.ensures.within c.args.rows.now c.requires.rows
+
+-- there is a row for each item
+pub write_through-requires-clause-long : goal.write_through-requires-clause-long
+write_through-requires-clause-long g c = long c.args.problem.now c.args.rows.now c.requires.rows

@@ -1,0 +1,13 @@
+use Rattle.std.proofs.Common.{◌≡◌, [], take}
+use Rattle.std.specs.List.{flat_map}
+use Rattle.cpg_codec.specs.Writing.{IsPut}
+use Rattle.cpg_packing.specs.PackBytes.{later_bytes}
+use Rattle.cpg_packing.proofs.rows.put_later.Given as goal
+
+-- the columns so far were put, and no fault rose
+abbrev pub invariant-loop-column : goal.invariant-loop-column
+invariant-loop-column g l = record {
+  put : IsPut (g.O.Sink.state l.fn.sink).taken (g.O.Sink.state l.sink).taken l.fn.buffer l.buffer
+      (later_bytes l.delay (take l.column-index l.fn.columns));
+  kept : (g.O.Sink.state l.sink).faults ≡ (g.O.Sink.state l.fn.sink).faults;
+}

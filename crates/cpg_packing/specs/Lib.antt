@@ -1,0 +1,2 @@
+pub mod Packable
+pub mod PackBytes

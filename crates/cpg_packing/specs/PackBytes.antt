@@ -1,0 +1,43 @@
+-- The pack of rows, without their tables.
+use Rattle.std.specs.Prelude.{ℕ, ◌<◌, ◌++◌, List, All, length, map}
+use Rattle.std.specs.List.{flat_map}
+use Rattle.cpg_base.specs.Graph.{Graph, item_count}
+use Rattle.cpg_base.specs.Numbers.{numbers_below}
+use Rattle.cpg_codec.specs.Spelling.{column_bytes, head_bytes, row_bytes}
+use Rattle.cpg_cube.specs.declared.column.Column.{Column}
+use Rattle.cpg_head.specs.GraphHead.{head_of}
+use Rattle.cpg_table.specs.Items.{ItemLists, lists_of}
+use Rattle.cpg_table.specs.Table.{Row}
+use Rattle.cpg_table.specs.Valid.{later_by}
+use Rattle.cpg_table.specs.Writing.{heard_row, row_for}
+
+-- the bytes of columns, each later by a delay
+abbrev pub later_bytes : ℕ → List Column → List ℕ
+later_bytes delay columns = flat_map (λ c. column_bytes (later_by delay c)) columns
+
+-- the row of an item
+abbrev pub own_bytes : List Row → ℕ → List ℕ
+own_bytes rows x = row_bytes (row_for rows x)
+
+-- what is heard of an item
+abbrev pub heard_bytes : Graph → List Row → ℕ → List ℕ
+heard_bytes g rows x = row_bytes (heard_row g rows x)
+
+-- the rows of a node
+abbrev pub node_bytes : Graph → List Row → ItemLists → List ℕ
+node_bytes g rows items = flat_map (own_bytes rows) items.starts
+    ++ (flat_map (own_bytes rows) items.sends ++ flat_map (heard_bytes g rows) items.hears)
+
+-- the items of a node are a graph's
+pub record AreItemsWithin (g : Graph) (items : ItemLists) : Type 0 where
+  pub starts : All (λ x. x < item_count g) items.starts
+  pub sends : All (λ x. x < item_count g) items.sends
+  pub hears : All (λ x. x < item_count g) items.hears
+
+-- what each node starts, sends and hears
+abbrev pub items_of_nodes : Graph → List ItemLists
+items_of_nodes g = map (lists_of (head_of g)) (numbers_below (length g.nodes))
+
+-- the head, and the rows of each node
+abbrev pub pack_bytes : Graph → List Row → List ℕ
+pack_bytes g rows = head_bytes (head_of g) ++ flat_map (node_bytes g rows) (items_of_nodes g)

@@ -1,0 +1,154 @@
+//! Packs of rows as they are made.
+ghost use Rattle.std.specs.Prelude.{◌≡◌, ◌≤◌, ◌++◌, [], All, Err, IfOk, OnErr, OnOk, length, map};
+ghost use Rattle.std.specs.List.{flat_map};
+ghost use Rattle.cpg_base.specs.Graph.{item_count};
+ghost use Rattle.cpg_base.specs.Numbers.{numbers_below};
+ghost use Rattle.cpg_base.specs.WellFormed.{WellFormed};
+ghost use Rattle.cpg_codec.specs.Spelling.{head_bytes};
+ghost use Rattle.cpg_codec.specs.Writing.{Puts};
+ghost use Rattle.cpg_head.specs.GraphHead.{head_of};
+ghost use Rattle.cpg_io.specs.Causes.{HasCause, Rose};
+ghost use Rattle.cpg_io.specs.Sink.{Took, TookPrefix};
+ghost use Rattle.cpg_packing.specs.Packable.{IsPackableRow};
+ghost use Rattle.cpg_packing.specs.PackBytes.{items_of_nodes, node_bytes, pack_bytes, AreItemsWithin};
+ghost use Rattle.cpg_table.specs.Items.{lists_of};
+ghost use Rattle.cpg_table.specs.Writing.{AreWritable};
+
+use crate::items::put_node;
+use cpg_base::{OutOfMemory, Problem};
+use cpg_codec::{Buffer, WriteFault, put_head};
+use cpg_expand::MadeRow;
+use cpg_head::{Head, head_of};
+use cpg_io::{Failed, Sink};
+use cpg_table::NodeItems;
+use cpg_tree_columns::PathCube;
+use std::alloc::Global;
+
+/// The numbers of the items of each node.
+fn items_of(alloc: Global, head: &Head, count: u32) -> Result<Vec<NodeItems>, OutOfMemory>
+    ensures { IfOk result (λ nodes. nodes.items ≡ map (lists_of head.now) (numbers_below count)) }
+{
+    let mut nodes = Vec::new(alloc);
+    for node in 0..count {
+        let items = NodeItems::of(alloc, head, node)?;
+        nodes.push(items)?;
+    }
+    Ok(nodes)
+}
+
+/// What is made before the first byte is written.
+#[derive(Drop)]
+struct Frame {
+    head: Head,
+    nodes: Vec<NodeItems>,
+}
+
+/// The head of a graph, and the items of its nodes.
+fn frame_of(alloc: Global, problem: &Problem) -> Result<Frame, OutOfMemory>
+    ensures head { IfOk result (λ frame. frame.head ≡ head_of problem.now) }
+    ensures nodes { IfOk result (λ frame. frame.nodes.items ≡ items_of_nodes problem.now) }
+{
+    let head = head_of(alloc, problem)?;
+    let nodes = items_of(alloc, &head, problem.nodes().len() as u32)?;
+    Ok(Frame { head, nodes })
+}
+
+/// Puts the rows of each node.
+fn put_nodes<O: Sink>(
+    buffer: &mut Buffer,
+    sink: &mut O,
+    problem: &Problem,
+    rows: &[MadeRow],
+    nodes: &[NodeItems],
+    path: &mut PathCube,
+) -> Result<(), Failed>
+    requires formed { WellFormed problem.now }
+    requires packable { All IsPackableRow rows.now }
+    requires long { length rows.now ≡ item_count problem.now }
+    requires path { path.old ≡ [] }
+    requires items { All (AreItemsWithin problem.now) nodes.now }
+    ensures put { Puts (O.state sink.old).taken (O.state sink.new).taken buffer.old buffer.new result (flat_map (node_bytes problem.now rows.now) nodes.now) }
+    ensures cause { HasCause (O.state sink.old).faults (O.state sink.new).faults result }
+{
+    for items in nodes {
+        put_node(buffer, sink, problem, rows, items, path)?;
+    }
+    Ok(())
+}
+
+/// Puts the head and the rows of each node.
+fn put_frame<O: Sink>(
+    buffer: &mut Buffer,
+    sink: &mut O,
+    problem: &Problem,
+    rows: &[MadeRow],
+    frame: &Frame,
+    path: &mut PathCube,
+) -> Result<(), Failed>
+    requires formed { WellFormed problem.now }
+    requires packable { All IsPackableRow rows.now }
+    requires long { length rows.now ≡ item_count problem.now }
+    requires path { path.old ≡ [] }
+    requires head { frame.now.head ≡ head_of problem.now }
+    requires nodes { frame.now.nodes.items ≡ items_of_nodes problem.now }
+    ensures put { Puts (O.state sink.old).taken (O.state sink.new).taken buffer.old buffer.new result (pack_bytes problem.now rows.now) }
+    ensures cause { HasCause (O.state sink.old).faults (O.state sink.new).faults result }
+{
+    // called for its contract: the graph is within its limits
+    let _nodes = problem.nodes();
+    put_head(buffer, sink, &frame.head)?;
+    put_nodes(buffer, sink, problem, rows, frame.nodes.as_slice(), path)
+}
+
+/// Writes through an empty buffer, from the root of each tree on.
+fn write_through<O: Sink>(
+    buffer: &mut Buffer,
+    sink: &mut O,
+    problem: &Problem,
+    rows: &[MadeRow],
+    frame: &Frame,
+    path: &mut PathCube,
+) -> Result<(), Failed>
+    requires formed { WellFormed problem.now }
+    requires packable { All IsPackableRow rows.now }
+    requires long { length rows.now ≡ item_count problem.now }
+    requires path { path.old ≡ [] }
+    requires head { frame.now.head ≡ head_of problem.now }
+    requires nodes { frame.now.nodes.items ≡ items_of_nodes problem.now }
+    requires empty { buffer.old ≡ [] }
+    ensures whole { OnOk result (Took (O.state sink.old).taken (O.state sink.new).taken (pack_bytes problem.now rows.now)) }
+    ensures part { OnErr result (TookPrefix (O.state sink.old).taken (O.state sink.new).taken (pack_bytes problem.now rows.now)) }
+    ensures cause { HasCause (O.state sink.old).faults (O.state sink.new).faults result }
+{
+    put_frame(buffer, sink, problem, rows, frame, path)?;
+    buffer.write(sink)
+}
+
+/// Writes the pack of rows: the spelling of the tables that have them.
+///
+/// `Failed` only if the sink's count of faults rose. The sink has taken a proper prefix of the spelling then. All memory is taken
+/// before the first write, so on `OutOfMemory` the sink is as it was.
+pub fn write_made<O: Sink>(
+    alloc: Global,
+    problem: &Problem,
+    rows: &[MadeRow],
+    sink: &mut O,
+) -> Result<(), WriteFault>
+    requires formed { WellFormed problem.now }
+    requires rows { AreWritable problem.now rows.now }
+    ensures whole { OnOk result (Took (O.state sink.old).taken (O.state sink.new).taken (pack_bytes problem.now rows.now)) }
+    ensures part { result ≡ Err WriteFault.Failed →
+        TookPrefix (O.state sink.old).taken (O.state sink.new).taken (pack_bytes problem.now rows.now) }
+    ensures kept { OnOk result ((O.state sink.new).faults ≡ (O.state sink.old).faults) }
+    ensures cause { result ≡ Err WriteFault.Failed → Rose (O.state sink.old).faults (O.state sink.new).faults }
+    ensures same { result ≡ Err WriteFault.OutOfMemory → sink.new ≡ sink.old }
+    ensures later { (O.state sink.old).faults ≤ (O.state sink.new).faults }
+{
+    // called for its contract: the graph is within its limits
+    let _nodes = problem.nodes();
+    let frame = frame_of(alloc, problem)?;
+    let mut path = PathCube::whole(alloc)?;
+    let mut buffer = Buffer::new(alloc)?;
+    write_through(&mut buffer, sink, problem, rows, &frame, &mut path)?;
+    Ok(())
+}

@@ -1,0 +1,69 @@
+//! The columns of a tree, written as they are found.
+ghost use Rattle.std.specs.Prelude.{◌≡◌, ◌^◌, ◌<◌, ℕ, All, Option, OnOk};
+ghost use Rattle.cpg_codec.specs.Writing.{Puts};
+ghost use Rattle.cpg_io.specs.Causes.{HasCause};
+ghost use Rattle.cpg_packing.specs.Packable.{IsPackable};
+ghost use Rattle.cpg_packing.specs.PackBytes.{later_bytes};
+ghost use Rattle.cpg_tree.specs.Decision.{HasCuts};
+ghost use Rattle.cpg_tree.specs.Flat.{IsFlat, flat};
+ghost use Rattle.cpg_tree.specs.Paths.{paths_from};
+ghost use Rattle.cpg_tree.specs.TreeNode.{TreeNode};
+ghost use Rattle.cpg_tree_columns.specs.Columns.{columns_of_paths};
+
+use cpg_base::top;
+use cpg_codec::{Buffer, put_column};
+use cpg_cube::Literal;
+use cpg_io::{Failed, Sink};
+use cpg_tree::{Top, TreeItem, top_of};
+use cpg_tree_columns::PathCube;
+
+/// Puts the columns on from a path, each later by a delay. The path is narrowed on the way down and restored on the way up.
+pub(crate) fn put_paths<O: Sink>(
+    buffer: &mut Buffer,
+    sink: &mut O,
+    items: &[TreeItem<Option<u64>>],
+    k: u8,
+    delay: u64,
+    path: &mut PathCube,
+) -> Result<(), Failed>
+    requires flat { IsFlat items.now }
+    requires cuts { (n : TreeNode (Option ℕ)) → items.now ≡ flat n → HasCuts k n }
+    requires packable { (n : TreeNode (Option ℕ)) → items.now ≡ flat n → All IsPackable (columns_of_paths (paths_from k path.old n)) }
+    requires delay { delay < 2 ^ 59 }
+    ensures put { (n : TreeNode (Option ℕ)) → items.now ≡ flat n →
+        Puts (O.state sink.old).taken (O.state sink.new).taken buffer.old buffer.new result (later_bytes delay (columns_of_paths (paths_from k path.old n))) }
+    ensures path { OnOk result (path.new ≡ path.old) }
+    ensures cause { HasCause (O.state sink.old).faults (O.state sink.new).faults result }
+{
+    match top_of(items) {
+        Top::Value(time) => {
+            if let Some(time) = time {
+                put_column(buffer, sink, time + delay, path.literals())?;
+            }
+            Ok(())
+        }
+        Top::Cut {
+            variable,
+            cut,
+            below,
+            above,
+        } => {
+            let upper = Literal {
+                variable,
+                low: cut + 1,
+                high: top(k, variable),
+            };
+            let step = path.narrow(Literal {
+                variable,
+                low: 0,
+                high: cut,
+            });
+            put_paths(buffer, sink, below, k, delay, path)?;
+            // in place, which is less work than the way back and down again
+            path.exchange(step, upper);
+            put_paths(buffer, sink, above, k, delay, path)?;
+            path.restore(step);
+            Ok(())
+        }
+    }
+}

@@ -1,0 +1,187 @@
+-- How much is asked on from a cube that is narrowed at a fork.
+use Rattle.std.proofs.Common.{ℕ, ◌+◌, ◌-◌, ◌*◌, ◌%◌, ◌^◌, ◌<◌, ◌≤◌, ◌≡◌, ◌≢◌, ◌==◌, max, List, [], ◌∷◌, ◌++◌, Option}
+use Rattle.std.proofs.Common.{Some, None, map, reverse, get_or, sum_by, Contains, arith, refl, sym, ap, ap₂, subst, ◌∙◌}
+use Rattle.std.proofs.Common.{inl, inr, eq-eqb, ne_eqb}
+use Rattle.std.proofs.lemmas.Bool.{cases_eq, cases_order, cond-true, cond-false}
+use Rattle.std.proofs.lemmas.List.{map-append, reverse-append}
+use Rattle.std.proofs.lemmas.List.Sums.{sum_by-cons}
+use Rattle.cpg_base.proofs.Lists.{Contains-cases}
+use Rattle.cpg_cube.specs.declared.literal.Literal.{Literal}
+use Rattle.cpg_cube.specs.Cube.{IsRising, low_in}
+use Rattle.cpg_cube.specs.Keys.{ArePlaces, left_at}
+use Rattle.cpg_cube.specs.Narrow.{meet_literal, narrowed_by}
+use Rattle.cpg_cube.proofs.CubeLows.{low_in-later, low_in-none}
+use Rattle.cpg_cube.proofs.Narrow.{narrowed-before, narrowed-here, narrowed-after, rising-narrowed}
+use Rattle.cpg_cube.proofs.Narrowed.{low-other, low-same}
+use Rattle.cpg_cube.proofs.Ranges.{rising_rest, rising_first, low_in-here}
+use Rattle.cpg_merging.specs.Demands.{demand_of, low_of}
+use Rattle.cpg_tree.specs.Paths.{up_to, above, paths_from}
+use Rattle.cpg_tree.specs.TreeNode.{TreeNode, Leaf, Fork}
+use Rattle.cpg_tree_columns.specs.declared.demanding.Side.{Side}
+use Rattle.cpg_tree_columns.specs.Along.{AreForksAlong}
+use Rattle.cpg_tree_columns.specs.Columns.{columns_of_paths}
+use Rattle.cpg_tree_columns.specs.Demanded.{demands_by, first_side, low_above, low_at, side_above, side_below}
+use Rattle.cpg_tree_columns.proofs.CountedTimes.{both_columns}
+
+-- no literal of a cube is on a variable before its first
+above_first : (v : ℕ) (m : Literal) (ms : List Literal) → IsRising (m ∷ ms) → v < m.variable → (x : Literal) →
+    Contains (m ∷ ms) x → x.variable ≢ v
+above_first v m ms r h x c e = elim (Contains-cases m ms x c) [
+  | inl s ↦ absurd (omega (arith, ap (λ (y : Literal). y.variable) s, h, e))
+  | inr d ↦ absurd (omega (arith, rising_first m x ms r d, h, e))
+]
+
+-- how much a narrowed cube asks: what the cube asks, with the literal's low in place of that of its variable if it is
+-- more
+sum_narrowed : (l : Literal) (cube : List Literal) → IsRising cube →
+    sum_by low_of (narrowed_by l cube) + low_in cube l.variable
+    ≡ sum_by low_of cube + max l.low (low_in cube l.variable)
+sum_narrowed l [] r = omega (arith, sum_by-cons low_of l [])
+sum_narrowed l (m ∷ ms) r = elim (cases_order l.variable m.variable) [
+  | inl e ↦ omega (
+    arith,
+    ap (sum_by low_of) (narrowed-here l m ms e),
+    sum_by-cons low_of (meet_literal l m) ms,
+    sum_by-cons low_of m ms,
+    low_in-here m ms l.variable (sym e),
+  )
+  | inr (inl h) ↦ omega (
+    arith,
+    ap (sum_by low_of) (narrowed-before l m ms h),
+    sum_by-cons low_of l (m ∷ ms),
+    low_in-none (m ∷ ms) l.variable (above_first l.variable m ms r h),
+  )
+  | inr (inr h) ↦ omega (
+    arith,
+    ap (sum_by low_of) (narrowed-after l m ms h),
+    sum_by-cons low_of m (narrowed_by l ms),
+    sum_by-cons low_of m ms,
+    low_in-later m ms l.variable (λ s. omega (arith, h, s)),
+    sum_narrowed l ms (rising_rest m ms r),
+  )
+]
+
+-- ---- places
+
+-- no more places are left at any variable than at the first
+few_left : (left : ℕ) (us : List ℕ) (v : ℕ) → left_at left us v ≤ left
+few_left left [] v = omega arith
+few_left left (u ∷ us) v = elim (cases_eq u v) [
+  | inl e ↦ omega (arith, cond-true (u == v) left (left_at (left - 1) us v) (eq-eqb u v e))
+  | inr n ↦ omega (
+    arith,
+    cond-false (u == v) left (left_at (left - 1) us v) (ne_eqb u v n),
+    few_left (left - 1) us v,
+  )
+]
+
+-- two variables at which as many places are left, but not none, are the same
+left_apart : (left : ℕ) (us : List ℕ) (v w : ℕ) → left_at left us v ≡ left_at left us w → left_at left us w ≢ 0 → v ≡ w
+left_apart left [] v w e n = absurd (n refl)
+left_apart left (u ∷ us) v w e n = elim (cases_eq u v) [
+  | inl a ↦ elim (cases_eq u w) [
+    | inl b ↦ sym a ∙ b
+    | inr d ↦ absurd (n (omega (
+      arith,
+      e,
+      cond-true (u == v) left (left_at (left - 1) us v) (eq-eqb u v a),
+      cond-false (u == w) left (left_at (left - 1) us w) (ne_eqb u w d),
+      few_left (left - 1) us w,
+    )))
+  ]
+  | inr c ↦ elim (cases_eq u w) [
+    | inl b ↦ absurd (n (omega (
+      arith,
+      e,
+      cond-false (u == v) left (left_at (left - 1) us v) (ne_eqb u v c),
+      cond-true (u == w) left (left_at (left - 1) us w) (eq-eqb u w b),
+      few_left (left - 1) us v,
+    )))
+    | inr d ↦
+        let of_v = cond-false (u == v) left (left_at (left - 1) us v) (ne_eqb u v c) in
+        let of_w = cond-false (u == w) left (left_at (left - 1) us w) (ne_eqb u w d) in
+        left_apart (left - 1) us v w (sym of_v ∙ e ∙ of_w) (λ z. n (of_w ∙ z))
+  ]
+]
+
+-- ---- what is known on a way down is so of its cube
+
+-- the demands of a tree's columns on from a cube
+abbrev pub demands_from : ℕ → List Literal → TreeNode (Option ℕ) → List ℕ
+demands_from k cube n = map demand_of (columns_of_paths (paths_from k cube n))
+
+-- a cube has nothing above 0 at variables that stand behind the last fork's, it has the low of that one, and a byte has
+-- the sum
+pub record IsKnownOf (places : List ℕ) (side : Side) (cube : List Literal) : Type 0 where
+  pub behind : (v : ℕ) → get_or places v 0 < side.left → low_in cube v ≡ 0
+  pub here : (v : ℕ) → get_or places v 0 ≡ side.left → low_in cube v ≡ side.low
+  pub all : side.asked ≡ sum_by low_of cube % 256
+
+-- what is known where a tree is entered is so of the whole cube
+pub known_first : (places : List ℕ) → IsKnownOf places first_side []
+known_first places = record { behind = λ v l. refl; here = λ v e. refl; all = refl }
+
+-- given: places of variables, which are apart
+module _ (variables places : List ℕ) (are : ArePlaces variables places) (k : ℕ) where
+  -- two variables with as many places left are the same
+  same_place : (v w : ℕ) → get_or places v 0 ≡ get_or places w 0 → get_or places w 0 ≢ 0 → v ≡ w
+  same_place v w e n = left_apart 256 variables v w (sym (are.left v) ∙ e ∙ are.left w) (λ z. n (are.left w ∙ z))
+
+  -- given: a fork behind the last one, at a rising cube that the way down is known of
+  module _ (v cut : ℕ) (side : Side) (cube : List Literal) (rising : IsRising cube) (known : IsKnownOf places side cube)
+      (less : get_or places v 0 ≤ side.left) (some : get_or places v 0 ≢ 0) where
+    low_known : low_at side (get_or places v 0) ≡ low_in cube v
+    low_known = elim (cases_eq (get_or places v 0) side.left) [
+      | inl e ↦ cond-true (get_or places v 0 == side.left) side.low 0 (eq-eqb (get_or places v 0) side.left e)
+          ∙ sym (known.here v e)
+      | inr n ↦ cond-false (get_or places v 0 == side.left) side.low 0 (ne_eqb (get_or places v 0) side.left n)
+          ∙ sym (known.behind v (omega (arith, less, n)))
+    ]
+
+    -- a narrowed cube has nothing above 0 at variables behind the fork's
+    behind_fork : (l : Literal) → l.variable ≡ v → (u : ℕ) → get_or places u 0 < get_or places v 0 →
+        low_in (narrowed_by l cube) u ≡ 0
+    behind_fork l is u h =
+        low-other k l cube u (λ e. omega (arith, h, ap (λ w. get_or places w 0) (sym is ∙ e)))
+        ∙ known.behind u (omega (arith, h, less))
+
+    -- what is known below the fork is so of the cube narrowed to the numbers up to the cut
+    known_below : IsKnownOf places (side_below side (get_or places v 0)) (narrowed_by (up_to v cut) cube)
+    known_below = record {
+      behind = behind_fork (up_to v cut) refl;
+      here = λ u e. subst (λ w. low_in (narrowed_by (up_to v cut) cube) w ≡ low_at side (get_or places v 0))
+          (sym (same_place u v e some)) (omega (arith, low_known, low-same k (up_to v cut) cube rising));
+      all = known.all ∙ ap (λ s. s % 256) (omega (arith, sum_narrowed (up_to v cut) cube rising));
+    }
+
+    -- what is known above the fork is so of the cube narrowed to the numbers above the cut
+    known_above : IsKnownOf places (side_above side (get_or places v 0) cut) (narrowed_by (above k v cut) cube)
+    known_above = record {
+      behind = behind_fork (above k v cut) refl;
+      here = λ u e.
+          subst (λ w. low_in (narrowed_by (above k v cut) cube) w ≡ low_above side (get_or places v 0) cut)
+          (sym (same_place u v e some)) (omega (arith, low_known, low-same k (above k v cut) cube rising));
+      all = omega (arith, known.all, low_known, sum_narrowed (above k v cut) cube rising);
+    }
+
+  -- if the forks of a tree stand along the order, the demands by the way down are those of the columns, from the last
+  -- to the first
+  pub demands_known : (n : TreeNode (Option ℕ)) (side : Side) (cube : List Literal) → IsRising cube →
+      IsKnownOf places side cube → AreForksAlong places side.left n →
+      demands_by places side n ≡ reverse (demands_from k cube n)
+  demands_known (Leaf None) side cube rising known along = refl
+  demands_known (Leaf (Some time)) side cube rising known along =
+      ap (λ asked. ((time * 256 % 2 ^ 64 + asked) % 2 ^ 64) ∷ []) known.all
+  demands_known (Fork v cut x y) side cube rising known along =
+      let lower = narrowed_by (up_to v cut) cube in
+      let higher = narrowed_by (above k v cut) cube in
+      let xs = columns_of_paths (paths_from k lower x) in
+      let ys = columns_of_paths (paths_from k higher y) in
+      ap₂ ◌++◌
+      (demands_known y (side_above side (get_or places v 0) cut) higher (rising-narrowed (above k v cut) cube rising)
+      (known_above v cut side cube rising known along.0 along.1) along.3)
+      (demands_known x (side_below side (get_or places v 0)) lower (rising-narrowed (up_to v cut) cube rising)
+      (known_below v cut side cube rising known along.0 along.1) along.2)
+      ∙ sym (reverse-append (map demand_of xs) (map demand_of ys))
+      ∙ ap reverse (sym (map-append demand_of xs ys)
+      ∙ ap (map demand_of) (sym (both_columns (paths_from k lower x) (paths_from k higher y))))

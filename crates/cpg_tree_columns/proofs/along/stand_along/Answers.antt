@@ -1,0 +1,22 @@
+use Rattle.std.proofs.Common.{ℕ, Option, sym, ap, subst}
+use Rattle.cpg_cube.specs.declared.column.Column.{Column}
+use Rattle.cpg_cube.specs.Keys.{AreByLows}
+use Rattle.cpg_tree.specs.TreeNode.{TreeNode}
+use Rattle.cpg_tree.proofs.Passes.{of_true}
+use Rattle.cpg_tree_columns.specs.Columns.{columns_of_paths}
+use Rattle.cpg_tree_columns.proofs.AlongPaths.{sorted_columns}
+use Rattle.cpg_tree_columns.proofs.along.stand_along.Goals as goal
+
+-- the forks stand along the order, so the columns of the paths stand by their least scenarios
+pub returns : goal.returns
+returns c =
+    let root : TreeNode (Option ℕ) = c.items.ensures.flat.0 in
+    let are = c.items.ensures.flat.1 in
+    let good = c.items.ensures.good root are in
+    let g = c.args.problem.now in
+    let order = c.args.order.now in
+    let k : ℕ = c.args.tree.now.faults in
+    of_true c.are_along.result c.are_along.ensures
+    (λ along. subst (AreByLows (λ (d : Column). d.cube) g order)
+    (ap columns_of_paths (sym (c.items.ensures.paths root are)))
+    (sorted_columns g order c.in_ok-places.places c.in_ok-places.ensures k root good (along root are)))

@@ -1,0 +1,12 @@
+use Rattle.std.proofs.Common.{ℕ, ◌∙◌, [], Option, length, sym, ap}
+use Rattle.cpg_tree.specs.TreeNode.{TreeNode}
+use Rattle.cpg_tree_columns.specs.Columns.{columns_of_paths}
+use Rattle.cpg_tree_columns.proofs.CountedTimes.{times_in, times_are}
+use Rattle.cpg_tree_columns.proofs.demanding.column_count.Goals as goal
+
+pub returns : goal.returns
+returns c =
+    let root : TreeNode (Option ℕ) = c.items.ensures.flat.0 in
+    let are = c.items.ensures.flat.1 in
+    c.time_count.ensures ∙ ap times_in are ∙ times_are root c.args.tree.now.faults []
+    ∙ ap (λ paths. length (columns_of_paths paths)) (sym (c.items.ensures.paths root are))

@@ -1,0 +1,8 @@
+use Rattle.std.proofs.Common.{◌∙◌, sym}
+use Rattle.cpg_cube.proofs.Above.{narrowed_above}
+use Rattle.cpg_tree_columns.proofs.path.put_last.Goals as goal
+
+-- a literal above all others is put last
+pub returns-clause-narrowed : goal.returns-clause-narrowed
+returns-clause-narrowed c =
+    c.push_reserved.ensures.items ∙ sym (narrowed_above c.args.literal c.args.literals.now.items c.requires.above)

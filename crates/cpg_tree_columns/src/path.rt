@@ -1,0 +1,156 @@
+//! The cube of a path, in place.
+ghost use Rattle.std.specs.Prelude.{◌≡◌, ◌<◌, ◌≤◌, [], All, IfOk, insert, length, remove, vec_len, vec_capacity};
+ghost use Rattle.cpg_cube.specs.Narrow.{narrowed_by};
+ghost use Rattle.cpg_cube.specs.Undo.{IsOn, IsUndo, restored};
+ghost use Rattle.cpg_tree_columns.specs.Path.{IsPath};
+
+use cpg_base::OutOfMemory;
+use cpg_cube::{Literal, Narrowing, first_literal_from, is_above};
+use std::alloc::Global;
+use std::marker::Model;
+
+/// How many literals a cube has at most: one for each variable.
+const MOST: usize = 256;
+
+/// A cube that is narrowed on the way down and restored on the way up, seen as the list of its literals, the variables rising. It
+/// needs no more memory.
+#[derive(Drop)]
+pub struct PathCube {
+    literals: Vec<Literal>,
+}
+
+impl Model for PathCube {
+    ghost use Rattle.std.specs.Prelude.{List, ◌≤◌, vec_capacity};
+    ghost use Rattle.cpg_cube.specs.declared.literal.Literal.{Literal};
+    ghost use Rattle.cpg_tree_columns.specs.Path.{IsPath};
+
+    ghost Value = { List Literal };
+
+    ghost view = { λ c. c.literals.items };
+
+    ghost invariant = { λ c. IsPath c.literals.items × (256 ≤ vec_capacity c.literals) };
+}
+
+/// Adds a literal behind all others.
+fn put_last(literals: &mut Vec<Literal>, literal: Literal) -> Narrowing
+    requires room { vec_len literals.old < vec_capacity literals.old }
+    requires above { All (λ l. l.variable < literal.variable) literals.old.items }
+    ensures narrowed { literals.new.items ≡ narrowed_by literal literals.old.items }
+    ensures undo { IsUndo result literals.new.items literals.old.items }
+    ensures on { IsOn literal.variable result literals.new.items }
+    ensures capacity { vec_capacity literals.old ≤ vec_capacity literals.new }
+{
+    let place = literals.len();
+    literals.push_reserved(literal);
+    Narrowing { place, was: None }
+}
+
+/// Adds a literal at a place.
+fn put_at(literals: &mut Vec<Literal>, place: usize, literal: Literal)
+    requires room { vec_len literals.old < vec_capacity literals.old }
+    requires place { place ≤ vec_len literals.old }
+    ensures items { literals.new.items ≡ insert literals.old.items place literal }
+    ensures capacity { vec_capacity literals.old ≤ vec_capacity literals.new }
+{
+    if literals.insert(place, literal).is_err() {
+        unreachable!()
+    }
+}
+
+/// Puts a literal in its place, or meets the one on its variable with it.
+fn narrow_between(literals: &mut Vec<Literal>, literal: Literal) -> Narrowing
+    requires path { IsPath literals.old.items }
+    requires room { 256 ≤ vec_capacity literals.old }
+    ensures narrowed { literals.new.items ≡ narrowed_by literal literals.old.items }
+    ensures undo { IsUndo result literals.new.items literals.old.items }
+    ensures on { IsOn literal.variable result literals.new.items }
+    ensures capacity { 256 ≤ vec_capacity literals.new }
+{
+    let Some(place) = first_literal_from(literals.as_slice(), literal.variable) else {
+        let place = literals.len();
+        literals.push_reserved(literal);
+        return Narrowing { place, was: None };
+    };
+    let other = literals[place];
+    if other.variable == literal.variable {
+        literals[place] = literal.met(other);
+        return Narrowing {
+            place,
+            was: Some(other),
+        };
+    }
+    put_at(literals, place, literal);
+    Narrowing { place, was: None }
+}
+
+/// Loses a literal, which mostly is the last one.
+fn take_off(literals: &mut Vec<Literal>, place: usize)
+    requires { place < length literals.old.items }
+    ensures items { literals.new.items ≡ remove literals.old.items place }
+    ensures capacity { vec_capacity literals.old ≤ vec_capacity literals.new }
+{
+    if place + 1 == literals.len() {
+        literals.truncate(place);
+    } else {
+        literals.remove(place);
+    }
+}
+
+impl PathCube {
+    /// The cube without literals, with all the memory that it ever needs. The one error is `OutOfMemory`.
+    pub fn whole(alloc: Global) -> Result<PathCube, OutOfMemory>
+        ensures { IfOk result (λ path. path ≡ []) }
+    {
+        let literals = Vec::with_capacity(alloc, MOST)?;
+        Ok(PathCube { literals })
+    }
+
+    /// The literals, by rising variable.
+    pub fn literals(&self) -> &[Literal]
+        ensures literals { result.now ≡ self.now }
+        ensures path { IsPath self.now }
+    {
+        self.literals.as_slice()
+    }
+
+    /// Becomes the cube with a literal more, met with the one on its variable.
+    #[inline]
+    pub fn narrow(&mut self, literal: Literal) -> Narrowing
+        ensures narrowed { self.new ≡ narrowed_by literal self.old }
+        ensures undo { IsUndo result self.new self.old }
+        ensures on { IsOn literal.variable result self.new }
+        ensures path { IsPath self.old }
+    {
+        // along a path a variable is mostly above all others
+        if is_above(self.literals.as_slice(), literal.variable) {
+            return put_last(&mut self.literals, literal);
+        }
+        narrow_between(&mut self.literals, literal)
+    }
+
+    /// Becomes what it was before a step, narrowed by another literal on the variable.
+    #[inline]
+    pub fn exchange(&mut self, step: Narrowing, literal: Literal)
+        requires within { step.place < length self.old }
+        requires path { IsPath (restored step self.old) }
+        requires on { IsOn literal.variable step self.old }
+        ensures narrowed { self.new ≡ narrowed_by literal (restored step self.old) }
+        ensures undo { IsUndo step self.new (restored step self.old) }
+    {
+        let left = step.left(literal);
+        self.literals[step.place] = left;
+    }
+
+    /// Becomes what it was before a step.
+    #[inline]
+    pub fn restore(&mut self, step: Narrowing)
+        requires within { step.place < length self.old }
+        requires path { IsPath (restored step self.old) }
+        ensures { self.new ≡ restored step self.old }
+    {
+        match step.was {
+            Some(literal) => self.literals[step.place] = literal,
+            None => take_off(&mut self.literals, step.place),
+        }
+    }
+}
