@@ -40,7 +40,7 @@ impl Lengths {
     }
 
     /// The length of the execution of a process.
-    pub fn of(&self, process: u32) -> u64
+    pub fn length_of(&self, process: u32) -> u64
         requires { process < length self.now }
         ensures { result ≡ get_or self.now process 0 }
     {

@@ -151,7 +151,7 @@ impl Plan {
         })
     }
 
-    /// The edges that lead to a process. Only the contract uses `problem`.
+    /// The edges that lead to a process. The contract alone names `problem`.
     pub fn inputs(&self, problem: &Problem, process: u32) -> &[u32]
         requires plan { self.now ≡ plan_of problem.now }
         requires process { process < process_count problem.now }
@@ -161,7 +161,7 @@ impl Plan {
         inputs
     }
 
-    /// The items that a process sends. Only the contract uses `problem`.
+    /// The items that a process sends. The contract alone names `problem`.
     pub fn queue(&self, problem: &Problem, process: u32) -> &[u32]
         requires plan { self.now ≡ plan_of problem.now }
         requires process { process < process_count problem.now }

@@ -17,11 +17,11 @@ use Rattle.cpg_cube.specs.Column.{column_at}
 use Rattle.cpg_table.specs.Heard.{exactly, value_fact}
 use Rattle.cpg_check_heard.specs.declared.arrivals.Arrival.{Arrival}
 use Rattle.cpg_check_heard.specs.declared.bound.LiteralBound.{LiteralBound}
-use Rattle.cpg_check_heard.specs.declared.tellers.Telling.{Telling}
-use Rattle.cpg_check_heard.specs.declared.tellers.Telling.TheVariants.{End, Frame}
+use Rattle.cpg_check_heard.specs.declared.telling_rows.Means.{Means}
+use Rattle.cpg_check_heard.specs.declared.telling_rows.Means.TheVariants.{End, Frame}
 use Rattle.cpg_check_heard.specs.Arrivals.{IsArrival, do_tell}
 use Rattle.cpg_check_heard.specs.Bounds.{tells}
-use Rattle.cpg_check_heard.specs.Tellings.{column_tells, is_telling, is_telling_at}
+use Rattle.cpg_check_heard.specs.TellingRows.{column_tells, is_telling, is_telling_at}
 
 module _ (g : Graph) (time : ℕ) (b : LiteralBound) (s : Scenario) where
   -- a frame that comes later tells nothing
@@ -46,10 +46,10 @@ module _ (g : Graph) (time : ℕ) (b : LiteralBound) (s : Scenario) where
       (list_any-append (tells b) c.cube (value_fact s o) ∙ ap (λ t. t || list_any (tells b) (value_fact s o)) told))
 
   -- with one column more, the columns tell what they told before or what that one tells
-  pub tell_push : (xs : List Arrival) (a : Arrival) (at : Bool) → is_telling g a.telling time b s a.column.now ≡ at →
+  pub tell_push : (xs : List Arrival) (a : Arrival) (at : Bool) → is_telling g a.means time b s a.column.now ≡ at →
       do_tell g time b (xs ++ a ∷ []) s ≡ (do_tell g time b xs s || at)
-  tell_push xs a at e = list_any-append (λ (x : Arrival). is_telling g x.telling time b s x.column.now) xs (a ∷ [])
-      ∙ ap (λ t. do_tell g time b xs s || t) (or-false (is_telling g a.telling time b s a.column.now) ∙ e)
+  tell_push xs a at e = list_any-append (λ (x : Arrival). is_telling g x.means time b s x.column.now) xs (a ∷ [])
+      ∙ ap (λ t. do_tell g time b xs s || t) (or-false (is_telling g a.means time b s a.column.now) ∙ e)
 
 module _ (g : Graph) where
   -- with one column more of known variables, all columns are of known variables
@@ -68,14 +68,14 @@ module _ (g : Graph) where
   known_column columns i c l e all = subst (λ (d : Column). IsKnown g d.cube) (sym (e c)) (all i c l)
 
 -- the column that is found at a place
-pub telling_at : (g : Graph) (time : ℕ) (b : LiteralBound) (s : Scenario) (telling : Telling) (columns : List Column)
+pub telling_at : (g : Graph) (time : ℕ) (b : LiteralBound) (s : Scenario) (means : Means) (columns : List Column)
     (i : ℕ) (c : Column) →
     i < length columns →
     ((d : Column) → c ≡ get_or columns i d)
-    → is_telling_at g telling time b columns s i ≡ is_telling g telling time b s c
-telling_at g time b s telling columns i c l e =
-    ap (λ t. t && is_telling g telling time b s (column_at columns i)) (lt-ltb i (length columns) l)
-    ∙ ap (is_telling g telling time b s) (sym (e _))
+    → is_telling_at g means time b columns s i ≡ is_telling g means time b s c
+telling_at g time b s means columns i c l e =
+    ap (λ t. t && is_telling g means time b s (column_at columns i)) (lt-ltb i (length columns) l)
+    ∙ ap (is_telling g means time b s) (sym (e _))
 
 -- no column of a row that begins late passes a test that no late column passes
 pub late_row : (test : Column → Bool) (columns : List Column) (first : ℕ) → All (λ c. first ≤ c.time) columns →

@@ -22,10 +22,10 @@ use Rattle.cpg_cube.specs.declared.column.Column.{Column}
 use Rattle.cpg_violation.specs.Violation.{AllHold, row_rules}
 use Rattle.cpg_violation.proofs.Matching.{match_where}
 use Rattle.cpg_check_heard.specs.declared.bound.LiteralBound.{LiteralBound}
-use Rattle.cpg_check_heard.specs.declared.tellers.Telling.TheVariants.{End}
+use Rattle.cpg_check_heard.specs.declared.telling_rows.Means.TheVariants.{End}
 use Rattle.cpg_check_heard.specs.Bounds.{high_of, is_free, is_told, low_of, tells, variable_of}
 use Rattle.cpg_check_heard.specs.Ended.{HasEnded}
-use Rattle.cpg_check_heard.specs.Tellings.{is_telling, item_telling, row_tells}
+use Rattle.cpg_check_heard.specs.TellingRows.{is_telling, means_of_item, row_tells}
 use Rattle.cpg_check_heard.specs.Unheard.{is_literal_unheard}
 use Rattle.cpg_check_heard.specs.Untold.{are_told_by, own_tells}
 use Rattle.cpg_check_heard.proofs.Bounded.{heard_is}
@@ -52,7 +52,7 @@ module _ (g : Graph) (tables : List NodeTable) (few : process_count g ≤ 128) (
       (ended.ends d.0 (number_of s p) d.1 (count_within g few s law p l)))
       (end_side g few s law b p known l refl ∙ within)) in
       and_from _ _ (eq-eqb (node_of g p) node ended.home)
-      (ap (λ i. row_tells g (item_telling g p i) time b (columns_of tables p) s) (item_at-start g p l)
+      (ap (λ i. row_tells g (means_of_item g p i) time b (columns_of tables p) s) (item_at-start g p l)
       ∙ list_any_true (is_telling g (End p) time b s) (columns_of tables p) d.0 d.1 told)
 
   told_bound : (b : LiteralBound) → IsVariable g (variable_of b) → HasEnded g tables node (variable_of b) time →

@@ -27,10 +27,10 @@ use Rattle.cpg_table.specs.Shape.{heard_by}
 use Rattle.cpg_table.specs.Heard.{exactly, value_fact, matching, facts_of_end, frame_value, facts_of_frame, facts}
 use Rattle.cpg_violation.proofs.Columnwise.{any_filter}
 use Rattle.cpg_check_heard.specs.declared.bound.LiteralBound.{LiteralBound}
-use Rattle.cpg_check_heard.specs.declared.tellers.Telling.TheVariants.{End, Frame}
+use Rattle.cpg_check_heard.specs.declared.telling_rows.Means.TheVariants.{End, Frame}
 use Rattle.cpg_check_heard.specs.Bounds.{tells, variable_of}
-use Rattle.cpg_check_heard.specs.Tellings.{column_tells, is_telling, row_tells, telling_of, item_telling, carried}
-use Rattle.cpg_check_heard.specs.Tellings.{is_value, CanTell}
+use Rattle.cpg_check_heard.specs.TellingRows.{column_tells, is_telling, row_tells, means_of, means_of_item, carried}
+use Rattle.cpg_check_heard.specs.TellingRows.{is_value, CanTell}
 use Rattle.cpg_check_heard.specs.Untold.{item_tells, are_told_by, own_tells}
 use Rattle.cpg_check_heard.proofs.Sides.{side, tells_exactly, value_side}
 
@@ -99,7 +99,7 @@ module _ (g : Graph) (tables : List NodeTable) (time : ℕ) (b : LiteralBound) (
   start_row : (p : ℕ) → p < process_count g →
       list_any (tells b) (facts_of_end g tables s time p) ≡ item_tells g tables time b s p
   start_row p l =
-      end_row p ∙ ap (λ i. row_tells g (item_telling g p i) time b (columns_of tables p) s) (sym (item_at-start g p l))
+      end_row p ∙ ap (λ i. row_tells g (means_of_item g p i) time b (columns_of tables p) s) (sym (item_at-start g p l))
 
   -- another process tells nothing of the variable
   other_value : (o : Option ℕ) → ((c : ℕ) → o ≡ Some c → value_variable c ≢ variable_of b) →
@@ -131,10 +131,10 @@ module _ (g : Graph) (tables : List NodeTable) (time : ℕ) (b : LiteralBound) (
   -- ---- what a node hears
 
   framed : (x node : ℕ) → is_heard_by g node (item_at g x) ≡ true →
-      telling_of g x ≡ Frame (slot_length g (home g x)) (carried (item_at g x))
+      means_of g x ≡ Frame (slot_length g (home g x)) (carried (item_at g x))
   framed x node h = go (item_at g x) h
     where
-      go : (i : Item) → is_heard_by g node i ≡ true → item_telling g x i ≡ Frame (slot_length g (home g x)) (carried i)
+      go : (i : Item) → is_heard_by g node i ≡ true → means_of_item g x i ≡ Frame (slot_length g (home g x)) (carried i)
       go (Start p) e = absurd (true≢false (sym e))
       go (Message e) h = refl
       go (Broadcast c) h = refl
@@ -180,9 +180,9 @@ module _ (g : Graph) (tables : List NodeTable) (time : ℕ) (b : LiteralBound) (
       (Contains-filter_parts (λ x. is_heard_by g node (item_at g x)) (numbers_below (item_count g)) x c).1))
 
   -- the row of an item that a node hears can tell each bound
-  pub heard_can : (x node : ℕ) → is_heard_by g node (item_at g x) ≡ true → CanTell g b (telling_of g x)
+  pub heard_can : (x node : ℕ) → is_heard_by g node (item_at g x) ≡ true → CanTell g b (means_of g x)
   heard_can x node h = subst (CanTell g b) (sym (framed x node h)) tt
 
   -- the row of a process can tell about the variables of the process
-  pub own_can : (p : ℕ) → p < process_count g → process_of_variable g (variable_of b) ≡ p → CanTell g b (telling_of g p)
-  own_can p l e = subst (λ i. CanTell g b (item_telling g p i)) (sym (item_at-start g p l)) (l, e)
+  pub own_can : (p : ℕ) → p < process_count g → process_of_variable g (variable_of b) ≡ p → CanTell g b (means_of g p)
+  own_can p l e = subst (λ i. CanTell g b (means_of_item g p i)) (sym (item_at-start g p l)) (l, e)

@@ -1,5 +1,5 @@
 mod Counts
-mod TellerLists
+mod TellingRowLists
 mod Sides
 mod PartLaws
 mod Facts

@@ -24,11 +24,11 @@ use Rattle.cpg_violation.proofs.Tests.{with_true}
 use Rattle.cpg_violation.proofs.SieveLaws.{any_at}
 use Rattle.cpg_check_heard.specs.declared.bound.LiteralBound.{LiteralBound}
 use Rattle.cpg_check_heard.specs.declared.bound.LiteralBound.TheVariants.{Low, High}
-use Rattle.cpg_check_heard.specs.declared.tellers.Telling.{Telling}
-use Rattle.cpg_check_heard.specs.declared.tellers.Telling.TheVariants.{End, Frame}
+use Rattle.cpg_check_heard.specs.declared.telling_rows.Means.{Means}
+use Rattle.cpg_check_heard.specs.declared.telling_rows.Means.TheVariants.{End, Frame}
 use Rattle.cpg_check_heard.specs.Bounds.{tells, range_of, variable_of}
-use Rattle.cpg_check_heard.specs.Tellings.{CanTell, IsPart, is_telling, is_telling_at, is_value, column_tells}
-use Rattle.cpg_check_heard.specs.Tellings.{row_tells}
+use Rattle.cpg_check_heard.specs.TellingRows.{CanTell, IsPart, is_telling, is_telling_at, is_value, column_tells}
+use Rattle.cpg_check_heard.specs.TellingRows.{row_tells}
 use Rattle.cpg_check_heard.proofs.Sides.{side, range_holds, end_side, value_side, count_within, come_holds}
 
 -- ---- parts
@@ -197,10 +197,10 @@ row_more test places i d h a r n e f = f ∙ ap (λ t. t || test (get_or places 
     ap (λ t. a || t) (sym (list_any_more test places i d h))
 
 -- a row's places among which each column is that matches together with a cube tell what the row does
-pub row_all : (g : Graph) (telling : Telling) (time : ℕ) (b : LiteralBound) (columns : List Column)
+pub row_all : (g : Graph) (means : Means) (time : ℕ) (b : LiteralBound) (columns : List Column)
     (places : List ℕ) (s : Scenario)
     → ((i : ℕ) → i < length columns → matches (column_at columns i).cube s ≡ true → Contains places i)
-    → list_any (is_telling_at g telling time b columns s) places ≡ row_tells g telling time b columns s
-row_all g telling time b columns places s among = sym (any_at (is_telling g telling time b s) columns places
+    → list_any (is_telling_at g means time b columns s) places ≡ row_tells g means time b columns s
+row_all g means time b columns places s among = sym (any_at (is_telling g means time b s) columns places
     (λ i l t. among i l
-    (and_parts (matches (column_at columns i).cube s) (column_tells g telling time b s (column_at columns i)) t).0))
+    (and_parts (matches (column_at columns i).cube s) (column_tells g means time b s (column_at columns i)) t).0))

@@ -18,7 +18,7 @@ use Rattle.cpg_violation.proofs.Tests.{same_where, with_true}
 use Rattle.cpg_check_heard.specs.declared.bound.LiteralBound.{LiteralBound}
 use Rattle.cpg_check_heard.specs.declared.bound.LiteralBound.TheVariants.{Low, High}
 use Rattle.cpg_check_heard.specs.Bounds.{tells, range_of, variable_of}
-use Rattle.cpg_check_heard.specs.Tellings.{is_value}
+use Rattle.cpg_check_heard.specs.TellingRows.{is_value}
 
 -- whether a number is within a bound
 abbrev pub side : LiteralBound → ℕ → Bool

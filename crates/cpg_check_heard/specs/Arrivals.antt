@@ -9,17 +9,17 @@ use Rattle.cpg_cube.specs.declared.literal.Literal.{Literal}
 use Rattle.cpg_table.specs.Table.{NodeTable}
 use Rattle.cpg_check_heard.specs.declared.arrivals.Arrival.{Arrival}
 use Rattle.cpg_check_heard.specs.declared.bound.LiteralBound.{LiteralBound}
-use Rattle.cpg_check_heard.specs.Tellings.{CanTell, is_telling}
+use Rattle.cpg_check_heard.specs.TellingRows.{CanTell, is_telling}
 use Rattle.cpg_check_heard.specs.Untold.{are_told_by}
 
 -- whether one of these columns tells a bound by a time
 abbrev pub do_tell : Graph → ℕ → LiteralBound → List Arrival → Scenario → Bool
-do_tell g time b arrivals s = list_any (λ a. is_telling g a.telling time b s a.column.now) arrivals
+do_tell g time b arrivals s = list_any (λ a. is_telling g a.means time b s a.column.now) arrivals
 
 -- a column of known variables that can tell each bound
 pub record IsArrival (g : Graph) (a : Arrival) : Type 0 where
   pub known : IsKnown g a.column.now.cube
-  pub can : (b : LiteralBound) → CanTell g b a.telling
+  pub can : (b : LiteralBound) → CanTell g b a.means
 
 -- columns of known variables tell what the rows of these items tell, in scenarios that a cube matches
 pub record AreArrivals (g : Graph) (tables : List NodeTable) (time : ℕ) (cube : List Literal) (items : List ℕ)

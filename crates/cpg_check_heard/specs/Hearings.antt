@@ -6,7 +6,7 @@ use Rattle.cpg_table.specs.Lawful.{AreTablesOf}
 use Rattle.cpg_violation.specs.Heads.{IsHeadFor}
 use Rattle.cpg_violation.specs.Violation.{AllHold, row_rules}
 use Rattle.cpg_check_heard.specs.declared.hearing.Hearing.{Hearing}
-use Rattle.cpg_check_heard.specs.Tellings.{AreTellers}
+use Rattle.cpg_check_heard.specs.TellingRows.{AreTellingRows}
 
 -- an admitted graph, its tables, which keep V1 to V3, and the rows of all its items
 pub record IsHearing (h : Hearing) : Type 0 where
@@ -14,4 +14,5 @@ pub record IsHearing (h : Hearing) : Type 0 where
   pub head : IsHeadFor h.admitted.now.graph h.tables.now.head
   pub tables : AreTablesOf (head_of h.admitted.now.graph) h.tables.now.nodes
   pub rules : AllHold h.admitted.now.graph h.tables.now.nodes row_rules
-  pub tellers : AreTellers h.admitted.now.graph h.tables.now.nodes (item_count h.admitted.now.graph) h.tellers.items
+  pub telling_rows :
+      AreTellingRows h.admitted.now.graph h.tables.now.nodes (item_count h.admitted.now.graph) h.telling_rows.items

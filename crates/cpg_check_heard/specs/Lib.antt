@@ -1,5 +1,5 @@
 pub mod Bounds
-pub mod Tellings
+pub mod TellingRows
 pub mod Ended
 pub mod Untold
 pub mod Arrivals

@@ -6,11 +6,11 @@ use Rattle.cpg_base.specs.Scenario.{Scenario}
 use Rattle.cpg_table.specs.Table.{NodeTable, columns_of}
 use Rattle.cpg_check_heard.specs.declared.bound.LiteralBound.{LiteralBound}
 use Rattle.cpg_check_heard.specs.Bounds.{variable_of}
-use Rattle.cpg_check_heard.specs.Tellings.{row_tells, telling_of}
+use Rattle.cpg_check_heard.specs.TellingRows.{row_tells, means_of}
 
 -- whether the row of an item tells a bound
 abbrev pub item_tells : Graph → List NodeTable → ℕ → LiteralBound → Scenario → ℕ → Bool
-item_tells g tables time b s x = row_tells g (telling_of g x) time b (columns_of tables x) s
+item_tells g tables time b s x = row_tells g (means_of g x) time b (columns_of tables x) s
 
 -- whether the rows of some items tell a bound
 abbrev pub are_told_by : Graph → List NodeTable → ℕ → LiteralBound → List ℕ → Scenario → Bool

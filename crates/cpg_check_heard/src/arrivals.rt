@@ -13,59 +13,60 @@ ghost use Rattle.cpg_violation.specs.Lines.{IsLine};
 ghost use Rattle.cpg_check_heard.specs.Arrivals.{AreArrivals, IsArrival, do_tell};
 ghost use Rattle.cpg_check_heard.specs.Bounds.{variable_of};
 ghost use Rattle.cpg_check_heard.specs.Hearings.{IsHearing};
-ghost use Rattle.cpg_check_heard.specs.Tellings.{CanTell, is_telling, is_telling_at, row_tells};
+ghost use Rattle.cpg_check_heard.specs.TellingRows.{CanTell, is_telling, is_telling_at, row_tells};
 ghost use Rattle.cpg_check_heard.specs.declared.bound.LiteralBound.{LiteralBound};
 
 use crate::bound::LiteralBound;
 use crate::hearing::Hearing;
 use crate::parts::{add, part_of};
-use crate::tellers::{Teller, Telling, has_come};
+use crate::telling_rows::{Means, TellingRow};
 use cpg_base::{OutOfMemory, Problem};
 use cpg_cube::{Column, Cube};
+use cpg_violation::has_come;
 use std::alloc::Global;
 
 /// A column, and how it tells.
 #[derive(Clone, Copy)]
 pub(crate) struct Arrival<'a> {
     pub(crate) column: &'a Column,
-    pub(crate) telling: Telling,
+    pub(crate) means: Means,
 }
 
 /// Whether the end or the frame of a column may have come by a time; not if that of a column at this start hasn't, and the
 /// column is no earlier.
-pub(crate) fn may_have_come(telling: Telling, start: u64, time: u64) -> bool
-    ensures { OnFalse result ((g : Graph) (b : LiteralBound) (s : Scenario) (c : Column) → start ≤ c.time → is_telling g telling time b s c ≡ false) }
+pub(crate) fn may_have_come(means: Means, start: u64, time: u64) -> bool
+    ensures { OnFalse result ((g : Graph) (b : LiteralBound) (s : Scenario) (c : Column) → start ≤ c.time → is_telling g means time b s c ≡ false) }
 {
-    match telling {
+    match means {
         // an end is no earlier than the start
-        Telling::End { .. } => start <= time,
-        Telling::Frame { delay, .. } => has_come(start, delay, time),
+        Means::End { .. } => start <= time,
+        Means::Frame { delay, .. } => has_come(start, delay, time),
     }
 }
 
 /// Adds the column at a place, if there is one and its frame may have come by a time.
 fn add_column<'a>(
-    telling: Telling,
+    means: Means,
     columns: &'a [Column],
     place: u32,
     time: u64,
     arrivals: &mut Vec<Arrival<'a>>,
 ) -> Result<(), OutOfMemory>
-    ensures each { IfOk result (λ _. (g : Graph) → All (λ c. IsKnown g c.cube) columns.now → ((b : LiteralBound) → CanTell g b telling)
+    ensures each { IfOk result (λ _. (g : Graph) → All (λ c. IsKnown g c.cube) columns.now → ((b : LiteralBound) → CanTell g b means)
         → All (IsArrival g) arrivals.old.items → All (IsArrival g) arrivals.new.items) }
     ensures told { IfOk result (λ _. (g : Graph) (b : LiteralBound) (s : Scenario)
         → do_tell g time b arrivals.new.items s ≡ (do_tell g time b arrivals.old.items s
-        || is_telling_at g telling time b columns.now s place)) }
+        || is_telling_at g means time b columns.now s place)) }
 {
     // no column stands there
     let Some(column) = columns.get(place as usize) else {
         return Ok(());
     };
     // its frame comes too late
-    if !may_have_come(telling, column.time, time) {
+    if !may_have_come(means, column.time, time) {
         return Ok(());
     }
-    arrivals.push(Arrival { column, telling })?;
+    arrivals.push(Arrival { column, means })?;
     Ok(())
 }
 
@@ -73,28 +74,28 @@ fn add_column<'a>(
 /// looked at if even the first is too late.
 fn add_row<'a>(
     alloc: Global,
-    teller: &Teller<'a>,
+    row: &TellingRow<'a>,
     cube: &Cube,
     time: u64,
     arrivals: &mut Vec<Arrival<'a>>,
 ) -> Result<(), OutOfMemory>
-    requires { IsLine teller.now.line.now.columns.now teller.now.line.now }
-    ensures each { IfOk result (λ _. (g : Graph) → All (λ c. IsKnown g c.cube) teller.now.line.now.columns.now
-        → ((b : LiteralBound) → CanTell g b teller.now.telling) → All (IsArrival g) arrivals.old.items
+    requires { IsLine row.now.line.now.columns.now row.now.line.now }
+    ensures each { IfOk result (λ _. (g : Graph) → All (λ c. IsKnown g c.cube) row.now.line.now.columns.now
+        → ((b : LiteralBound) → CanTell g b row.now.means) → All (IsArrival g) arrivals.old.items
         → All (IsArrival g) arrivals.new.items) }
     ensures told { IfOk result (λ _. (g : Graph) (b : LiteralBound) (s : Scenario) → matches cube.now s ≡ true
         → do_tell g time b arrivals.new.items s ≡ (do_tell g time b arrivals.old.items s
-        || row_tells g teller.now.telling time b teller.now.line.now.columns.now s)) }
+        || row_tells g row.now.means time b row.now.line.now.columns.now s)) }
 {
-    let line = teller.line;
+    let line = row.line;
     // the row's first column comes too late, and so do all others
-    if !may_have_come(teller.telling, line.first, time) {
+    if !may_have_come(row.means, line.first, time) {
         return Ok(());
     }
     // the sieve gives the places of the columns that may match together with the cube
     let places = line.sieve.candidates(alloc, line.columns, cube)?;
     for place in places.as_slice() {
-        add_column(teller.telling, line.columns, *place, time, arrivals)?;
+        add_column(row.means, line.columns, *place, time, arrivals)?;
     }
     Ok(())
 }
@@ -117,8 +118,8 @@ impl<'a> Hearing<'a> {
         let mut arrivals = Vec::new(alloc);
         // goes over the items that the node hears
         for item in items {
-            let teller = &self.tellers[*item as usize];
-            add_row(alloc, teller, cube, time, &mut arrivals)?;
+            let row = &self.telling_rows[*item as usize];
+            add_row(alloc, row, cube, time, &mut arrivals)?;
         }
         Ok(arrivals)
     }
@@ -135,10 +136,10 @@ fn tells_whole(
     requires cube { IsKnown problem.now cube.now }
     requires column { IsKnown problem.now arrival.now.column.now.cube }
     ensures { OnTrue result ((s : Scenario) → IsScenario problem.now s → matches cube.now s ≡ true
-        → is_telling problem.now arrival.now.telling time bound s arrival.now.column.now ≡ true) }
+        → is_telling problem.now arrival.now.means time bound s arrival.now.column.now ≡ true) }
 {
     // an end says something by its count: that is left to the full search
-    let Telling::Frame { delay, .. } = arrival.telling else {
+    let Means::Frame { delay, .. } = arrival.means else {
         return false;
     };
     let column = arrival.column;
@@ -188,7 +189,7 @@ pub(crate) fn add_told(
         ≡ (list_any (λ b. matches b s) told.old.items || do_tell problem.now time bound arrivals.now s)) }
 {
     for arrival in arrivals {
-        let part = part_of(problem, arrival.telling, arrival.column, time, bound)?;
+        let part = part_of(problem, arrival.means, arrival.column, time, bound)?;
         add(told, part)?;
     }
     Ok(())

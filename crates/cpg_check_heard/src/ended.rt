@@ -6,7 +6,7 @@ ghost use Rattle.cpg_check_heard.specs.Ended.{HasEnded};
 ghost use Rattle.cpg_check_heard.specs.Hearings.{IsHearing};
 
 use crate::hearing::Hearing;
-use crate::tellers::has_come;
+use cpg_violation::has_come;
 
 impl Hearing<'_> {
     /// Whether the process of a variable is on a node, and no execution of it ends after a time.
@@ -21,7 +21,7 @@ impl Hearing<'_> {
             return false;
         }
         let longest = problem.duration(process, problem.faults());
-        let line = self.tellers[process as usize].line;
+        let line = self.telling_rows[process as usize].line;
         has_come(line.last, longest, time)
     }
 }

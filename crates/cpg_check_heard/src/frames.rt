@@ -68,9 +68,9 @@ impl Hearing<'_> {
     {
         let mut ranks = Vec::new(alloc);
         for item in items {
-            let teller = &self.tellers[*item as usize];
+            let row = &self.telling_rows[*item as usize];
             ranks.push(RowRank {
-                longest: Reverse(teller.longest),
+                longest: Reverse(row.longest),
                 item: *item,
             })?;
         }

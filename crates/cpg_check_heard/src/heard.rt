@@ -14,7 +14,7 @@ ghost use Rattle.cpg_violation.specs.Sure.{AreSure};
 ghost use Rattle.cpg_violation.specs.Violation.{AllHold, Holds, IsFirstColumn, IsFirstViolation, row_rules};
 
 use crate::hearing::Hearing;
-use crate::tellers::tellers;
+use crate::telling_rows::telling_rows;
 use cpg_base::{OutOfMemory, Scenario};
 use cpg_cube::Column;
 use cpg_rules::Admitted;
@@ -72,11 +72,11 @@ pub fn check_heard(
     ensures first { IfOk result (λ r. IfSome r (IsFirstViolation admitted.now.graph admitted.now.order tables.now.nodes Rule.Heard)) }
 {
     let problem = admitted.problem();
-    let tellers = tellers(alloc, admitted, lines)?;
+    let telling_rows = telling_rows(alloc, admitted, lines)?;
     let hearing = Hearing {
         admitted,
         tables,
-        tellers,
+        telling_rows,
     };
     for item in 0..problem.item_count() {
         if is_marked(marks, item) {

@@ -20,7 +20,7 @@ use crate::arrivals::{Arrival, add_told, tells_one_whole};
 use crate::bound::LiteralBound;
 use crate::frames::RowRank;
 use crate::parts::add_row;
-use crate::tellers::Teller;
+use crate::telling_rows::TellingRow;
 use cpg_base::{OutOfMemory, Problem, Scenario};
 use cpg_cover::{covers, earlier};
 use cpg_cube::{Column, Cube, Literal};
@@ -33,7 +33,7 @@ use std::alloc::Global;
 pub(crate) struct Hearing<'a> {
     pub(crate) admitted: &'a Admitted,
     pub(crate) tables: &'a Tables,
-    pub(crate) tellers: Vec<Teller<'a>>,
+    pub(crate) telling_rows: Vec<TellingRow<'a>>,
 }
 
 /// The least scenario that a cube matches and no cube of a list does, if there is one.
@@ -109,8 +109,8 @@ impl Hearing<'_> {
         if problem.node_of(process) != node {
             return Ok(());
         }
-        let teller = &self.tellers[process as usize];
-        add_row(alloc, problem, teller, cube, time, bound, told)?;
+        let row = &self.telling_rows[process as usize];
+        add_row(alloc, problem, row, cube, time, bound, told)?;
         Ok(())
     }
 

@@ -9,7 +9,7 @@ mod frames;
 mod heard;
 mod hearing;
 mod parts;
-mod tellers;
+mod telling_rows;
 
 pub use asked::sift_heard;
 pub use heard::check_heard;

@@ -9,14 +9,15 @@ ghost use Rattle.cpg_cube.specs.Cube.{matches};
 ghost use Rattle.cpg_cube.specs.Fit.{IsKnown};
 ghost use Rattle.cpg_violation.specs.Lines.{IsLine};
 ghost use Rattle.cpg_check_heard.specs.Bounds.{variable_of};
-ghost use Rattle.cpg_check_heard.specs.Tellings.{CanTell, IsPart, is_telling, is_telling_at, is_value, row_tells};
-ghost use Rattle.cpg_check_heard.specs.declared.tellers.Telling.TheVariants.{End, Frame};
+ghost use Rattle.cpg_check_heard.specs.TellingRows.{CanTell, IsPart, is_telling, is_telling_at, is_value, row_tells};
+ghost use Rattle.cpg_check_heard.specs.declared.telling_rows.Means.TheVariants.{End, Frame};
 
 use crate::arrivals::may_have_come;
 use crate::bound::LiteralBound;
-use crate::tellers::{Teller, Telling, has_come};
+use crate::telling_rows::{Means, TellingRow};
 use cpg_base::{FIRST_VALUE, OutOfMemory, Problem};
 use cpg_cube::{Column, Cube, Literal};
+use cpg_violation::has_come;
 use std::alloc::Global;
 
 /// How many of the fault counts, from 0 on, let an execution that starts at a time end by another.
@@ -120,23 +121,23 @@ fn frame_part(
 /// The part of a column's cube in which it tells a bound by a time, if there is one.
 pub(crate) fn part_of(
     problem: &Problem,
-    telling: Telling,
+    means: Means,
     column: &Column,
     time: u64,
     bound: LiteralBound,
 ) -> Result<Option<Cube>, OutOfMemory>
-    requires can { CanTell problem.now bound telling }
+    requires can { CanTell problem.now bound means }
     requires variable { IsVariable problem.now (variable_of bound) }
     requires cube { IsKnown problem.now column.now.cube }
-    ensures part { IfOk result (IsPart problem.now (λ s. is_telling problem.now telling time bound s column.now)) }
+    ensures part { IfOk result (IsPart problem.now (λ s. is_telling problem.now means time bound s column.now)) }
     ensures known { IfOk result (λ r. IfSome r (IsKnown problem.now)) }
 {
-    match telling {
-        Telling::End { process } => {
+    match means {
+        Means::End { process } => {
             let part = end_part(problem, process, column, time, bound)?;
             Ok(part)
         }
-        Telling::Frame { delay, condition } => {
+        Means::Frame { delay, condition } => {
             let part = frame_part(problem, delay, condition, column, time, bound)?;
             Ok(part)
         }
@@ -146,23 +147,23 @@ pub(crate) fn part_of(
 /// What `part_of` gives for the column at a place, if there is one.
 fn part_at(
     problem: &Problem,
-    telling: Telling,
+    means: Means,
     columns: &[Column],
     place: u32,
     time: u64,
     bound: LiteralBound,
 ) -> Result<Option<Cube>, OutOfMemory>
-    requires can { CanTell problem.now bound telling }
+    requires can { CanTell problem.now bound means }
     requires variable { IsVariable problem.now (variable_of bound) }
     requires columns { All (λ c. IsKnown problem.now c.cube) columns.now }
-    ensures part { IfOk result (IsPart problem.now (λ s. is_telling_at problem.now telling time bound columns.now s place)) }
+    ensures part { IfOk result (IsPart problem.now (λ s. is_telling_at problem.now means time bound columns.now s place)) }
     ensures known { IfOk result (λ r. IfSome r (IsKnown problem.now)) }
 {
     // no column stands there
     let Some(column) = columns.get(place as usize) else {
         return Ok(None);
     };
-    let part = part_of(problem, telling, column, time, bound)?;
+    let part = part_of(problem, means, column, time, bound)?;
     Ok(part)
 }
 
@@ -181,32 +182,32 @@ pub(crate) fn add(told: &mut Vec<Cube>, part: Option<Cube>) -> Result<(), OutOfM
 pub(crate) fn add_row(
     alloc: Global,
     problem: &Problem,
-    teller: &Teller<'_>,
+    row: &TellingRow<'_>,
     cube: &Cube,
     time: u64,
     bound: LiteralBound,
     told: &mut Vec<Cube>,
 ) -> Result<(), OutOfMemory>
-    requires can { CanTell problem.now bound teller.now.telling }
+    requires can { CanTell problem.now bound row.now.means }
     requires variable { IsVariable problem.now (variable_of bound) }
-    requires columns { All (λ c. IsKnown problem.now c.cube) teller.now.line.now.columns.now }
-    requires line { IsLine teller.now.line.now.columns.now teller.now.line.now }
+    requires columns { All (λ c. IsKnown problem.now c.cube) row.now.line.now.columns.now }
+    requires line { IsLine row.now.line.now.columns.now row.now.line.now }
     requires told { All (IsKnown problem.now) told.old.items }
     ensures known { IfOk result (λ _. All (IsKnown problem.now) told.new.items) }
     ensures told { IfOk result (λ _. (s : Scenario) → IsScenario problem.now s → matches cube.now s ≡ true
         → list_any (λ b. matches b s) told.new.items
         ≡ (list_any (λ b. matches b s) told.old.items
-        || row_tells problem.now teller.now.telling time bound teller.now.line.now.columns.now s)) }
+        || row_tells problem.now row.now.means time bound row.now.line.now.columns.now s)) }
 {
-    let line = teller.line;
+    let line = row.line;
     // the row's first column comes too late, and so do all others
-    if !may_have_come(teller.telling, line.first, time) {
+    if !may_have_come(row.means, line.first, time) {
         return Ok(());
     }
     // the sieve gives the places of the columns that may match together with the cube
     let places = line.sieve.candidates(alloc, line.columns, cube)?;
     for place in places.as_slice() {
-        let part = part_at(problem, teller.telling, line.columns, *place, time, bound)?;
+        let part = part_at(problem, row.means, line.columns, *place, time, bound)?;
         add(told, part)?;
     }
     Ok(())

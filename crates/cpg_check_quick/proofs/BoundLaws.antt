@@ -14,7 +14,7 @@ use Rattle.cpg_table.specs.Table.{NodeTable}
 use Rattle.cpg_cube.specs.declared.column.Column.{Column}
 use Rattle.cpg_check_quick.specs.Bounds.{bounds_of, high_of, low_of, unknown_bounds}
 use Rattle.cpg_check_quick.specs.Hearing.{IsAllHeard, IsHeardIn}
-use Rattle.cpg_check_quick.specs.Speakers.{AreToldIn, IsToldIn}
+use Rattle.cpg_check_quick.specs.HeardRows.{AreToldIn, IsToldIn}
 
 -- the one element if there is one
 one_of : {X : Type 0} (b : Bool) (x y : X) → Contains (cond b [] (x ∷ [])) y → x ≡ y

@@ -44,7 +44,7 @@ no_overlap a b c d (inl h) = ap (λ t. t && nat_lt c (a + b)) (le-ltb a (c + d) 
 no_overlap a b c d (inr h) = and_right (nat_lt a (c + d)) (nat_lt c (a + b)) (le-ltb c (a + b) h)
 
 module _ (g : Graph) (tables : List NodeTable) (p : ℕ) where
-  -- an item that is no process keeps V6
+  -- an item that is no process has no execution, so it keeps V6
   pub sure_no_process : process_count g ≤ p → IsSure g tables Rule.Processor p
   sure_no_process l = sure_of g tables Rule.Processor p refl
       (λ s c earlier law there m. and_left (nat_lt p (process_count g)) _ (le-ltb p (process_count g) l))
@@ -71,11 +71,6 @@ module _ (g : Graph) (tables : List NodeTable) (p : ℕ) where
       IsSure g tables Rule.Processor p
   sure_alone lower is apart =
       lower_alone (subst (λ (ys : List ℕ). All (λ q. IsApart (execution g) g tables q p) ys) is apart)
-
-  -- an item that is no process has no execution, so it keeps V6
-  pub sure_none : process_count g ≤ p → IsSure g tables Rule.Processor p
-  sure_none none = sure_of g tables Rule.Processor p refl
-      (λ s c earlier law there m. and_left (nat_lt p (process_count g)) _ (le-ltb p (process_count g) none))
 
 -- ---- V7
 

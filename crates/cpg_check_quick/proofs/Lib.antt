@@ -4,6 +4,6 @@ pub mod Ends
 pub mod InputLaws
 pub mod HeardLaws
 pub mod OwnLaws
-pub mod SpeakerLaws
+pub mod HeardRowLaws
 pub mod BoundLaws
-pub mod WaitingLaws
+pub mod InputRowLaws

@@ -28,11 +28,11 @@ use Rattle.cpg_row_trees.proofs.TreeLaws.{none_matches, place_only}
 use Rattle.cpg_violation.specs.Violation.{Holds}
 use Rattle.cpg_violation.proofs.Durations.{duration_grows, fault_within}
 use Rattle.cpg_violation.specs.Always.{IsUnconditional}
-use Rattle.cpg_check_quick.specs.declared.course.Course.{Course}
-use Rattle.cpg_check_quick.specs.declared.course.Courses.{Courses}
+use Rattle.cpg_check_quick.specs.declared.spanned_rows.SpannedRow.{SpannedRow}
+use Rattle.cpg_check_quick.specs.declared.spanned_rows.SpannedRows.{SpannedRows}
 use Rattle.cpg_check_quick.specs.declared.span.ItemSpan.{ItemSpan}
-use Rattle.cpg_check_quick.specs.Courses.{AreCourses, IsCourse, IsOverAt, IsPast, IsSpan}
-use Rattle.cpg_check_quick.specs.Order.{execution, IsApart, IsApartAt, IsInTurn, IsOver, IsOverBy, StandsBefore}
+use Rattle.cpg_check_quick.specs.SpannedRows.{AreSpannedRows, IsSpannedRow, IsOverAt, IsPast, IsSpan}
+use Rattle.cpg_check_quick.specs.Order.{execution, IsApart, IsApartAt, IsInSequence, IsOver, IsOverBy, StandsBefore}
 
 -- ---- spans
 
@@ -50,38 +50,38 @@ span_of g few p l span is lengths longest = record {
   longest = λ s law. omega (arith, duration_grows g p (fault_of s p) g.faults (fault_within g few p l s law), longest);
 }
 
--- ---- courses
+-- ---- rows
 
--- the course that a look-up finds is its item's
-pub course_at : {lasts : ℕ → Scenario → ℕ} {g : Graph} {tables : List NodeTable} {courses : Courses} →
-    AreCourses lasts g tables courses
-    → (x : ℕ) (course : Course) (list : List Course) → list ≡ courses.list.items → x < length list →
-    course ≡ get_or list x course → IsCourse g tables (lasts x) x course
-course_at {lasts = lasts} {g = g} {tables = tables} {courses = courses} are x course list same l is =
-    subst (IsCourse g tables (lasts x) x) (sym (is ∙ ap (λ (ys : List Course). get_or ys x course) same))
-    (are.each x course (omega (arith, l, ap length same)))
+-- the row that a look-up finds is its item's
+pub row_at : {lasts : ℕ → Scenario → ℕ} {g : Graph} {tables : List NodeTable} {rows : SpannedRows} →
+    AreSpannedRows lasts g tables rows
+    → (x : ℕ) (row : SpannedRow) (list : List SpannedRow) → list ≡ rows.list.items → x < length list →
+    row ≡ get_or list x row → IsSpannedRow g tables (lasts x) x row
+row_at {lasts = lasts} {g = g} {tables = tables} {rows = rows} are x row list same l is =
+    subst (IsSpannedRow g tables (lasts x) x) (sym (is ∙ ap (λ (ys : List SpannedRow). get_or ys x row) same))
+    (are.each x row (omega (arith, l, ap length same)))
 
--- the courses so far, and one more
+-- the rows so far, and one more
 pub record AreSoFar (lasts : ℕ → Scenario → ℕ) (g : Graph) (tables : List NodeTable) (n : ℕ)
-    (list : List Course) : Type 0 where
+    (list : List SpannedRow) : Type 0 where
   pub count : length list ≡ n
-  pub each : (x : ℕ) (d : Course) → x < length list → IsCourse g tables (lasts x) x (get_or list x d)
+  pub each : (x : ℕ) (d : SpannedRow) → x < length list → IsSpannedRow g tables (lasts x) x (get_or list x d)
 
--- the course of the next item after those of the first ones makes the courses of one item more
-pub courses_more : (lasts : ℕ → Scenario → ℕ) (g : Graph) (tables : List NodeTable) (n : ℕ) (list : List Course)
-    (course : Course) →
+-- the row of the next item after those of the first ones makes the rows of one item more
+pub rows_more : (lasts : ℕ → Scenario → ℕ) (g : Graph) (tables : List NodeTable) (n : ℕ) (list : List SpannedRow)
+    (row : SpannedRow) →
     AreSoFar lasts g tables n list →
-    IsCourse g tables (lasts n) n course → AreSoFar lasts g tables (n + 1) (list ++ course ∷ [])
-courses_more lasts g tables n list course before here = record {
-  count = omega (arith, length-append list (course ∷ []), before.count);
+    IsSpannedRow g tables (lasts n) n row → AreSoFar lasts g tables (n + 1) (list ++ row ∷ [])
+rows_more lasts g tables n list row before here = record {
+  count = omega (arith, length-append list (row ∷ []), before.count);
   each = λ x d l. elim (cases_lt x n) [
-    | inl lt ↦ subst (IsCourse g tables (lasts x) x)
-        (sym (get_or_append_left list (course ∷ []) d x (omega (arith, before.count, lt))))
+    | inl lt ↦ subst (IsSpannedRow g tables (lasts x) x)
+        (sym (get_or_append_left list (row ∷ []) d x (omega (arith, before.count, lt))))
         (before.each x d (omega (arith, before.count, lt)))
     | inr ge ↦
-        let same : n ≡ x = omega (arith, l, ge, length-append list (course ∷ []), before.count) in
-        subst (IsCourse g tables (lasts x) x) (sym (get_or_push list course d x (omega (arith, before.count, same))))
-        (subst (λ y. IsCourse g tables (lasts y) y course) same here)
+        let same : n ≡ x = omega (arith, l, ge, length-append list (row ∷ []), before.count) in
+        subst (IsSpannedRow g tables (lasts x) x) (sym (get_or_push list row d x (omega (arith, before.count, same))))
+        (subst (λ y. IsSpannedRow g tables (lasts y) y row) same here)
   ];
 }
 
@@ -110,55 +110,55 @@ module _ {g : Graph} {lasts : Scenario → ℕ} {span : ItemSpan} (is : IsSpan g
   pub past_over : (start time : ℕ) → IsPast span start time s → start + lasts s ≤ time
   past_over start time p = omega (arith, is.enough s p.count law p.most p.known, p.over)
 
--- the course of an item, and a scenario
-module _ {g : Graph} {tables : List NodeTable} {lasts : Scenario → ℕ} {x : ℕ} {course : Course}
-    (is : IsCourse g tables lasts x course) {s : Scenario} (law : IsScenario g s) where
+-- the row of an item, and a scenario
+module _ {g : Graph} {tables : List NodeTable} {lasts : Scenario → ℕ} {x : ℕ} {row : SpannedRow}
+    (is : IsSpannedRow g tables lasts x row) {s : Scenario} (law : IsScenario g s) where
   -- an item is over by a time if its last column and its longest length are
-  pub early_over : (time : ℕ) → course.last + course.span.longest ≤ time → IsOverBy tables (lasts s) x time s
+  pub early_over : (time : ℕ) → row.last + row.span.longest ≤ time → IsOverBy tables (lasts s) x time s
   early_over time h d c m =
-      let last : d.time ≤ course.last =
-      All-contains (λ (d : Column). d.time ≤ course.last) (columns_of tables x) d is.last c in
+      let last : d.time ≤ row.last =
+      All-contains (λ (d : Column). d.time ≤ row.last) (columns_of tables x) d is.last c in
       omega (arith, h, last, is.span.longest s law)
 
   -- by the first column, of what is before
-  pub late_over : (start longest other : ℕ) → other ≤ longest → start + longest ≤ course.first → (d : Column) →
+  pub late_over : (start longest other : ℕ) → other ≤ longest → start + longest ≤ row.first → (d : Column) →
       Contains (columns_of tables x) d →
       start + other ≤ d.time
   late_over start longest other l h d c =
-      let first : course.first ≤ d.time =
-      All-contains (λ (d : Column). course.first ≤ d.time) (columns_of tables x) d is.first c in
+      let first : row.first ≤ d.time =
+      All-contains (λ (d : Column). row.first ≤ d.time) (columns_of tables x) d is.first c in
       omega (arith, l, h, first)
 
-  module _ (tree : PlacesState) (there : course.tree.now ≡ Some tree) where
+  module _ (tree : PlacesState) (there : row.tree.now ≡ Some tree) where
     row_tree : IsRowTree g (columns_of tables x) tree
     row_tree = subst (λ (o : Option PlacesState). IfSome o (λ (t : PlacesState). IsRowTree g (columns_of tables x) t))
         there is.tree
 
     -- an item is over by a time if it is past by then from the column at its tree's place
     pub told_over : (time : ℕ) →
-        IfSome (place_at tree s) (λ i. IsPast course.span (column_at course.columns.now i).time time s) →
+        IfSome (place_at tree s) (λ i. IsPast row.span (column_at row.columns.now i).time time s) →
         IsOverBy tables (lasts s) x time s
     told_over time h d c m = past_over is.span law d.time time
-        (each_told row_tree s law (λ (d : Column). IsPast course.span d.time time s)
+        (each_told row_tree s law (λ (d : Column). IsPast row.span d.time time s)
         (subst (λ (columns : List Column).
-        IfSome (place_at tree s) (λ i. IsPast course.span (column_at columns i).time time s)) is.columns h) d c m)
+        IfSome (place_at tree s) (λ i. IsPast row.span (column_at columns i).time time s)) is.columns h) d c m)
 
     -- an item and another one are apart if one is past by the other's time from the column at the tree's place
     pub told_apart : {other : Scenario → ℕ} {span : ItemSpan} → IsSpan g other span → (time : ℕ)
-        → IfSome (place_at tree s) (λ i. IsPast course.span (column_at course.columns.now i).time time s ⊎
-        IsPast span time (column_at course.columns.now i).time s) →
+        → IfSome (place_at tree s) (λ i. IsPast row.span (column_at row.columns.now i).time time s ⊎
+        IsPast span time (column_at row.columns.now i).time s) →
         IsApartAt tables (lasts s) x (other s) time s
     told_apart {other = other} {span = span} by time h d c m =
-        elim (each_told row_tree s law (λ (d : Column). IsPast course.span d.time time s ⊎ IsPast span time d.time s)
-        (subst (λ (columns : List Column). IfSome (place_at tree s) (λ i. IsPast course.span
+        elim (each_told row_tree s law (λ (d : Column). IsPast row.span d.time time s ⊎ IsPast span time d.time s)
+        (subst (λ (columns : List Column). IfSome (place_at tree s) (λ i. IsPast row.span
         (column_at columns i).time time s ⊎ IsPast span time (column_at columns i).time s)) is.columns h) d c m) [
           | inl p ↦ inl (past_over is.span law d.time time p)
           | inr p ↦ inr (past_over by law time d.time p)
         ]
 
 -- the tree of an item's columns
-module _ {g : Graph} {tables : List NodeTable} {last : Scenario → ℕ} {x : ℕ} {course : Course}
-    (is : IsCourse g tables last x course) (tree : PlacesState) (there : course.tree.now ≡ Some tree) where
+module _ {g : Graph} {tables : List NodeTable} {last : Scenario → ℕ} {x : ℕ} {row : SpannedRow}
+    (is : IsSpannedRow g tables last x row) (tree : PlacesState) (there : row.tree.now ≡ Some tree) where
   its_tree : IsRowTree g (columns_of tables x) tree
   its_tree = subst (λ (o : Option PlacesState). IfSome o (λ (t : PlacesState). IsRowTree g (columns_of tables x) t))
       there is.tree
@@ -177,9 +177,9 @@ told_so (Some i) h f = f i h
 
 -- ---- two trees
 
--- the course of an item with a tree, and a scenario
-module _ {g : Graph} {tables : List NodeTable} {lasts : Scenario → ℕ} {y : ℕ} {one : Course}
-    (is : IsCourse g tables lasts y one) {s : Scenario} (law : IsScenario g s) (own : PlacesState)
+-- the row of an item with a tree, and a scenario
+module _ {g : Graph} {tables : List NodeTable} {lasts : Scenario → ℕ} {y : ℕ} {one : SpannedRow}
+    (is : IsSpannedRow g tables lasts y one) {s : Scenario} (law : IsScenario g s) (own : PlacesState)
     (there : one.tree.now ≡ Some own) where
   over_at : (time : ℕ) → IsOverAt one time (place_at own s) s → IsOverBy tables (lasts s) y time s
   over_at time h = elim h [
@@ -187,10 +187,10 @@ module _ {g : Graph} {tables : List NodeTable} {lasts : Scenario → ℕ} {y : �
     | inr past ↦ told_over is law own there time past
   ]
 
--- the courses of two items
+-- the rows of two items
 module _ {g : Graph} {tables : List NodeTable}
-    (lasts : ℕ → Scenario → ℕ) {long : Scenario → ℕ} {y x : ℕ} {one other : Course}
-    (is : IsCourse g tables (lasts y) y one) (by : IsCourse g tables long x other) where
+    (lasts : ℕ → Scenario → ℕ) {long : Scenario → ℕ} {y x : ℕ} {one other : SpannedRow}
+    (is : IsSpannedRow g tables (lasts y) y one) (by : IsSpannedRow g tables long x other) where
   -- what is over by the first column of another is over before it
   pub early_before : one.last + one.span.longest ≤ other.first → IsOver lasts g tables y x
   early_before h s c law here m = early_over is law c.time
@@ -298,11 +298,12 @@ module _ (g : Graph) (tables : List NodeTable) (present : Holds g tables Rule.Pr
           before_over (get_or items i 0) (get_or items start 0) (get_or items place 0) is.2 is.1 (before i start h is.0)
           (near start (omega arith) is.0)
 
-      -- if the items before a place are in turn, those up to the place are
-      pub in_turn_more : ((i j : ℕ) → i < j → j < place → IsOver lasts g tables (get_or items i 0) (get_or items j 0)) →
+      -- if the items before a place are in sequence, those up to the place are
+      pub in_sequence_more :
+          ((i j : ℕ) → i < j → j < place → IsOver lasts g tables (get_or items i 0) (get_or items j 0)) →
           (i j : ℕ) → i < j → j < place + 1 →
           IsOver lasts g tables (get_or items i 0) (get_or items j 0)
-      in_turn_more before i j h k = elim (cases_lt j place) [
+      in_sequence_more before i j h k = elim (cases_lt j place) [
         | inl lt ↦ before i j h lt
         | inr ge ↦ let same : place ≡ j = omega (arith, k, ge) in
             subst (λ z. IsOver lasts g tables (get_or items i 0) (get_or items z 0)) same (elim (cases_lt i start) [
@@ -311,30 +312,32 @@ module _ (g : Graph) (tables : List NodeTable) (present : Holds g tables Rule.Pr
             ])
       ]
 
--- the items before a place are in turn, and the one at the start, if it isn't the first, is active in every scenario
-pub record IsInTurnTo (courses : Courses) (items : List ℕ) (place start : ℕ) : Type 0 where
+-- the items before a place are in sequence, and the one at the start, if it isn't the first, is active in each scenario
+pub record IsInSequenceTo (rows : SpannedRows) (items : List ℕ) (place start : ℕ) : Type 0 where
   pub within : start ≤ place
-  pub always : (g : Graph) (tables : List NodeTable) (lasts : ℕ → Scenario → ℕ) → AreCourses lasts g tables courses →
+  pub always : (g : Graph) (tables : List NodeTable) (lasts : ℕ → Scenario → ℕ) → AreSpannedRows lasts g tables rows →
       0 < start →
       (start < place) × IsUnconditional g (get_or items start 0) ×
       (get_or items start 0 < item_count g)
-  pub before : (g : Graph) (tables : List NodeTable) (lasts : ℕ → Scenario → ℕ) → AreCourses lasts g tables courses →
+  pub before : (g : Graph) (tables : List NodeTable) (lasts : ℕ → Scenario → ℕ) → AreSpannedRows lasts g tables rows →
       Holds g tables Rule.Present → (i j : ℕ) → i < j → j < place →
       IsOver lasts g tables (get_or items i 0) (get_or items j 0)
 
--- if those from the start on are over before the next item, the items up to that are in turn
-pub turn_step : (courses : Courses) (items : List ℕ) (place start next : ℕ) (b : Bool) → next ≡ cond b place start →
+-- if those from the start on are over before the next item, the items up to that are in sequence
+pub sequence_step : (rows : SpannedRows) (items : List ℕ) (place start next : ℕ) (b : Bool) →
+    next ≡ cond b place start →
     place < length items
-    → ((g : Graph) (tables : List NodeTable) (lasts : ℕ → Scenario → ℕ) → AreCourses lasts g tables courses → b ≡ true →
+    → ((g : Graph) (tables : List NodeTable) (lasts : ℕ → Scenario → ℕ) → AreSpannedRows lasts g tables rows →
+    b ≡ true →
     IsUnconditional g (get_or items place 0) ×
     (get_or items place 0 < item_count g))
-    → ((g : Graph) (tables : List NodeTable) (lasts : ℕ → Scenario → ℕ) → AreCourses lasts g tables courses →
+    → ((g : Graph) (tables : List NodeTable) (lasts : ℕ → Scenario → ℕ) → AreSpannedRows lasts g tables rows →
     All (λ y. IsOver lasts g tables y (get_or items place 0)) (take (place - start) (drop start items)))
-    → IsInTurnTo courses items place start → IsInTurnTo courses items (place + 1) next
-turn_step courses items place start next b is there here over now = record {
+    → IsInSequenceTo rows items place start → IsInSequenceTo rows items (place + 1) next
+sequence_step rows items place start next b is there here over now = record {
   within = within b is;
   always = λ g tables lasts are some. always g tables lasts are b is some (here g tables lasts are);
-  before = λ g tables lasts are present. in_turn_more g tables present lasts items place start there now.within
+  before = λ g tables lasts are present. in_sequence_more g tables present lasts items place start there now.within
       (now.always g tables lasts are) (over g tables lasts are)
       (now.before g tables lasts are present);
 }
@@ -343,7 +346,7 @@ turn_step courses items place start next b is there here over now = record {
     within true e = omega (arith, e)
     within false e = omega (arith, e, now.within)
 
-    always : (g : Graph) (tables : List NodeTable) (lasts : ℕ → Scenario → ℕ) → AreCourses lasts g tables courses →
+    always : (g : Graph) (tables : List NodeTable) (lasts : ℕ → Scenario → ℕ) → AreSpannedRows lasts g tables rows →
         (b : Bool) → next ≡ cond b place start → 0 < next
         → (b ≡ true → IsUnconditional g (get_or items place 0) × (get_or items place 0 < item_count g)) →
         (next < place + 1) × IsUnconditional g (get_or items next 0) ×
@@ -364,7 +367,7 @@ turn_step courses items place start next b is there here over now = record {
 
 -- an item that stands before another in an order in which all follow one another is over before it
 pub before_in : (lasts : ℕ → Scenario → ℕ) (g : Graph) (tables : List NodeTable) (order : List ℕ) (x y : ℕ) →
-    IsInTurn lasts g tables order → StandsBefore order x y →
+    IsInSequence lasts g tables order → StandsBefore order x y →
     IsOver lasts g tables x y
 before_in lasts g tables order x y all stands =
     let over : IsOver lasts g tables (get_or order stands.from 0) (get_or order stands.to 0) =
@@ -375,21 +378,21 @@ before_in lasts g tables order x y all stands =
 -- an order is one of those that are known
 pub order_at : (lasts : ℕ → Scenario → ℕ) (g : Graph) (tables : List NodeTable) (orders list : List (Vec ℕ Global))
     (node : ℕ) (order : Vec ℕ Global) →
-    All (λ o. IsInTurn lasts g tables o.items) orders
-    → list ≡ orders → node < length list → order ≡ get_or list node order → IsInTurn lasts g tables order.items
+    All (λ o. IsInSequence lasts g tables o.items) orders
+    → list ≡ orders → node < length list → order ≡ get_or list node order → IsInSequence lasts g tables order.items
 order_at lasts g tables orders list node order all same l is =
-    subst (λ (o : Vec ℕ Global). IsInTurn lasts g tables o.items)
+    subst (λ (o : Vec ℕ Global). IsInSequence lasts g tables o.items)
     (sym (is ∙ ap (λ (os : List (Vec ℕ Global)). get_or os node order) same))
     (all node order (omega (arith, l, ap length same)))
 
--- an order of items in turn may be added to such orders
+-- an order of items in sequence may be added to such orders
 pub orders_more : (lasts : ℕ → Scenario → ℕ) (g : Graph) (tables : List NodeTable) (orders : List (Vec ℕ Global))
     (order : Vec ℕ Global) →
-    All (λ o. IsInTurn lasts g tables o.items) orders →
-    IsInTurn lasts g tables order.items
-    → All (λ o. IsInTurn lasts g tables o.items) (orders ++ order ∷ [])
+    All (λ o. IsInSequence lasts g tables o.items) orders →
+    IsInSequence lasts g tables order.items
+    → All (λ o. IsInSequence lasts g tables o.items) (orders ++ order ∷ [])
 orders_more lasts g tables orders order all here =
-    All-push (λ (o : Vec ℕ Global). IsInTurn lasts g tables o.items) orders order all here
+    All-push (λ (o : Vec ℕ Global). IsInSequence lasts g tables o.items) orders order all here
 
 -- ---- what is left to compare
 

@@ -25,7 +25,7 @@ use Rattle.cpg_violation.specs.Violation.{AllHold, row_rules}
 use Rattle.cpg_violation.proofs.Matching.{active_where, literal_active, sure_rule}
 use Rattle.cpg_violation.proofs.Moments.{made, waits}
 use Rattle.cpg_check_quick.specs.Hearing.{AreLeft, AreOwnEnded, IsEndedBy, IsHeardIn, IsOwnEnded, IsOwnOver}
-use Rattle.cpg_check_quick.specs.Speakers.{AreToldIn, IsToldIn}
+use Rattle.cpg_check_quick.specs.HeardRows.{AreToldIn, IsToldIn}
 use Rattle.cpg_check_quick.specs.Order.{IsBefore}
 use Rattle.cpg_check_quick.proofs.Ends.{by_parts, over_ended}
 use Rattle.cpg_check_quick.proofs.HeardLaws.{heard_end, heard_sure}

@@ -8,11 +8,11 @@ use Rattle.cpg_cube.specs.Cube.{matches}
 use Rattle.cpg_table.specs.Table.{NodeTable}
 use Rattle.cpg_cube.specs.declared.column.Column.{Column}
 use Rattle.cpg_table.specs.Valid.{input_is_there}
-use Rattle.cpg_check_quick.specs.Courses.{AreCourses, IsCourse}
+use Rattle.cpg_check_quick.specs.SpannedRows.{AreSpannedRows, IsSpannedRow}
 use Rattle.cpg_check_quick.specs.Order.{IsBefore, IsOverBy, execution, frame}
-use Rattle.cpg_check_quick.specs.Turns.{AreTurns}
-use Rattle.cpg_check_quick.specs.declared.course.Course.{Course}
-use Rattle.cpg_check_quick.specs.declared.waiting.Waiting.{Waiting}
+use Rattle.cpg_check_quick.specs.Sequences.{AreSequences}
+use Rattle.cpg_check_quick.specs.declared.spanned_rows.SpannedRow.{SpannedRow}
+use Rattle.cpg_check_quick.specs.declared.input_rows.InputRows.{InputRows}
 
 -- wherever a column matches and an input is live, it is there by the column's time
 abbrev pub IsInputThere : Graph → List NodeTable → Column → ℕ → Type 0
@@ -24,10 +24,10 @@ pub record IsInputOver (g : Graph) (tables : List NodeTable) (e time : ℕ) (s :
   pub message : is_message g e ≡ true → IsOverBy tables (frame g (message_item g e) s) (message_item g e) time s
   pub source : is_message g e ≡ false → IsOverBy tables (execution g (source g e) s) (source g e) time s
 
--- a course of the message of an input, or of the execution of its source if there is no message
-pub record IsInputCourse (g : Graph) (tables : List NodeTable) (e : ℕ) (course : Course) : Type 0 where
-  pub message : is_message g e ≡ true → IsCourse g tables (frame g (message_item g e)) (message_item g e) course
-  pub source : is_message g e ≡ false → IsCourse g tables (execution g (source g e)) (source g e) course
+-- a row of the message of an input, or of the execution of its source if there is no message
+pub record IsInputRow (g : Graph) (tables : List NodeTable) (e : ℕ) (row : SpannedRow) : Type 0 where
+  pub message : is_message g e ≡ true → IsSpannedRow g tables (frame g (message_item g e)) (message_item g e) row
+  pub source : is_message g e ≡ false → IsSpannedRow g tables (execution g (source g e)) (source g e) row
 
 -- an input from the same node is always over before a process begins
 pub record IsFromBefore (g : Graph) (tables : List NodeTable) (e p : ℕ) : Type 0 where
@@ -35,10 +35,10 @@ pub record IsFromBefore (g : Graph) (tables : List NodeTable) (e p : ℕ) : Type
   pub before : IsBefore g tables (source g e) p
 
 -- the links of a graph, what is known of its executions, and of the frames of its items
-pub record IsWaiting (g : Graph) (tables : List NodeTable) (w : Waiting) : Type 0 where
+pub record AreInputRows (g : Graph) (tables : List NodeTable) (w : InputRows) : Type 0 where
   pub links : w.links ≡ links_of g
-  pub turns : AreTurns (execution g) g tables w.turns.now
-  pub frames : AreCourses (frame g) g tables w.frames.now
+  pub sequences : AreSequences (execution g) g tables w.sequences.now
+  pub frames : AreSpannedRows (frame g) g tables w.frames.now
 
 -- a column is no earlier than a release, nor than these inputs
 pub record IsLateEnough (g : Graph) (tables : List NodeTable) (edges : List ℕ) (release : ℕ) (c : Column) : Type 0 where

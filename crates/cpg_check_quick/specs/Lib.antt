@@ -1,8 +1,8 @@
 pub mod Order
-pub mod Courses
-pub mod Turns
+pub mod SpannedRows
+pub mod Sequences
 pub mod Inputs
 pub mod Bounds
 pub mod Hearing
-pub mod Speakers
+pub mod HeardRows
 pub mod Listening

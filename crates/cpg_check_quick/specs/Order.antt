@@ -34,8 +34,8 @@ IsApart lasts g tables y x =
     IsApartAt tables (lasts y s) y (lasts x s) c.time s
 
 -- each of these items is over before each later one
-abbrev pub IsInTurn : (ℕ → Scenario → ℕ) → Graph → List NodeTable → List ℕ → Type 0
-IsInTurn lasts g tables items =
+abbrev pub IsInSequence : (ℕ → Scenario → ℕ) → Graph → List NodeTable → List ℕ → Type 0
+IsInSequence lasts g tables items =
     (i j : ℕ) → i < j → j < length items → IsOver lasts g tables (get_or items i 0) (get_or items j 0)
 
 -- one item stands before another in an order

@@ -7,13 +7,13 @@ ghost use Rattle.cpg_cube.specs.Cube.{matches};
 ghost use Rattle.cpg_table.specs.Table.{NodeTable};
 ghost use Rattle.cpg_tree.specs.Space.{IsInSpace};
 ghost use Rattle.cpg_cube.specs.Column.{column_at};
-ghost use Rattle.cpg_check_quick.specs.Courses.{AreCourses, IsCourse, IsPast};
+ghost use Rattle.cpg_check_quick.specs.SpannedRows.{AreSpannedRows, IsSpannedRow, IsPast};
 ghost use Rattle.cpg_check_quick.specs.Order.{IsApart, IsApartAt};
-ghost use Rattle.cpg_check_quick.specs.Turns.{AreTurns};
+ghost use Rattle.cpg_check_quick.specs.Sequences.{AreSequences};
 
-use crate::course::{Course, Courses};
+use crate::sequences::Sequences;
 use crate::span::ItemSpan;
-use crate::turns::Turns;
+use crate::spanned_rows::{SpannedRow, SpannedRows};
 use cpg_base::OutOfMemory;
 use cpg_cube::Column;
 use cpg_row_trees::Test;
@@ -47,11 +47,11 @@ impl<'a> Test for TimeParts<'a> {
     }
 }
 
-impl<'a> Course<'a> {
+impl<'a> SpannedRow<'a> {
     /// Whether all columns are so early or so late that the item and another, which is at a time, are apart.
-    fn is_clear(&self, other: &Course<'_>, time: u64) -> bool
+    fn is_clear(&self, other: &SpannedRow<'_>, time: u64) -> bool
         ensures { OnTrue result ((g : Graph) (tables : List NodeTable) (lasts : ℕ → Scenario → ℕ) (y x : ℕ) (s : Scenario) →
-            IsCourse g tables (lasts y) y self.now → IsCourse g tables (lasts x) x other.now → IsScenario g s →
+            IsSpannedRow g tables (lasts y) y self.now → IsSpannedRow g tables (lasts x) x other.now → IsScenario g s →
             IsApartAt tables (lasts y s) y (lasts x s) time s) }
     {
         if self.is_early(time) {
@@ -64,9 +64,9 @@ impl<'a> Course<'a> {
     }
 
     /// Whether the item and another, which is at a time, are apart in the scenarios of a space.
-    fn is_apart(&self, other: &Course<'_>, space: &Space, time: u64) -> bool
+    fn is_apart(&self, other: &SpannedRow<'_>, space: &Space, time: u64) -> bool
         ensures { OnTrue result ((g : Graph) (tables : List NodeTable) (lasts : ℕ → Scenario → ℕ) (y x : ℕ) (s : Scenario) →
-            IsCourse g tables (lasts y) y self.now → IsCourse g tables (lasts x) x other.now → IsScenario g s → IsInSpace space.now s →
+            IsSpannedRow g tables (lasts y) y self.now → IsSpannedRow g tables (lasts x) x other.now → IsScenario g s → IsInSpace space.now s →
             IsApartAt tables (lasts y s) y (lasts x s) time s) }
     {
         if self.is_clear(other, time) {
@@ -85,19 +85,19 @@ impl<'a> Course<'a> {
     }
 }
 
-impl<'a> Courses<'a> {
+impl<'a> SpannedRows<'a> {
     /// Whether all columns of each of these items are so early or so late that it and another, which is at a time, are
     /// apart.
-    fn are_clear(&self, items: &[u32], other: &Course<'_>, time: u64) -> bool
+    fn are_clear(&self, items: &[u32], other: &SpannedRow<'_>, time: u64) -> bool
         ensures { OnTrue result ((g : Graph) (tables : List NodeTable) (lasts : ℕ → Scenario → ℕ) (x : ℕ) (s : Scenario) →
-            AreCourses lasts g tables self.now → IsCourse g tables (lasts x) x other.now → IsScenario g s →
+            AreSpannedRows lasts g tables self.now → IsSpannedRow g tables (lasts x) x other.now → IsScenario g s →
             All (λ y. IsApartAt tables (lasts y s) y (lasts x s) time s) items.now) }
     {
         for item in items {
-            let Some(course) = self.list.get(*item as usize) else {
+            let Some(row) = self.list.get(*item as usize) else {
                 return false;
             };
-            if !course.is_clear(other, time) {
+            if !row.is_clear(other, time) {
                 return false;
             }
         }
@@ -105,16 +105,16 @@ impl<'a> Courses<'a> {
     }
 
     /// Whether each of these items and another, which is at a time, are apart in the scenarios of a space.
-    fn are_apart_in(&self, items: &[u32], other: &Course<'_>, space: &Space, time: u64) -> bool
+    fn are_apart_in(&self, items: &[u32], other: &SpannedRow<'_>, space: &Space, time: u64) -> bool
         ensures { OnTrue result ((g : Graph) (tables : List NodeTable) (lasts : ℕ → Scenario → ℕ) (x : ℕ) (s : Scenario) →
-            AreCourses lasts g tables self.now → IsCourse g tables (lasts x) x other.now → IsScenario g s → IsInSpace space.now s →
+            AreSpannedRows lasts g tables self.now → IsSpannedRow g tables (lasts x) x other.now → IsScenario g s → IsInSpace space.now s →
             All (λ y. IsApartAt tables (lasts y s) y (lasts x s) time s) items.now) }
     {
         for item in items {
-            let Some(course) = self.list.get(*item as usize) else {
+            let Some(row) = self.list.get(*item as usize) else {
                 return false;
             };
-            if !course.is_apart(other, space, time) {
+            if !row.is_apart(other, space, time) {
                 return false;
             }
         }
@@ -122,9 +122,9 @@ impl<'a> Courses<'a> {
     }
 
     /// Whether each of these items and another at one of its columns are apart, wherever that matches.
-    fn are_apart_at(&self, items: &[u32], other: &Course<'_>, column: &Column) -> bool
+    fn are_apart_at(&self, items: &[u32], other: &SpannedRow<'_>, column: &Column) -> bool
         ensures { OnTrue result ((g : Graph) (tables : List NodeTable) (lasts : ℕ → Scenario → ℕ) (x : ℕ) (s : Scenario) →
-            AreCourses lasts g tables self.now → IsCourse g tables (lasts x) x other.now → IsScenario g s →
+            AreSpannedRows lasts g tables self.now → IsSpannedRow g tables (lasts x) x other.now → IsScenario g s →
             matches column.now.cube s ≡ true → All (λ y. IsApartAt tables (lasts y s) y (lasts x s) column.now.time s) items.now) }
     {
         if self.are_clear(items, other, column.time) {
@@ -138,9 +138,9 @@ impl<'a> Courses<'a> {
     }
 
     /// Whether each of these items and another are apart wherever a column of each matches.
-    fn are_apart(&self, items: &[u32], other: &Course<'_>) -> bool
+    fn are_apart(&self, items: &[u32], other: &SpannedRow<'_>) -> bool
         ensures { OnTrue result ((g : Graph) (tables : List NodeTable) (lasts : ℕ → Scenario → ℕ) (x : ℕ) →
-            AreCourses lasts g tables self.now → IsCourse g tables (lasts x) x other.now → All (λ y. IsApart lasts g tables y x) items.now) }
+            AreSpannedRows lasts g tables self.now → IsSpannedRow g tables (lasts x) x other.now → All (λ y. IsApart lasts g tables y x) items.now) }
     {
         for column in other.columns {
             if !self.are_apart_at(items, other, column) {
@@ -151,7 +151,7 @@ impl<'a> Courses<'a> {
     }
 }
 
-impl<'a> Turns<'a> {
+impl<'a> Sequences<'a> {
     /// Those of these items of a node that the order doesn't show to be apart from another.
     fn untold(
         &self,
@@ -160,7 +160,7 @@ impl<'a> Turns<'a> {
         items: &[u32],
         other: u32,
     ) -> Result<Vec<u32>, OutOfMemory>
-        ensures { IfOk result (λ left. (g : Graph) (tables : List NodeTable) (lasts : ℕ → Scenario → ℕ) → AreTurns lasts g tables self.now →
+        ensures { IfOk result (λ left. (g : Graph) (tables : List NodeTable) (lasts : ℕ → Scenario → ℕ) → AreSequences lasts g tables self.now →
             All (λ y. Contains left.items y ⊎ IsApart lasts g tables y other) items.now) }
     {
         let mut left = Vec::new(alloc);
@@ -185,11 +185,11 @@ impl<'a> Turns<'a> {
         other: u32,
     ) -> Result<bool, OutOfMemory>
         ensures { IfOk result (λ r. OnTrue r ((g : Graph) (tables : List NodeTable) (lasts : ℕ → Scenario → ℕ) →
-            AreTurns lasts g tables self.now → All (λ y. IsApart lasts g tables y other) items.now)) }
+            AreSequences lasts g tables self.now → All (λ y. IsApart lasts g tables y other) items.now)) }
     {
         let left = self.untold(alloc, node, items, other)?;
-        match self.courses.list.get(other as usize) {
-            Some(course) => Ok(self.courses.are_apart(left.as_slice(), course)),
+        match self.rows.list.get(other as usize) {
+            Some(row) => Ok(self.rows.are_apart(left.as_slice(), row)),
             None => Ok(false),
         }
     }

@@ -7,15 +7,15 @@ ghost use Rattle.cpg_cube.specs.Cube.{matches};
 ghost use Rattle.cpg_table.specs.Table.{NodeTable, columns_of};
 ghost use Rattle.cpg_tree.specs.Space.{IsInSpace};
 ghost use Rattle.cpg_cube.specs.Column.{column_at};
-ghost use Rattle.cpg_check_quick.specs.Courses.{AreCourses, HasAll, IsCourse, IsOverAt, IsPast};
+ghost use Rattle.cpg_check_quick.specs.SpannedRows.{AreSpannedRows, HasAll, IsSpannedRow, IsOverAt, IsPast};
 ghost use Rattle.cpg_check_quick.specs.Order.{IsOver, IsOverBy};
 
-use crate::course::{Course, Courses};
 use crate::span::ItemSpan;
-use crate::speakers::has_come;
+use crate::spanned_rows::{SpannedRow, SpannedRows};
 use cpg_cube::Column;
 use cpg_row_trees::{PairTest, Places, Test};
 use cpg_tree::Space;
+use cpg_violation::has_come;
 
 /// Tests whether an item with this span is over by a time, from the column at a place.
 #[derive(Drop)]
@@ -43,12 +43,12 @@ impl<'a> Test for Ends<'a> {
 /// Tests whether an item is over by the time of another's column, from the columns at a place of each.
 #[derive(Drop)]
 struct Before<'a> {
-    course: &'a Course<'a>,
+    row: &'a SpannedRow<'a>,
     columns: &'a [Column],
 }
 
 impl<'a> PairTest for Before<'a> {
-    ghost guarantees = { λ test place own s. IfSome place (λ i. IsOverAt test.course.now (column_at test.columns.now i).time own s) };
+    ghost guarantees = { λ test place own s. IfSome place (λ i. IsOverAt test.row.now (column_at test.columns.now i).time own s) };
 
     fn passes_with_any(&self, first: Option<u32>) -> bool {
         // the other item isn't active, so there is nothing to compare
@@ -58,7 +58,7 @@ impl<'a> PairTest for Before<'a> {
         let Some(column) = self.columns.get(place as usize) else {
             return false;
         };
-        has_come(self.course.last, self.course.span.longest, column.time)
+        has_come(self.row.last, self.row.span.longest, column.time)
     }
 
     fn passes(&self, first: Option<u32>, second: Option<u32>, space: &Space) -> bool {
@@ -69,15 +69,15 @@ impl<'a> PairTest for Before<'a> {
         let Some(column) = self.columns.get(place as usize) else {
             return false;
         };
-        self.course.is_over_from(second, space, column.time)
+        self.row.is_over_from(second, space, column.time)
     }
 }
 
-impl<'a> Course<'a> {
+impl<'a> SpannedRow<'a> {
     /// Whether the item is over by a time in every scenario, by its last column.
     pub(crate) fn is_early(&self, time: u64) -> bool
         ensures { OnTrue result ((g : Graph) (tables : List NodeTable) (lasts : Scenario → ℕ) (x : ℕ) (s : Scenario) →
-            IsCourse g tables lasts x self.now → IsScenario g s → IsOverBy tables (lasts s) x time s) }
+            IsSpannedRow g tables lasts x self.now → IsScenario g s → IsOverBy tables (lasts s) x time s) }
     {
         has_come(self.last, self.span.longest, time)
     }
@@ -96,9 +96,9 @@ impl<'a> Course<'a> {
 
     /// Whether the item is over before another that has a tree: a walk down both trees has the scenarios of each two
     /// columns.
-    fn ends_before(&self, everywhere: &Space, other: &Course<'_>, tree: &Places) -> bool
+    fn ends_before(&self, everywhere: &Space, other: &SpannedRow<'_>, tree: &Places) -> bool
         ensures { OnTrue result ((g : Graph) (tables : List NodeTable) (lasts : ℕ → Scenario → ℕ) (long : Scenario → ℕ) (y x : ℕ) →
-            HasAll g everywhere.now → IsCourse g tables (lasts y) y self.now → IsCourse g tables long x other.now → other.now.tree.now ≡ Some tree.now → IsOver lasts g tables y x) }
+            HasAll g everywhere.now → IsSpannedRow g tables (lasts y) y self.now → IsSpannedRow g tables long x other.now → other.now.tree.now ≡ Some tree.now → IsOver lasts g tables y x) }
     {
         // its latest end is no later than the other's first time
         if has_come(self.last, self.span.longest, other.first) {
@@ -108,7 +108,7 @@ impl<'a> Course<'a> {
             return false;
         };
         let test = Before {
-            course: self,
+            row: self,
             columns: other.columns,
         };
         tree.do_pass_with(own, everywhere, &test)
@@ -117,7 +117,7 @@ impl<'a> Course<'a> {
     /// Whether the item is over by a time in the scenarios of a space, by the columns that match there.
     pub(crate) fn is_over(&self, space: &Space, time: u64) -> bool
         ensures { OnTrue result ((g : Graph) (tables : List NodeTable) (lasts : Scenario → ℕ) (x : ℕ) (s : Scenario) →
-            IsCourse g tables lasts x self.now → IsScenario g s → IsInSpace space.now s → IsOverBy tables (lasts s) x time s) }
+            IsSpannedRow g tables lasts x self.now → IsScenario g s → IsInSpace space.now s → IsOverBy tables (lasts s) x time s) }
     {
         // its latest end is no later than the time
         if self.is_early(time) {
@@ -136,17 +136,17 @@ impl<'a> Course<'a> {
     }
 }
 
-impl<'a> Courses<'a> {
+impl<'a> SpannedRows<'a> {
     /// Whether each of these items is over by a time in every scenario, by its last column.
     fn are_early(&self, items: &[u32], time: u64) -> bool
         ensures { OnTrue result ((g : Graph) (tables : List NodeTable) (lasts : ℕ → Scenario → ℕ) (s : Scenario) →
-            AreCourses lasts g tables self.now → IsScenario g s → All (λ y. IsOverBy tables (lasts y s) y time s) items.now) }
+            AreSpannedRows lasts g tables self.now → IsScenario g s → All (λ y. IsOverBy tables (lasts y s) y time s) items.now) }
     {
         for item in items {
-            let Some(course) = self.list.get(*item as usize) else {
+            let Some(row) = self.list.get(*item as usize) else {
                 return false;
             };
-            if !course.is_early(time) {
+            if !row.is_early(time) {
                 return false;
             }
         }
@@ -156,13 +156,13 @@ impl<'a> Courses<'a> {
     /// Whether each of these items is over by a time in the scenarios of a space, by the columns that match there.
     fn are_over(&self, items: &[u32], space: &Space, time: u64) -> bool
         ensures { OnTrue result ((g : Graph) (tables : List NodeTable) (lasts : ℕ → Scenario → ℕ) (s : Scenario) →
-            AreCourses lasts g tables self.now → IsScenario g s → IsInSpace space.now s → All (λ y. IsOverBy tables (lasts y s) y time s) items.now) }
+            AreSpannedRows lasts g tables self.now → IsScenario g s → IsInSpace space.now s → All (λ y. IsOverBy tables (lasts y s) y time s) items.now) }
     {
         for item in items {
-            let Some(course) = self.list.get(*item as usize) else {
+            let Some(row) = self.list.get(*item as usize) else {
                 return false;
             };
-            if !course.is_over(space, time) {
+            if !row.is_over(space, time) {
                 return false;
             }
         }
@@ -172,7 +172,7 @@ impl<'a> Courses<'a> {
     /// Whether each of these items is over by the time of a column, wherever that matches.
     pub(crate) fn are_over_at(&self, items: &[u32], column: &Column) -> bool
         ensures { OnTrue result ((g : Graph) (tables : List NodeTable) (lasts : ℕ → Scenario → ℕ) (s : Scenario) →
-            AreCourses lasts g tables self.now → IsScenario g s → matches column.now.cube s ≡ true →
+            AreSpannedRows lasts g tables self.now → IsScenario g s → matches column.now.cube s ≡ true →
             All (λ y. IsOverBy tables (lasts y s) y column.now.time s) items.now) }
     {
         // known without the column's cube
@@ -190,7 +190,7 @@ impl<'a> Courses<'a> {
     /// Whether each of these items is over before another, which has these columns: wherever a column of each matches.
     pub(crate) fn come_before(&self, items: &[u32], columns: &[Column]) -> bool
         ensures { OnTrue result ((g : Graph) (tables : List NodeTable) (lasts : ℕ → Scenario → ℕ) (x : ℕ) →
-            AreCourses lasts g tables self.now → columns.now ≡ columns_of tables x → All (λ y. IsOver lasts g tables y x) items.now) }
+            AreSpannedRows lasts g tables self.now → columns.now ≡ columns_of tables x → All (λ y. IsOver lasts g tables y x) items.now) }
     {
         for column in columns {
             if !self.are_over_at(items, column) {
@@ -201,15 +201,15 @@ impl<'a> Courses<'a> {
     }
 
     /// Whether each of these items is over before another, which has a tree: wherever a column of each matches.
-    fn end_before(&self, items: &[u32], course: &Course<'_>, tree: &Places) -> bool
+    fn end_before(&self, items: &[u32], row: &SpannedRow<'_>, tree: &Places) -> bool
         ensures { OnTrue result ((g : Graph) (tables : List NodeTable) (lasts : ℕ → Scenario → ℕ) (long : Scenario → ℕ) (x : ℕ) →
-            AreCourses lasts g tables self.now → IsCourse g tables long x course.now → course.now.tree.now ≡ Some tree.now → All (λ y. IsOver lasts g tables y x) items.now) }
+            AreSpannedRows lasts g tables self.now → IsSpannedRow g tables long x row.now → row.now.tree.now ≡ Some tree.now → All (λ y. IsOver lasts g tables y x) items.now) }
     {
         for item in items {
             let Some(one) = self.list.get(*item as usize) else {
                 return false;
             };
-            if !one.ends_before(&self.everywhere, course, tree) {
+            if !one.ends_before(&self.everywhere, row, tree) {
                 return false;
             }
         }
@@ -218,14 +218,14 @@ impl<'a> Courses<'a> {
 
     /// Whether each of these items is over before another, by the other's tree, if it has one: wherever a column of
     /// each matches.
-    pub(crate) fn precede(&self, items: &[u32], course: &Course<'_>) -> bool
+    pub(crate) fn precede(&self, items: &[u32], row: &SpannedRow<'_>) -> bool
         ensures { OnTrue result ((g : Graph) (tables : List NodeTable) (lasts : ℕ → Scenario → ℕ) (long : Scenario → ℕ) (x : ℕ) →
-            AreCourses lasts g tables self.now → IsCourse g tables long x course.now → All (λ y. IsOver lasts g tables y x) items.now) }
+            AreSpannedRows lasts g tables self.now → IsSpannedRow g tables long x row.now → All (λ y. IsOver lasts g tables y x) items.now) }
     {
         // without a tree of the other's row, its columns are gone over one by one
-        let Some(tree) = course.tree else {
-            return self.come_before(items, course.columns);
+        let Some(tree) = row.tree else {
+            return self.come_before(items, row.columns);
         };
-        self.end_before(items, course, tree)
+        self.end_before(items, row, tree)
     }
 }

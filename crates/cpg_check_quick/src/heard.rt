@@ -6,14 +6,14 @@ ghost use Rattle.cpg_table.specs.Table.{NodeTable, columns_of};
 ghost use Rattle.cpg_table.specs.declared.rule.Rule.{Rule};
 ghost use Rattle.cpg_violation.specs.Sure.{AreSure, IsSure};
 ghost use Rattle.cpg_violation.specs.Violation.{AllHold, row_rules};
-ghost use Rattle.cpg_check_quick.specs.Courses.{AreCourses};
+ghost use Rattle.cpg_check_quick.specs.SpannedRows.{AreSpannedRows};
 ghost use Rattle.cpg_check_quick.specs.Order.{execution, frame};
-ghost use Rattle.cpg_check_quick.specs.Turns.{AreTurns};
+ghost use Rattle.cpg_check_quick.specs.Sequences.{AreSequences};
 
-use crate::course::Courses;
+use crate::heard_rows::heard_rows;
 use crate::listening::{Listener, are_all_known, own_ended};
-use crate::speakers::speakers;
-use crate::turns::Turns;
+use crate::sequences::Sequences;
+use crate::spanned_rows::SpannedRows;
 use cpg_base::{Item, OutOfMemory, Problem};
 use cpg_cube::Column;
 use cpg_rules::Admitted;
@@ -42,13 +42,13 @@ fn longest(columns: &[Column]) -> usize {
 fn longest_first(
     alloc: Global,
     problem: &Problem,
-    frames: &Courses<'_>,
+    frames: &SpannedRows<'_>,
 ) -> Result<Vec<u32>, OutOfMemory> {
     let mut ranks = Vec::new(alloc);
     ranks.reserve(frames.list.len())?;
     for item in 0..problem.item_count() {
-        if let Some(course) = frames.list.get(item as usize) {
-            let literals = Reverse(longest(course.columns));
+        if let Some(row) = frames.list.get(item as usize) {
+            let literals = Reverse(longest(row.columns));
             ranks.push(LengthRank { literals, item })?;
         }
     }
@@ -102,16 +102,16 @@ fn inputs_first(
     Ok(sorted)
 }
 
-/// What all nodes may hear: the executions in turn, and the frames of all items, those with the longest columns first.
+/// What all nodes may hear: the executions in sequence, and the frames of all items, those with the longest columns first.
 #[derive(Drop)]
-struct Hall<'a> {
+struct Audible<'a> {
     admitted: &'a Admitted,
-    turns: &'a Turns<'a>,
-    frames: &'a Courses<'a>,
+    sequences: &'a Sequences<'a>,
+    frames: &'a SpannedRows<'a>,
     items: Vec<u32>,
 }
 
-impl<'a> Hall<'a> {
+impl<'a> Audible<'a> {
     /// Whether a row keeps the rule. A send that is known to keep V5 is said to be in time.
     fn is_sure(
         &self,
@@ -122,14 +122,14 @@ impl<'a> Hall<'a> {
     ) -> Result<bool, OutOfMemory>
         requires item { item < item_count self.now.admitted.now.graph }
         ensures { IfOk result (λ sure. OnTrue sure ((tables : List NodeTable) →
-            AreTurns (execution self.now.admitted.now.graph) self.now.admitted.now.graph tables self.now.turns.now →
-            AreCourses (frame self.now.admitted.now.graph) self.now.admitted.now.graph tables self.now.frames.now →
+            AreSequences (execution self.now.admitted.now.graph) self.now.admitted.now.graph tables self.now.sequences.now →
+            AreSpannedRows (frame self.now.admitted.now.graph) self.now.admitted.now.graph tables self.now.frames.now →
             AllHold self.now.admitted.now.graph tables row_rules → (is_sent_in_time ≡ true →
             IsSure self.now.admitted.now.graph tables Rule.Inputs item) → columns.now ≡ columns_of tables item →
             IsSure self.now.admitted.now.graph tables Rule.Heard item)) }
     {
         let problem = self.admitted.problem();
-        let known = own_ended(self.admitted, self.turns, item, is_sent_in_time);
+        let known = own_ended(self.admitted, self.sequences, item, is_sent_in_time);
         // all literals are on the node's own ended processes, so no frame is needed
         if are_all_known(&known, columns) {
             return Ok(true);
@@ -138,13 +138,13 @@ impl<'a> Hall<'a> {
         let process = problem.producer(item);
         // the messages to the process come first: they mostly imply all that its columns say
         let items = inputs_first(alloc, problem, process, self.items.as_slice())?;
-        let speakers = speakers(alloc, problem, self.frames, node, items.as_slice())?;
+        let heard_rows = heard_rows(alloc, problem, self.frames, node, items.as_slice())?;
         let listener = Listener {
             admitted: self.admitted,
-            turns: self.turns,
+            sequences: self.sequences,
             node,
             known,
-            speakers,
+            heard_rows,
         };
         let heard = listener.hears_all(alloc, columns)?;
         Ok(heard)
@@ -157,20 +157,20 @@ pub(crate) fn heard_marks(
     alloc: Global,
     admitted: &Admitted,
     tables: &Tables,
-    turns: &Turns<'_>,
-    frames: &Courses<'_>,
+    sequences: &Sequences<'_>,
+    frames: &SpannedRows<'_>,
     inputs: &[bool],
 ) -> Result<Vec<bool>, OutOfMemory>
     requires rules { AllHold admitted.now.graph tables.now.nodes row_rules }
-    requires turns { AreTurns (execution admitted.now.graph) admitted.now.graph tables.now.nodes turns.now }
-    requires frames { AreCourses (frame admitted.now.graph) admitted.now.graph tables.now.nodes frames.now }
+    requires sequences { AreSequences (execution admitted.now.graph) admitted.now.graph tables.now.nodes sequences.now }
+    requires frames { AreSpannedRows (frame admitted.now.graph) admitted.now.graph tables.now.nodes frames.now }
     requires inputs { AreSure admitted.now.graph tables.now.nodes Rule.Inputs inputs.now }
     ensures { IfOk result (λ marks. AreSure admitted.now.graph tables.now.nodes Rule.Heard marks.items) }
 {
     let items = longest_first(alloc, admitted.problem(), frames)?;
-    let hall = Hall {
+    let audible = Audible {
         admitted,
-        turns,
+        sequences,
         frames,
         items,
     };
@@ -179,7 +179,7 @@ pub(crate) fn heard_marks(
     marks.reserve(count as usize)?;
     for item in 0..count {
         let is_in_time = is_marked(inputs, item);
-        let sure = hall.is_sure(alloc, item, is_in_time, tables.columns_of(item))?;
+        let sure = audible.is_sure(alloc, item, is_in_time, tables.columns_of(item))?;
         marks.push(sure)?;
     }
     Ok(marks)

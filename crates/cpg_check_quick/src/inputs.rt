@@ -7,14 +7,14 @@ ghost use Rattle.cpg_table.specs.Table.{NodeTable, columns_of};
 ghost use Rattle.cpg_table.specs.declared.rule.Rule.{Rule};
 ghost use Rattle.cpg_violation.specs.Sure.{AreSure, IsSure};
 ghost use Rattle.cpg_violation.specs.Violation.{AllHold, row_rules};
-ghost use Rattle.cpg_check_quick.specs.Courses.{AreCourses};
-ghost use Rattle.cpg_check_quick.specs.Inputs.{IsWaiting};
+ghost use Rattle.cpg_check_quick.specs.SpannedRows.{AreSpannedRows};
+ghost use Rattle.cpg_check_quick.specs.Inputs.{AreInputRows};
 ghost use Rattle.cpg_check_quick.specs.Order.{execution, frame};
-ghost use Rattle.cpg_check_quick.specs.Turns.{AreTurns};
+ghost use Rattle.cpg_check_quick.specs.Sequences.{AreSequences};
 
-use crate::course::Courses;
-use crate::turns::Turns;
-use crate::waiting::Waiting;
+use crate::input_rows::InputRows;
+use crate::sequences::Sequences;
+use crate::spanned_rows::SpannedRows;
 use cpg_base::OutOfMemory;
 use cpg_cube::Column;
 use cpg_order::Links;
@@ -25,39 +25,39 @@ use std::alloc::Global;
 /// Whether the columns of a start are no earlier than its release and its live inputs.
 fn is_start_sure(
     alloc: Global,
-    waiting: &Waiting<'_>,
+    input_rows: &InputRows<'_>,
     process: u32,
     columns: &[Column],
 ) -> Result<bool, OutOfMemory>
-    requires links { waiting.now.links ≡ links_of waiting.now.admitted.now.graph }
-    requires process { process < process_count waiting.now.admitted.now.graph }
-    ensures { IfOk result (λ sure. OnTrue sure ((tables : List NodeTable) → IsWaiting waiting.now.admitted.now.graph tables waiting.now →
-        AllHold waiting.now.admitted.now.graph tables row_rules → columns.now ≡ columns_of tables process →
-        IsSure waiting.now.admitted.now.graph tables Rule.Inputs process)) }
+    requires links { input_rows.now.links ≡ links_of input_rows.now.admitted.now.graph }
+    requires process { process < process_count input_rows.now.admitted.now.graph }
+    ensures { IfOk result (λ sure. OnTrue sure ((tables : List NodeTable) → AreInputRows input_rows.now.admitted.now.graph tables input_rows.now →
+        AllHold input_rows.now.admitted.now.graph tables row_rules → columns.now ≡ columns_of tables process →
+        IsSure input_rows.now.admitted.now.graph tables Rule.Inputs process)) }
 {
-    let edges = waiting.links.inputs(process);
-    let others = waiting.others(alloc, edges, process)?;
-    let release = waiting.admitted.problem().release(process);
-    Ok(waiting.are_late_enough(others.as_slice(), release, columns))
+    let edges = input_rows.links.inputs(process);
+    let others = input_rows.others(alloc, edges, process)?;
+    let release = input_rows.admitted.problem().release(process);
+    Ok(input_rows.are_late_enough(others.as_slice(), release, columns))
 }
 
 /// Whether a row keeps the rule.
 fn is_sure(
     alloc: Global,
-    waiting: &Waiting<'_>,
+    input_rows: &InputRows<'_>,
     item: u32,
     columns: &[Column],
 ) -> Result<bool, OutOfMemory>
-    requires links { waiting.now.links ≡ links_of waiting.now.admitted.now.graph }
-    requires item { item < item_count waiting.now.admitted.now.graph }
-    ensures { IfOk result (λ sure. OnTrue sure ((tables : List NodeTable) → IsWaiting waiting.now.admitted.now.graph tables waiting.now →
-        AllHold waiting.now.admitted.now.graph tables row_rules → columns.now ≡ columns_of tables item →
-        IsSure waiting.now.admitted.now.graph tables Rule.Inputs item)) }
+    requires links { input_rows.now.links ≡ links_of input_rows.now.admitted.now.graph }
+    requires item { item < item_count input_rows.now.admitted.now.graph }
+    ensures { IfOk result (λ sure. OnTrue sure ((tables : List NodeTable) → AreInputRows input_rows.now.admitted.now.graph tables input_rows.now →
+        AllHold input_rows.now.admitted.now.graph tables row_rules → columns.now ≡ columns_of tables item →
+        IsSure input_rows.now.admitted.now.graph tables Rule.Inputs item)) }
 {
-    if item as usize >= waiting.admitted.problem().processes().len() {
-        return Ok(waiting.is_after_producer(item));
+    if item as usize >= input_rows.admitted.problem().processes().len() {
+        return Ok(input_rows.is_after_producer(item));
     }
-    let sure = is_start_sure(alloc, waiting, item, columns)?;
+    let sure = is_start_sure(alloc, input_rows, item, columns)?;
     Ok(sure)
 }
 
@@ -66,26 +66,26 @@ pub(crate) fn inputs_marks(
     alloc: Global,
     admitted: &Admitted,
     tables: &Tables,
-    turns: &Turns<'_>,
-    frames: &Courses<'_>,
+    sequences: &Sequences<'_>,
+    frames: &SpannedRows<'_>,
 ) -> Result<Vec<bool>, OutOfMemory>
     requires rules { AllHold admitted.now.graph tables.now.nodes row_rules }
-    requires turns { AreTurns (execution admitted.now.graph) admitted.now.graph tables.now.nodes turns.now }
-    requires frames { AreCourses (frame admitted.now.graph) admitted.now.graph tables.now.nodes frames.now }
+    requires sequences { AreSequences (execution admitted.now.graph) admitted.now.graph tables.now.nodes sequences.now }
+    requires frames { AreSpannedRows (frame admitted.now.graph) admitted.now.graph tables.now.nodes frames.now }
     ensures { IfOk result (λ marks. AreSure admitted.now.graph tables.now.nodes Rule.Inputs marks.items) }
 {
     let links = Links::of(alloc, admitted.problem())?;
-    let waiting = Waiting {
+    let input_rows = InputRows {
         admitted,
         links,
-        turns,
+        sequences,
         frames,
     };
     let count = admitted.problem().item_count();
     let mut marks = Vec::new(alloc);
     marks.reserve(count as usize)?;
     for item in 0..count {
-        let sure = is_sure(alloc, &waiting, item, tables.columns_of(item))?;
+        let sure = is_sure(alloc, &input_rows, item, tables.columns_of(item))?;
         marks.push(sure)?;
     }
     Ok(marks)

@@ -12,17 +12,18 @@ ghost use Rattle.cpg_violation.specs.Violation.{AllHold, row_rules};
 ghost use Rattle.cpg_check_quick.specs.Hearing.{AreLeft, AreOwnEnded, BeginsWith, IsAllHeard, IsEndedBy, IsOwnEnded, IsOwnOver, IsOwner};
 ghost use Rattle.cpg_check_quick.specs.Listening.{IsListener};
 ghost use Rattle.cpg_check_quick.specs.Order.{IsOverBy, execution};
-ghost use Rattle.cpg_check_quick.specs.Speakers.{AreToldIn, IsSpeaker};
-ghost use Rattle.cpg_check_quick.specs.Turns.{AreTurns};
+ghost use Rattle.cpg_check_quick.specs.HeardRows.{AreToldIn, IsHeardRow};
+ghost use Rattle.cpg_check_quick.specs.Sequences.{AreSequences};
 
 use crate::bounds::list_unknown;
-use crate::speakers::{Speaker, has_come};
-use crate::turns::Turns;
+use crate::heard_rows::HeardRow;
+use crate::sequences::Sequences;
 use cpg_base::{OutOfMemory, Problem, Variable};
 use cpg_cube::{Column, Cube, Literal, VARIABLES};
 use cpg_row_trees::are_same_literals;
 use cpg_rules::Admitted;
 use cpg_tree::Space;
+use cpg_violation::has_come;
 use std::alloc::Global;
 use std::mem;
 
@@ -48,26 +49,26 @@ fn owner(problem: &Problem, variable: u8) -> Option<u32>
     }
 }
 
-/// Whether a process on an item's node has always ended by the item's columns: before it in turn, or by the end of the
+/// Whether a process on an item's node has always ended by the item's columns: before it in sequence, or by the end of the
 /// producer of a send that keeps V5.
 fn has_ended(
     admitted: &Admitted,
-    turns: &Turns<'_>,
+    sequences: &Sequences<'_>,
     item: u32,
     is_sent_in_time: bool,
     process: u32,
 ) -> bool
     requires item { item < item_count admitted.now.graph }
     requires process { process < process_count admitted.now.graph }
-    ensures { OnTrue result ((tables : List NodeTable) → AreTurns (execution admitted.now.graph) admitted.now.graph tables turns.now →
+    ensures { OnTrue result ((tables : List NodeTable) → AreSequences (execution admitted.now.graph) admitted.now.graph tables sequences.now →
         AllHold admitted.now.graph tables row_rules → (is_sent_in_time ≡ true → IsSure admitted.now.graph tables Rule.Inputs item) →
         IsEndedBy admitted.now.graph tables process item) }
 {
     let problem = admitted.problem();
     let node = problem.node_of(process);
-    // the item is a start: the process has to come before it in turn
+    // the item is a start: the process has to come before it in sequence
     if (item as usize) < problem.processes().len() {
-        return turns.is_before(node, process, item);
+        return sequences.is_before(node, process, item);
     }
     // a send whose producer may end later than its columns says nothing
     if !is_sent_in_time {
@@ -78,19 +79,19 @@ fn has_ended(
     if process == producer {
         return true;
     }
-    turns.is_before(node, process, producer)
+    sequences.is_before(node, process, producer)
 }
 
 /// Whether a variable's process is on an item's node and has always ended by the item's columns.
 fn is_own_ended(
     admitted: &Admitted,
-    turns: &Turns<'_>,
+    sequences: &Sequences<'_>,
     item: u32,
     is_sent_in_time: bool,
     variable: u8,
 ) -> bool
     requires item { item < item_count admitted.now.graph }
-    ensures { OnTrue result ((tables : List NodeTable) → AreTurns (execution admitted.now.graph) admitted.now.graph tables turns.now →
+    ensures { OnTrue result ((tables : List NodeTable) → AreSequences (execution admitted.now.graph) admitted.now.graph tables sequences.now →
         AllHold admitted.now.graph tables row_rules → (is_sent_in_time ≡ true → IsSure admitted.now.graph tables Rule.Inputs item) →
         IsOwnEnded admitted.now.graph tables item variable) }
 {
@@ -102,24 +103,24 @@ fn is_own_ended(
     if problem.node_of(process) != problem.home(item) {
         return false;
     }
-    has_ended(admitted, turns, item, is_sent_in_time, process)
+    has_ended(admitted, sequences, item, is_sent_in_time, process)
 }
 
 /// Marks of the variables whose process is on an item's node and has always ended by the item's columns, by number.
 pub(crate) fn own_ended(
     admitted: &Admitted,
-    turns: &Turns<'_>,
+    sequences: &Sequences<'_>,
     item: u32,
     is_sent_in_time: bool,
 ) -> [bool; VARIABLES]
     requires item { item < item_count admitted.now.graph }
-    ensures { (tables : List NodeTable) → AreTurns (execution admitted.now.graph) admitted.now.graph tables turns.now →
+    ensures { (tables : List NodeTable) → AreSequences (execution admitted.now.graph) admitted.now.graph tables sequences.now →
         AllHold admitted.now.graph tables row_rules → (is_sent_in_time ≡ true → IsSure admitted.now.graph tables Rule.Inputs item) →
         AreOwnEnded admitted.now.graph tables item result }
 {
     let mut known = [false; VARIABLES];
     for variable in 0..VARIABLES {
-        known[variable] = is_own_ended(admitted, turns, item, is_sent_in_time, variable as u8);
+        known[variable] = is_own_ended(admitted, sequences, item, is_sent_in_time, variable as u8);
     }
     known
 }
@@ -205,32 +206,32 @@ fn begin_with(known: &[bool; VARIABLES], literals: &[Literal], others: &[Literal
 #[derive(Drop)]
 pub(crate) struct Listener<'a> {
     pub(crate) admitted: &'a Admitted,
-    pub(crate) turns: &'a Turns<'a>,
+    pub(crate) sequences: &'a Sequences<'a>,
     pub(crate) node: u32,
     pub(crate) known: [bool; VARIABLES],
-    pub(crate) speakers: Vec<Speaker<'a>>,
+    pub(crate) heard_rows: Vec<HeardRow<'a>>,
 }
 
 impl<'a> Listener<'a> {
     /// Whether a process is over by a time in the scenarios of a space.
     fn is_over(&self, process: u32, space: &Space, time: u64) -> bool
         ensures { OnTrue result ((tables : List NodeTable) (s : Scenario) →
-            AreTurns (execution self.now.admitted.now.graph) self.now.admitted.now.graph tables self.now.turns.now →
+            AreSequences (execution self.now.admitted.now.graph) self.now.admitted.now.graph tables self.now.sequences.now →
             IsScenario self.now.admitted.now.graph s → IsInSpace space.now s → IsOverBy tables (execution self.now.admitted.now.graph process s) process time s) }
     {
-        let Some(course) = self.turns.courses.list.get(process as usize) else {
+        let Some(row) = self.sequences.rows.list.get(process as usize) else {
             return false;
         };
-        if course.is_early(time) {
+        if row.is_early(time) {
             return true;
         }
-        course.is_over(space, time)
+        row.is_over(space, time)
     }
 
     /// Whether the process of a variable is on the node, and over by a time in the scenarios of a space.
     fn is_own_over(&self, variable: u8, space: &Space, time: u64) -> bool
         ensures { OnTrue result ((tables : List NodeTable) (s : Scenario) →
-            AreTurns (execution self.now.admitted.now.graph) self.now.admitted.now.graph tables self.now.turns.now →
+            AreSequences (execution self.now.admitted.now.graph) self.now.admitted.now.graph tables self.now.sequences.now →
             IsScenario self.now.admitted.now.graph s → IsInSpace space.now s → IsOwnOver self.now.admitted.now.graph tables self.now.node variable time s) }
     {
         let problem = self.admitted.problem();
@@ -248,7 +249,7 @@ impl<'a> Listener<'a> {
     /// space.
     fn are_over(&self, literals: &[Literal], space: &Space, time: u64) -> bool
         ensures { OnTrue result ((tables : List NodeTable) (s : Scenario) →
-            AreTurns (execution self.now.admitted.now.graph) self.now.admitted.now.graph tables self.now.turns.now →
+            AreSequences (execution self.now.admitted.now.graph) self.now.admitted.now.graph tables self.now.sequences.now →
             IsScenario self.now.admitted.now.graph s → IsInSpace space.now s →
             All (λ l. IsOwnOver self.now.admitted.now.graph tables self.now.node l.variable time s) literals.now) }
     {
@@ -262,17 +263,17 @@ impl<'a> Listener<'a> {
 
     /// Whether the frame of an item's column at a place tells all of a column that the node doesn't know: the column begins with that
     /// one's literals.
-    fn is_told_by(&self, speaker: &Speaker<'_>, place: usize, column: &Column) -> bool
+    fn is_told_by(&self, heard_row: &HeardRow<'_>, place: usize, column: &Column) -> bool
         ensures { OnTrue result ((tables : List NodeTable) (x : ℕ) → IsListener tables x self.now →
-            IsSpeaker self.now.admitted.now.graph tables self.now.node speaker.now → AllHold self.now.admitted.now.graph tables row_rules →
+            IsHeardRow self.now.admitted.now.graph tables self.now.node heard_row.now → AllHold self.now.admitted.now.graph tables row_rules →
             Contains (columns_of tables x) column.now → IsAllHeard self.now.admitted.now.graph tables self.now.node column.now) }
     {
         // called for its contract: the graph is admitted
         let _problem = self.admitted.problem();
-        let Some(own) = speaker.columns.get(place) else {
+        let Some(own) = heard_row.columns.get(place) else {
             return false;
         };
-        if !has_come(own.time, speaker.delay, column.time) {
+        if !has_come(own.time, heard_row.delay, column.time) {
             return false;
         }
         begin_with(&self.known, column.cube.literals(), own.cube.literals())
@@ -285,14 +286,14 @@ impl<'a> Listener<'a> {
             AllHold self.now.admitted.now.graph tables row_rules → Contains (columns_of tables x) column.now →
             IsAllHeard self.now.admitted.now.graph tables self.now.node column.now) }
     {
-        let Some(speaker) = self.speakers.get(0) else {
+        let Some(heard_row) = self.heard_rows.get(0) else {
             return false;
         };
-        if self.is_told_by(speaker, *place, column) {
+        if self.is_told_by(heard_row, *place, column) {
             return true;
         }
         let next = place.saturating_add(1);
-        if !self.is_told_by(speaker, next, column) {
+        if !self.is_told_by(heard_row, next, column) {
             return false;
         }
         *place = next;
@@ -310,15 +311,15 @@ impl<'a> Listener<'a> {
         left: &mut Vec<Literal>,
     ) -> Result<(), OutOfMemory>
         ensures { IfOk result (λ _. (g : Graph) (tables : List NodeTable) →
-            All (IsSpeaker g tables self.now.node) self.now.speakers.items → AreToldIn column.now.cube wanted.old.items →
+            All (IsHeardRow g tables self.now.node) self.now.heard_rows.items → AreToldIn column.now.cube wanted.old.items →
             ((s : Scenario) → IsScenario g s → matches column.now.cube s ≡ true → IsInSpace space.now s) →
             AreLeft g tables self.now.node column.now wanted.old.items wanted.new.items) }
     {
-        for speaker in self.speakers.as_slice() {
+        for heard_row in self.heard_rows.as_slice() {
             if wanted.is_empty() {
                 return Ok(());
             }
-            let has_told = speaker.tell(column, wanted.as_slice(), space, places, left)?;
+            let has_told = heard_row.tell(column, wanted.as_slice(), space, places, left)?;
             if !has_told {
                 continue;
             }
@@ -347,7 +348,7 @@ impl<'a> Listener<'a> {
         let literals = column.cube.literals();
         let problem = self.admitted.problem();
         // in place, since a space is long to copy
-        let mut space = self.turns.courses.everywhere;
+        let mut space = self.sequences.rows.everywhere;
         if !space.narrow_to(literals) {
             return Ok(true);
         }

@@ -7,9 +7,9 @@ ghost use Rattle.cpg_table.specs.Table.{NodeTable};
 ghost use Rattle.cpg_table.specs.declared.rule.Rule.{Rule};
 ghost use Rattle.cpg_violation.specs.Sure.{AreSure, IsSure};
 ghost use Rattle.cpg_check_quick.specs.Order.{execution};
-ghost use Rattle.cpg_check_quick.specs.Turns.{AreTurns};
+ghost use Rattle.cpg_check_quick.specs.Sequences.{AreSequences};
 
-use crate::turns::Turns;
+use crate::sequences::Sequences;
 use cpg_base::{OutOfMemory, Problem};
 use std::alloc::Global;
 
@@ -33,34 +33,34 @@ fn lower_on_node(alloc: Global, problem: &Problem, process: u32) -> Result<Vec<u
 fn is_alone(
     alloc: Global,
     problem: &Problem,
-    turns: &Turns<'_>,
+    sequences: &Sequences<'_>,
     item: u32,
 ) -> Result<bool, OutOfMemory>
-    ensures { IfOk result (λ r. OnTrue r ((tables : List NodeTable) → AreTurns (execution problem.now) problem.now tables turns.now →
+    ensures { IfOk result (λ r. OnTrue r ((tables : List NodeTable) → AreSequences (execution problem.now) problem.now tables sequences.now →
         IsSure problem.now tables Rule.Processor item)) }
 {
     if item as usize >= problem.processes().len() {
         return Ok(true);
     }
     let lower = lower_on_node(alloc, problem, item)?;
-    let is_alone = turns.are_apart(alloc, problem.node_of(item), lower.as_slice(), item)?;
+    let is_alone = sequences.are_apart(alloc, problem.node_of(item), lower.as_slice(), item)?;
     Ok(is_alone)
 }
 
-/// The items whose executions overlap with none of a process of a lower number, by the executions of each node in turn.
+/// The items whose executions overlap with none of a process of a lower number, by the executions of each node in sequence.
 pub(crate) fn processor_marks(
     alloc: Global,
     problem: &Problem,
-    turns: &Turns<'_>,
+    sequences: &Sequences<'_>,
 ) -> Result<Vec<bool>, OutOfMemory>
-    ensures { IfOk result (λ marks. (tables : List NodeTable) → AreTurns (execution problem.now) problem.now tables turns.now →
+    ensures { IfOk result (λ marks. (tables : List NodeTable) → AreSequences (execution problem.now) problem.now tables sequences.now →
         AreSure problem.now tables Rule.Processor marks.items) }
 {
     let count = problem.item_count();
     let mut marks = Vec::new(alloc);
     marks.reserve(count as usize)?;
     for item in 0..count {
-        let is_sure = is_alone(alloc, problem, turns, item)?;
+        let is_sure = is_alone(alloc, problem, sequences, item)?;
         marks.push(is_sure)?;
     }
     Ok(marks)

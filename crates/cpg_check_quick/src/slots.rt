@@ -13,10 +13,10 @@ ghost use Rattle.cpg_violation.specs.Sure.{AreSure, IsSure};
 ghost use Rattle.cpg_violation.specs.Violation.{AllHold, row_rules};
 ghost use Rattle.cpg_check_quick.specs.Order.{sending};
 ghost use Rattle.cpg_row_trees.specs.Trees.{AreRowTrees};
-ghost use Rattle.cpg_check_quick.specs.Turns.{AreTurns};
+ghost use Rattle.cpg_check_quick.specs.Sequences.{AreSequences};
 
-use crate::course::sends;
-use crate::turns::{Turns, processes_on};
+use crate::sequences::{Sequences, processes_on};
+use crate::spanned_rows::sends;
 use cpg_base::{OutOfMemory, Problem};
 use cpg_bus::is_slot_start;
 use cpg_cube::Column;
@@ -87,21 +87,21 @@ fn sent_by_node(alloc: Global, admitted: &Admitted) -> Result<Vec<Vec<u32>>, Out
     Ok(groups)
 }
 
-/// The sends of all items, with those of each node in turn.
-fn turns_of<'a>(
+/// The sends of all items, with those of each node in sequence.
+fn send_sequences<'a>(
     alloc: Global,
     admitted: &Admitted,
     tables: &'a Tables,
     trees: &'a [Option<Places>],
-) -> Result<Turns<'a>, OutOfMemory>
+) -> Result<Sequences<'a>, OutOfMemory>
     requires rules { AllHold admitted.now.graph tables.now.nodes row_rules }
     requires trees { AreRowTrees admitted.now.graph tables.now.nodes trees.now }
-    ensures { IfOk result (AreTurns sending admitted.now.graph tables.now.nodes) }
+    ensures { IfOk result (AreSequences sending admitted.now.graph tables.now.nodes) }
 {
-    let courses = sends(alloc, admitted, tables, trees)?;
+    let rows = sends(alloc, admitted, tables, trees)?;
     let groups = sent_by_node(alloc, admitted)?;
-    let turns = Turns::of(alloc, courses, groups.as_slice())?;
-    Ok(turns)
+    let sequences = Sequences::of(alloc, rows, groups.as_slice())?;
+    Ok(sequences)
 }
 
 /// Whether a node sends an item.
@@ -135,10 +135,10 @@ fn has_own_slots(
     alloc: Global,
     admitted: &Admitted,
     tables: &Tables,
-    turns: &Turns<'_>,
+    sequences: &Sequences<'_>,
     item: u32,
 ) -> Result<bool, OutOfMemory>
-    requires turns { AreTurns sending admitted.now.graph tables.now.nodes turns.now }
+    requires sequences { AreSequences sending admitted.now.graph tables.now.nodes sequences.now }
     requires item { item < item_count admitted.now.graph }
     ensures { IfOk result (λ r. OnTrue r (IsSure admitted.now.graph tables.now.nodes Rule.Slot item)) }
 {
@@ -154,7 +154,7 @@ fn has_own_slots(
     }
     // only lower numbers: the rule compares each pair once
     let lower = lower_sent(alloc, problem, item)?;
-    let is_alone = turns.are_apart(alloc, node, lower.as_slice(), item)?;
+    let is_alone = sequences.are_apart(alloc, node, lower.as_slice(), item)?;
     Ok(is_alone)
 }
 
@@ -169,12 +169,12 @@ pub(crate) fn slot_marks(
     requires trees { AreRowTrees admitted.now.graph tables.now.nodes trees.now }
     ensures { IfOk result (λ marks. AreSure admitted.now.graph tables.now.nodes Rule.Slot marks.items) }
 {
-    let turns = turns_of(alloc, admitted, tables, trees)?;
+    let sequences = send_sequences(alloc, admitted, tables, trees)?;
     let count = admitted.problem().item_count();
     let mut marks = Vec::new(alloc);
     marks.reserve(count as usize)?;
     for item in 0..count {
-        let is_sure = has_own_slots(alloc, admitted, tables, &turns, item)?;
+        let is_sure = has_own_slots(alloc, admitted, tables, &sequences, item)?;
         marks.push(is_sure)?;
     }
     Ok(marks)

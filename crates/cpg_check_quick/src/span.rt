@@ -5,7 +5,7 @@ ghost use Rattle.cpg_base.specs.Graph.{Graph, process_count};
 ghost use Rattle.cpg_base.specs.Scenario.{Scenario};
 ghost use Rattle.cpg_tree.specs.Space.{IsInSpace};
 ghost use Rattle.cpg_check_quick.specs.Order.{execution};
-ghost use Rattle.cpg_check_quick.specs.Courses.{IsPast, IsSpan};
+ghost use Rattle.cpg_check_quick.specs.SpannedRows.{IsPast, IsSpan};
 
 use cpg_base::{MOST_FAULTS, Problem};
 use cpg_tree::Space;

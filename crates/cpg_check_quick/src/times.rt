@@ -4,12 +4,12 @@ ghost use Rattle.cpg_violation.specs.Violation.{AllHold, row_rules};
 ghost use Rattle.cpg_violation.specs.Sure.{AreTimeMarks};
 ghost use Rattle.cpg_row_trees.specs.Trees.{AreRowTrees};
 
-use crate::course::frames;
 use crate::heard::heard_marks;
 use crate::inputs::inputs_marks;
 use crate::processor::processor_marks;
+use crate::sequences::execution_sequences;
 use crate::slots::slot_marks;
-use crate::turns::turns_of;
+use crate::spanned_rows::frames;
 use cpg_base::OutOfMemory;
 use cpg_row_trees::Places;
 use cpg_rules::Admitted;
@@ -29,11 +29,18 @@ pub fn time_marks(
     requires trees { AreRowTrees admitted.now.graph tables.now.nodes trees.now }
     ensures { IfOk result (AreTimeMarks admitted.now.graph tables.now.nodes) }
 {
-    let turns = turns_of(alloc, admitted, tables, trees)?;
+    let sequences = execution_sequences(alloc, admitted, tables, trees)?;
     let frames = frames(alloc, admitted, tables, trees)?;
-    let inputs = inputs_marks(alloc, admitted, tables, &turns, &frames)?;
-    let heard = heard_marks(alloc, admitted, tables, &turns, &frames, inputs.as_slice())?;
-    let processor = processor_marks(alloc, admitted.problem(), &turns)?;
+    let inputs = inputs_marks(alloc, admitted, tables, &sequences, &frames)?;
+    let heard = heard_marks(
+        alloc,
+        admitted,
+        tables,
+        &sequences,
+        &frames,
+        inputs.as_slice(),
+    )?;
+    let processor = processor_marks(alloc, admitted.problem(), &sequences)?;
     let slot = slot_marks(alloc, admitted, tables, trees)?;
     let frozen = frozen_marks(alloc, admitted, tables)?;
     let due = due_marks(alloc, admitted, tables)?;

@@ -106,7 +106,7 @@ fn report_of(
     if running.report.is_some() {
         return None;
     }
-    let length = lengths.of(own.process);
+    let length = lengths.length_of(own.process);
     // the execution goes on past the time
     if !is_over(running.start, length, time) {
         return None;

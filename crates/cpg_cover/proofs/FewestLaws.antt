@@ -133,7 +133,7 @@ needs_nothing cubes count e n values t = omega arith
 
 -- ---- a step of one variable
 
--- after a step, the variable's number is one less
+-- after a step, the variable's number is one less, and stays 0 if it is 0
 pub after_here : (v : ℕ) (n : ℕ → ℕ) → after v n v ≡ n v - 1
 after_here v n = cond-true (v == v) (n v - 1) (n v) (eq-eqb v v refl)
 
@@ -160,7 +160,7 @@ after_less v n count h some =
     let b = after_here v n in
     omega arith
 
--- what the steps of a list keep
+-- if numbers after a step match a cube of the rest, the numbers before it match a cube of the list
 abbrev pub Steps : List (List Literal) → ℕ → Bool → ℕ → List (List Literal) → Type 0
 Steps cubes v more budget rest =
     (n : ℕ → ℕ) → IsStep v more budget n → is_any_at (after v n) rest ≡ true → is_any_at n cubes ≡ true
@@ -183,7 +183,7 @@ by_step : (cubes rest : List (List Literal)) (v : ℕ) (more : Bool) (budget r c
 by_step cubes rest v more budget r count n keeps needs e values is t =
     needs count e (after v n) (after_values v n values) (false_from_ne_true _ (λ k. both_ways _ t (keeps n is k)))
 
--- faults that are needed after the step to 0 are needed if the variable is 0
+-- if the variable is 0, a list needs as many faults as the rest after the step that says so
 pub without_from : (cubes rest : List (List Literal)) (v budget r : ℕ) → Steps cubes v false budget rest →
     Needs rest r →
     NeedsWithout cubes v budget r

@@ -105,7 +105,7 @@ fn fewest_by_value(
     ensures { IfOk result (Needs cubes.now) }
 {
     let budget = bound.budget;
-    let zero = stepped(alloc, cubes, SearchStep::none(variable), budget)?;
+    let zero = stepped(alloc, cubes, SearchStep::zero(variable), budget)?;
     let without = fewest(alloc, zero.as_slice(), bound, memory)?;
     let one = stepped(alloc, cubes, SearchStep::more(variable), budget)?;
     let with = fewest(alloc, one.as_slice(), bound, memory)?;
@@ -154,7 +154,7 @@ fn fewest_by_count(
     requires { variable < 128 }
     ensures { IfOk result (Needs cubes.now) }
 {
-    let zero = stepped(alloc, cubes, SearchStep::none(variable), bound.budget)?;
+    let zero = stepped(alloc, cubes, SearchStep::zero(variable), bound.budget)?;
     let without = fewest(alloc, zero.as_slice(), bound, memory)?;
     let few = fewest_with(alloc, cubes, variable, without, bound, memory)?;
     Ok(few)

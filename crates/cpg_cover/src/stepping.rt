@@ -19,7 +19,7 @@ pub(crate) struct SearchStep {
 
 impl SearchStep {
     /// The variable is 0.
-    pub(crate) fn none(variable: u8) -> SearchStep
+    pub(crate) fn zero(variable: u8) -> SearchStep
         ensures variable { result.variable ≡ variable }
         ensures more { result.more ≡ false }
     {
@@ -50,7 +50,7 @@ enum Rest {
     Asked(Literal),
 }
 
-/// A literal on another variable, or one that is left, with no more faults than there is room for.
+/// A literal on another variable, or one that is left, with no more faults than the budget.
 fn within_budget(literal: Literal, budget: u8) -> Rest
     ensures { (n : ℕ → ℕ) → ((v : ℕ) → v < 128 → n v ≤ budget) → rest_holds n result ≡ true → holds_at n literal ≡ true }
 {
@@ -58,11 +58,11 @@ fn within_budget(literal: Literal, budget: u8) -> Rest
     if literal.variable >= FIRST_VALUE {
         return Rest::Asked(literal);
     }
-    // it asks for more faults than there is room for
+    // it asks for more faults than the budget has
     if literal.low > budget {
         return Rest::Missed;
     }
-    // each count that there is room for is in its range
+    // each count within the budget is in its range
     if literal.low == 0 && literal.high >= budget {
         return Rest::Held;
     }

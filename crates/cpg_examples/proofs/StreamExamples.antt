@@ -16,7 +16,7 @@ use Rattle.cpg_cluster.specs.Cluster.{dispatcher_at, own_table, initial_cluster}
 use Rattle.cpg_cluster.specs.Correct.{IsWorld}
 use Rattle.cpg_live.specs.declared.event.Event.{Event}
 use Rattle.cpg_live.specs.declared.event.Event.TheVariants.{Frame as Arrival, End as Ending}
-use Rattle.cpg_live.specs.declared.bad.Why.TheVariants.{Order, End as FalseEnd}
+use Rattle.cpg_live.specs.declared.lawless.Defect.TheVariants.{Order, End as FalseEnd}
 use Rattle.cpg_live.specs.Stream.{after, outcome, turns_below}
 use Rattle.cpg_live.specs.Spelling.{closed_at, stream_bytes}
 use Rattle.cpg_follow_laws.specs.Follow.{records_in, GivesWhatIsDue}
@@ -87,7 +87,7 @@ stream-is_lawful = refl
 
 -- Of the same events in falling order of time the first is lawless: B can't end before it has started.
 pub stream-falling : outcome (after second (stream_bytes (closed_at ((105, Ending 1 0 false) ∷ frame 90 1 ∷ []) 105)))
-    ≡ Err (record { index = 0; why = FalseEnd })
+    ≡ Err (record { index = 0; defect = FalseEnd })
 unfolding turns_below
 stream-falling = refl
 
@@ -109,7 +109,7 @@ branching-is_lawful = refl
 
 -- in falling order of time the second of them is refused for that alone
 pub branching-falling : outcome (after branching_second (stream_bytes (closed_at (message ∷ broadcast ∷ []) 95)))
-    ≡ Err (record { index = 1; why = Order })
+    ≡ Err (record { index = 1; defect = Order })
 unfolding turns_below
 branching-falling = refl
 

@@ -194,8 +194,8 @@ fn begin_frozen(
     Ok(active)
 }
 
-/// Adds the start and the end of a process, its frozen time, and when its node goes on after it. Returns the tree of
-/// where it is active.
+/// Adds the start and the end of a process, its frozen time if it is frozen, and when its node goes on after it. Returns
+/// the tree of where it is active.
 fn begin(
     alloc: Global,
     admitted: &Admitted,
@@ -224,7 +224,7 @@ fn begin(
     Ok(active)
 }
 
-/// Adds the trees of a process and of what it sends, and their frozen times.
+/// Adds the trees of a process and of what it sends, and the frozen times of those that are frozen.
 pub(crate) fn step(
     alloc: Global,
     admitted: &Admitted,

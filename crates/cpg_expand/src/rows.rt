@@ -23,7 +23,7 @@ use cpg_tree_columns::{
 use std::alloc::Global;
 
 /// The columns of a start, merged.
-fn start_entries(
+fn start_columns(
     alloc: Global,
     problem: &Problem,
     urgency: &Order,
@@ -31,7 +31,7 @@ fn start_entries(
 ) -> Result<Vec<Column>, OutOfMemory>
     requires order { IsPermutation (numbers_below (process_count problem.now)) urgency.now }
     requires tree { IsTree problem.now tree.now }
-    ensures { IfOk result (λ entries. AreMergedOf problem.now urgency.now tree.now entries.items) }
+    ensures { IfOk result (λ columns. AreMergedOf problem.now urgency.now tree.now columns.items) }
 {
     // called for its contract: the graph is within its limits
     let _processes = problem.processes();
@@ -81,7 +81,7 @@ fn start_row(
     if let Some(count) = start_as_found(problem, urgency, &tree)? {
         return Ok(MadeRow::kept(item, tree, count));
     }
-    let columns = start_entries(alloc, problem, urgency, &tree)?;
+    let columns = start_columns(alloc, problem, urgency, &tree)?;
     Ok(MadeRow::listed(item, columns))
 }
 

@@ -18,8 +18,8 @@ use Rattle.cpg_node.specs.Dispatcher.{frame_literals, hear_end, hear_frame, is_c
 use Rattle.cpg_node.specs.Dispatcher.{next, no_column, own_of, range_of, variable_count, whole_range}
 use Rattle.cpg_live.specs.declared.event.Event.{Event}
 use Rattle.cpg_live.specs.declared.event.Event.TheVariants.{Frame as Arrival, End as Ending, Close}
-use Rattle.cpg_live.specs.declared.bad.Why.{Why}
-use Rattle.cpg_live.specs.declared.bad.Why.TheVariants.{Length, Order, Frame as StrangeFrame, End as FalseEnd}
+use Rattle.cpg_live.specs.declared.lawless.Defect.{Defect}
+use Rattle.cpg_live.specs.declared.lawless.Defect.TheVariants.{Length, Order, Frame as StrangeFrame, End as FalseEnd}
 use Rattle.cpg_live.specs.Records.{cut as cut_bytes, event_of, record_of}
 use Rattle.cpg_live.specs.Stream.{LiveState, NodeProgress, Step, faulty, instant_below, judged, lawful, may_end}
 use Rattle.cpg_live.specs.Stream.{open_stream, refused, settled, step, stepped, take_record, turn_below, turn_if}
@@ -102,14 +102,14 @@ judged_holds s time (Some event) h =
     settles : (q : Step) → Has q.progress → Holds (stepped s time event q)
     settles q h = go q.fault
       where
-        go : (o : Option Why) → Holds (settled (record s { progress = q.progress }) time event o)
+        go : (o : Option Defect) → Holds (settled (record s { progress = q.progress }) time event o)
         go None = h
-        go (Some why) = h
+        go (Some defect) = h
 
 -- a record, or several, leave no range empty, since a frame that would is refused
 record_holds : (s : LiveState) (bytes : List ℕ) → Holds s → Holds (take_record s bytes)
 record_holds s bytes h =
-    cond_both (is_some s.bad) s _ Holds (λ _. h) (λ _. cond_both s.closed (refused s Length) _ Holds (λ _. h)
+    cond_both (is_some s.lawless) s _ Holds (λ _. h) (λ _. cond_both s.closed (refused s Length) _ Holds (λ _. h)
     (λ _. judged_holds s (record_of bytes).time (event_of s.progress.dispatcher.table (record_of bytes)) h))
 
 records_hold : (records : List (List ℕ)) (s : LiveState) → Holds s → Holds (fold take_record s records)
@@ -117,7 +117,8 @@ records_hold [] s h = h
 records_hold (r ∷ rs) s h = records_hold rs (take_record s r) (record_holds s r h)
 
 rest_holds : (s : LiveState) (rest : List ℕ) → Holds s → Holds (with_rest s rest)
-rest_holds s rest h = cond_both (is_some s.bad) s _ Holds (λ _. h) (λ _. cond_both (s.closed && nat_lt 0 (length rest))
+rest_holds s rest h =
+    cond_both (is_some s.lawless) s _ Holds (λ _. h) (λ _. cond_both (s.closed && nat_lt 0 (length rest))
     (refused s Length) (record s { rest = rest }) Holds (λ _. h) (λ _. h))
 
 -- no range that a node holds after any bytes is empty

@@ -43,9 +43,9 @@ module _ (table : NodeTable) (bytes : List ℕ) (short : length bytes ≤ STREAM
   read_end : (close : ℕ) → outcome (after table bytes) ≡ Ok close → stream_end table bytes ≡ Ok close
   read_end close e =
       ap (λ bytes. end_of (after table bytes) (length bytes)) whole
-      ∙ ap (λ b. cond (is_none (after table bytes).bad && b) (Err Long) (end_by (outcome (after table bytes))))
+      ∙ ap (λ b. cond (is_none (after table bytes).lawless && b) (Err Long) (end_by (outcome (after table bytes))))
       (le-ltb STREAM_LIMIT (length bytes) short)
-      ∙ not_long (is_none (after table bytes).bad) (end_by (outcome (after table bytes))) ∙ ap end_by e
+      ∙ not_long (is_none (after table bytes).lawless) (end_by (outcome (after table bytes))) ∙ ap end_by e
 
   -- its lines are those of its acts and that of the close
   read_lines : (h : Head) (close : ℕ) → stream_end table bytes ≡ Ok close →

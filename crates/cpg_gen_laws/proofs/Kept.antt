@@ -1,7 +1,7 @@
 -- Generated graphs keep the rules of admission.
 use Rattle.std.proofs.Common.{ℕ, ◌^◌, zero, suc, ◌-◌, ◌<◌, ◌≤◌, ◌≡◌, ◌==◌, Bool, true, false, cond, not, ◌&&◌, List, []}
 use Rattle.std.proofs.Common.{◌∷◌, length, get_or, filter, map, Some, refl, sym, ap, ap₂, ◌∙◌, subst, arith}
-use Rattle.std.proofs.Common.{eqb-true, eq-eqb, ltb-true, le-ltb}
+use Rattle.std.proofs.Common.{eqb-true, eq-eqb, le-ltb}
 use Rattle.std.specs.Prelude.{nat_lt}
 use Rattle.std.proofs.lemmas.Bool.{and_parts, and_right, both_ways}
 use Rattle.std.proofs.lemmas.Option.{none-some}
@@ -25,6 +25,7 @@ use Rattle.cpg_rules.specs.declared.admission.RuleFault.TheVariants.{Cycle, TooM
 use Rattle.cpg_rules.specs.declared.admission.RuleFault.TheVariants.{TooBig, BadOrder, OutOfMemory}
 use Rattle.cpg_rules.specs.Rules.{is_sender, has_slot, bytes_in, slot_bytes, is_too_big, AllFit}
 use Rattle.cpg_rules.specs.Faults.{ShowsFault}
+use Rattle.cpg_rules.proofs.Exact.{two_live}
 use Rattle.cpg_gen.specs.Generated.{generated, generated_process, edge_of, slot_of}
 use Rattle.cpg_gen.proofs.Limits.{generated_edge, edge_there, processes_count, few_conditions, within_limits}
 
@@ -156,9 +157,6 @@ module _ (number : ℕ) where
       ∙ not_above (edge_at (generated number) e).size (edge_there number e l).size)
 
   -- ---- no fault
-
-  two_live : (n : ℕ) → n ≤ 1 → nat_lt 1 n ≡ true → ⊥
-  two_live n l t = let h = ltb-true 1 n t in omega arith
 
   -- a generated graph shows no fault but that memory runs out
   pub no_fault : (fault : RuleFault) → ShowsFault (generated number) fault → fault ≡ OutOfMemory

@@ -1,5 +1,5 @@
 //! How long an execution takes, by its number of faults.
-ghost use Rattle.std.specs.Prelude.{◌≡◌, ◌<◌, IfOk, length, get_or};
+ghost use Rattle.std.specs.Prelude.{◌≡◌, IfOk};
 
 use cpg_base::OutOfMemory;
 use std::marker::Model;
@@ -24,14 +24,6 @@ impl Durations {
         ensures { result ≡ times.items }
     {
         Durations { times }
-    }
-
-    /// The duration with this many faults.
-    pub fn of(&self, faults: u8) -> u64
-        requires { faults < length self.now }
-        ensures { result ≡ get_or self.now faults 0 }
-    {
-        self.times[faults as usize]
     }
 
     /// All durations, the one without faults first.

@@ -46,7 +46,7 @@ abbrev pub bytes_at : List File → Option ℕ → List ℕ
 bytes_at files None = []
 bytes_at files (Some place) = (slice_index_or files place (record { name = []; bytes = [] })).bytes
 
--- the place in the fetched file isn't past its end
+-- the fetched file, if there is one, is one of the files, and the place in it isn't past its end
 abbrev pub GivesWithin : List File → Option ℕ → ℕ → Type 0
 GivesWithin files fetched at =
     IfSome fetched (λ place. (place < length files) × (at ≤ length (bytes_at files (Some place))))

@@ -41,7 +41,7 @@ pub front_more : (labels : Labels) (xs : List Literal) (l : Literal) →
     front_text labels (xs ++ l ∷ []) ≡ front_text labels xs ++ added_text labels xs l
 front_more labels xs l = front-append labels xs (l ∷ []) ∙ ap (λ t. front_text labels xs ++ t) (rest_of_one labels xs l)
 
--- a list is its first elements and the rest
+-- the text of a list is that of its first literals and what the others add
 front_parted : (labels : Labels) (ls : List Literal) (n : ℕ) →
     front_text labels ls ≡ front_text labels (take n ls) ++ rest_text labels (take n ls) (drop n ls)
 front_parted labels ls n =
@@ -174,7 +174,7 @@ front_no_longer labels ls n =
 
 -- ---- lists that have more behind a line
 
--- a line whose places are all 0 is the line of no literals
+-- with ends that are all 0, no literals are a line
 pub line_new : (labels : Labels) (ls : List Literal) (text ends : List ℕ) → ends ≡ replicate 257 0 →
     AreLine labels (take 0 ls) (take (get_or ends 0 0) text) (take (0 + 1) ends)
 line_new labels ls text ends e = rw e (line_none labels)
@@ -214,28 +214,30 @@ module _ (labels : Labels) (ls : List Literal) (text ends : List ℕ) (count : �
       (omega (arith, le, long))))))
 
   -- setting the next literal, its text and its end gives the line of one literal more
-  pub line_added : (more : List Literal) (put : List ℕ) (places : List ℕ) (l : Literal) (end : ℕ) →
-      more ≡ set ls count l →
-      places ≡ set ends (count + 1) end →
+  pub line_added : (new_literals : List Literal) (new_text new_ends : List ℕ) (l : Literal) (end : ℕ) →
+      new_literals ≡ set ls count l →
+      new_ends ≡ set ends (count + 1) end →
       count < length ls → count + 1 < length ends →
-      take end put ≡ take (get_or ends count 0) text ++ text_after labels count l → end ≤ get_or ends count 0 + 84 →
-      end ≤ length put →
-      AreLine labels (take (count + 1) more) (take (get_or places (count + 1) 0) put) (take (count + 1 + 1) places)
-  line_added more put places l end more_is places_are some fits is few within =
-      let now : List ℕ = take end put in
-      let now_long : length now ≡ end = length-take-le end put within in
+      take end new_text ≡ take (get_or ends count 0) text ++ text_after labels count l →
+      end ≤ get_or ends count 0 + 84 →
+      end ≤ length new_text →
+      AreLine labels (take (count + 1) new_literals) (take (get_or new_ends (count + 1) 0) new_text)
+      (take (count + 1 + 1) new_ends)
+  line_added new_literals new_text new_ends l end literals_are ends_are some fits is few within =
+      let now : List ℕ = take end new_text in
+      let now_long : length now ≡ end = length-take-le end new_text within in
       let told : now ≡ take (get_or ends count 0) text ++ added_text labels (take count ls) l =
       is ∙ ap (λ t. take (get_or ends count 0) text ++ t) (after_is labels (take count ls) count l long) in
       let made = line_more labels (take count ls) (take (get_or ends count 0) text) (take (count + 1) ends) l now h told
       (omega (arith, now_long, text_long, few)) in
-      let lits : take (count + 1) more ≡ take count ls ++ l ∷ [] =
-      ap (take (count + 1)) more_is ∙ take_more_set ls count l some in
-      let last : get_or places (count + 1) 0 ≡ end =
-      ap (λ es. get_or es (count + 1) 0) places_are ∙ get_or-set_same ends (count + 1) end 0 fits in
-      let all : take (count + 1 + 1) places ≡ take (count + 1) ends ++ length now ∷ [] =
-      ap (take (count + 1 + 1)) places_are ∙ take_more_set ends (count + 1) end fits
+      let front : take (count + 1) new_literals ≡ take count ls ++ l ∷ [] =
+      ap (take (count + 1)) literals_are ∙ take_more_set ls count l some in
+      let last : get_or new_ends (count + 1) 0 ≡ end =
+      ap (λ es. get_or es (count + 1) 0) ends_are ∙ get_or-set_same ends (count + 1) end 0 fits in
+      let all : take (count + 1 + 1) new_ends ≡ take (count + 1) ends ++ length now ∷ [] =
+      ap (take (count + 1 + 1)) ends_are ∙ take_more_set ends (count + 1) end fits
       ∙ ap (λ e. take (count + 1) ends ++ e ∷ []) (sym now_long) in
-      rw lits (rw all (rw last made))
+      rw front (rw all (rw last made))
 
 -- bytes that were all written over are the new ones
 pub refilled : (len : ℕ) (put old : List ℕ) → length put ≡ len → take len (put ++ drop (length put) old) ≡ put

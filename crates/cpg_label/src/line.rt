@@ -154,7 +154,7 @@ impl Line {
         &self.literals[..self.count]
     }
 
-    /// Leaves this many literals.
+    /// Leaves this many literals. The contract alone names `labels`.
     fn keep(&mut self, labels: &Labels<'_>, count: usize)
         requires line { IsLine labels.now self.old }
         requires within { count ≤ self.old.count }
@@ -207,7 +207,7 @@ impl Line {
         self.add_all(labels, &literals[count..]);
     }
 
-    /// The text of its literals, and nothing of none. The contract alone names `labels`.
+    /// The text of its literals, and nothing of none. The contract alone names `labels` and `literals`.
     pub fn text(&self, labels: &Labels<'_>, literals: &[Literal]) -> &[u8]
         requires { IsLineOf labels.now literals.now self.now }
         ensures { result.now ≡ front_text labels.now literals.now }

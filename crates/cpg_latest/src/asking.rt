@@ -31,7 +31,7 @@ pub(crate) struct Asked<'a> {
     pub(crate) inputs: SmallVec<u32, FEW>,
 }
 
-/// Whether a process is active.
+/// Whether a process is active. The contract alone names `problem`.
 fn is_active(problem: &Problem, guards: &GuardTrees, scenario: &Scenario, process: u32) -> bool
     requires admitted { AreAdmitted problem.now guards.now }
     requires values { length scenario.now.values ≡ condition_count problem.now }
@@ -42,7 +42,7 @@ fn is_active(problem: &Problem, guards: &GuardTrees, scenario: &Scenario, proces
     active
 }
 
-/// Whether an edge is live.
+/// Whether an edge is live. The contract alone names `problem`.
 fn is_live(problem: &Problem, guards: &GuardTrees, scenario: &Scenario, edge: u32) -> bool
     requires admitted { AreAdmitted problem.now guards.now }
     requires values { length scenario.now.values ≡ condition_count problem.now }
@@ -53,7 +53,7 @@ fn is_live(problem: &Problem, guards: &GuardTrees, scenario: &Scenario, edge: u3
     live
 }
 
-/// The conditions that decide a process.
+/// The conditions that decide a process. The contract alone names `problem`.
 fn deciding(
     alloc: Global,
     problem: &Problem,
@@ -71,7 +71,8 @@ fn deciding(
     Ok(conditions)
 }
 
-/// Whether an item that an active process may send is active: each broadcast is, and a message with its edge.
+/// Whether an item that an active process may send is active: each broadcast is, and a message with its edge. The contract
+/// alone names `process`.
 pub(crate) fn is_item_active(
     problem: &Problem,
     guards: &GuardTrees,

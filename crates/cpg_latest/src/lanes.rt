@@ -11,8 +11,8 @@ ghost use Rattle.cpg_run.specs.Setting.{IsSetting};
 
 use crate::asking::{Asked, is_item_active};
 use crate::course::LatestCourse;
-use crate::stepping::{begin, send, unfrozen_send};
-use crate::waiting::{ready, start};
+use crate::stepping::{begin, send_item, unfrozen_send};
+use crate::waiting::{ready, unfrozen_start};
 use cpg_base::{OutOfMemory, Problem};
 use cpg_run::{FrozenTimes, Setting};
 use std::alloc::Global;
@@ -91,7 +91,7 @@ impl Lane {
         }
         let course = &self.courses[setting.problem.faults() as usize];
         let ready = ready(setting, course, asked, process);
-        Some(start(setting, course, asked, process, ready))
+        Some(unfrozen_start(setting, course, asked, process, ready))
     }
 
     /// When an item of a process could be sent with all the faults if it were not frozen, and `None` exactly if it is
@@ -172,7 +172,7 @@ impl Lane {
         }
         for faults in 0..self.courses.len() {
             let course = &mut self.courses[faults];
-            send(setting, frozen, course, process, item);
+            send_item(setting, frozen, course, process, item);
         }
     }
 

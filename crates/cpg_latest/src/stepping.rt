@@ -11,7 +11,7 @@ ghost use Rattle.cpg_run.specs.Setting.{IsSetting};
 use crate::asking::Asked;
 use crate::course::LatestCourse;
 use crate::ends::latest_end;
-use crate::waiting::{ready, start};
+use crate::waiting::{ready, unfrozen_start};
 use cpg_run::{FrozenTimes, Setting};
 
 /// The frozen time of an item, or 0 if none is set.
@@ -19,7 +19,7 @@ fn frozen_time(frozen: &FrozenTimes, item: u32) -> u64
     requires { item < length frozen.now }
     ensures { result ≡ frozen_in frozen.now item }
 {
-    frozen.of(item).unwrap_or(0)
+    frozen.time_of(item).unwrap_or(0)
 }
 
 /// Starts a process if it is active, with a number of faults, and otherwise lets its node wait for what decides it.
@@ -52,7 +52,7 @@ pub(crate) fn begin(
         return 0;
     }
     // a frozen process starts at its frozen time, if it could start before
-    let unfrozen = start(setting, course, asked, process, ready);
+    let unfrozen = unfrozen_start(setting, course, asked, process, ready);
     let start = unfrozen.max(frozen_time(frozen, process));
     let end = latest_end(setting.problem, process, faults, start, last);
     course.begin(process, node, start, end);
@@ -77,7 +77,7 @@ pub(crate) fn unfrozen_send(setting: &Setting<'_>, course: &LatestCourse, proces
 }
 
 /// Sends an active item.
-pub(crate) fn send(
+pub(crate) fn send_item(
     setting: &Setting<'_>,
     frozen: &FrozenTimes,
     course: &mut LatestCourse,

@@ -162,7 +162,7 @@ pub(crate) fn ready(
 }
 
 /// When an active process could start if it were not frozen, given when its node is ready for it.
-pub(crate) fn start(
+pub(crate) fn unfrozen_start(
     setting: &Setting<'_>,
     course: &LatestCourse,
     asked: &Asked<'_>,

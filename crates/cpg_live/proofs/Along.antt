@@ -11,7 +11,7 @@ use Rattle.cpg_io.proofs.Writes.{Took-none, Took-trans}
 use Rattle.cpg_head.specs.Head.{Head}
 use Rattle.cpg_table.specs.Table.{NodeTable}
 use Rattle.cpg_node.specs.Dispatcher.{Act}
-use Rattle.cpg_live.specs.declared.bad.Bad.{Bad}
+use Rattle.cpg_live.specs.declared.lawless.LawlessRecord.{LawlessRecord}
 use Rattle.cpg_live.specs.Stream.{LiveState, after, open_stream, outcome}
 use Rattle.cpg_live.specs.Laws.{Grows}
 use Rattle.cpg_live.specs.declared.following.Broken.{Broken}
@@ -22,7 +22,8 @@ use Rattle.cpg_live.specs.Follower.{Follower, open_follower}
 use Rattle.cpg_live.specs.Following.{Breaks, Closes, Completes, IsAlong, IsAlongAt, IsOfSame, IsStreamed, Stream}
 use Rattle.cpg_live.specs.Following.{TakesPiece}
 use Rattle.cpg_live.specs.Streams.{act_lines, closed_line, IsClosed, IsCutOff, IsRefused}
-use Rattle.cpg_live.proofs.Streams.{acts_more, closed, cut_closed, cut_off, lawless, lines_more, too_long, took_after}
+use Rattle.cpg_live.proofs.Streams.{acts_more, closed, cut_closed, cut_off, lines_more, refused_by_record, too_long}
+use Rattle.cpg_live.proofs.Streams.{took_after}
 use Rattle.cpg_live.proofs.Streams.{unclosed}
 
 -- ---- a piece
@@ -112,18 +113,20 @@ module _ (name : List ℕ) (past rest : List Fetch) (start now out : List ℕ) (
       (took_after start now out (act_lines h before) (act_lines h (drop from live.progress.acts)) k.wrote part))
 
   -- if the piece has a lawless record, the stream is refused by that record
-  pub fed_lawless : (bad : Bad) → live.bad ≡ Some bad →
-      IsRefused h table k.fetch (Lawless bad) (act_lines h live.progress.acts)
-  fed_lawless bad e = subst (IsRefused h table k.fetch (Lawless bad)) same_lines
-      (lawless h table k.fetch k.sound k.few bad (ap (λ (s : LiveState). s.bad) (sym k.state) ∙ e))
+  pub fed_lawless : (lawless : LawlessRecord) → live.lawless ≡ Some lawless →
+      IsRefused h table k.fetch (Lawless lawless) (act_lines h live.progress.acts)
+  fed_lawless lawless e = subst (IsRefused h table k.fetch (Lawless lawless)) same_lines
+      (refused_by_record h table k.fetch k.sound k.few lawless (ap (λ (s : LiveState). s.lawless) (sym k.state) ∙ e))
 
   -- if the piece goes past the limit of lawful bytes, the stream is refused as too long
-  pub fed_long : live.bad ≡ None → STREAM_LIMIT < read → IsRefused h table k.fetch Long (act_lines h live.progress.acts)
+  pub fed_long : live.lawless ≡ None → STREAM_LIMIT < read →
+      IsRefused h table k.fetch Long (act_lines h live.progress.acts)
   fed_long e l = subst (IsRefused h table k.fetch Long) same_lines (too_long h table k.fetch k.sound k.few
-      (ap (λ (s : LiveState). s.bad) (sym k.state) ∙ e) (omega (arith, l, k.long)))
+      (ap (λ (s : LiveState). s.lawless) (sym k.state) ∙ e) (omega (arith, l, k.long)))
 
   -- if the piece is lawful and within the limit, and its lines are written, the follower is along the stream
-  pub fed_along : live.bad ≡ None → read ≤ STREAM_LIMIT → Took now out (act_lines h (drop from live.progress.acts)) →
+  pub fed_along : live.lawless ≡ None → read ≤ STREAM_LIMIT →
+      Took now out (act_lines h (drop from live.progress.acts)) →
       IsAlong name past rest start out
       (record { head = h; table = table; live = live; told = length live.progress.acts; read = read })
   fed_along e l whole = record {
@@ -188,7 +191,7 @@ told_as shelf rest f n s count t e = sym (e ∙ ap (λ (f : Follower). record {
 -- a piece was fed, and all its lines are written
 pub along_at : (name : List ℕ) (past : List Fetch) (shelf rest : ShelfState) (count : ℕ) (start now out : List ℕ)
     (f n s : Follower) (a : IsAlong name past shelf.history start now f)
-    (t : TakesPiece shelf rest f n count) → n.live.bad ≡ None → n.read ≤ STREAM_LIMIT →
+    (t : TakesPiece shelf rest f n count) → n.live.lawless ≡ None → n.read ≤ STREAM_LIMIT →
     Took now out (act_lines f.head (drop f.told n.live.progress.acts)) →
     s ≡ record n { told = length n.live.progress.acts } → IsAlongAt count name past rest.history start out s
 unfolding fed_along fed_on
@@ -232,7 +235,7 @@ unread name past history rest start now f out a e same = record {
     record {
       failed = refl;
       few = omega (arith, a.read, a.few);
-      lawful = ap (λ (s : LiveState). s.bad) (sym a.live) ∙ a.lawful;
+      lawful = ap (λ (s : LiveState). s.lawless) (sym a.live) ∙ a.lawful;
       spelled = ap (λ (s : LiveState). act_lines f.head s.progress.acts) a.live;
     },
     record { faultless = refl; taken = subst (λ o. Took start o (act_lines f.head f.live.progress.acts)) same a.wrote },
@@ -279,8 +282,8 @@ module _ (name : List ℕ) (past history : List Fetch) (start now : List ℕ) (f
   acts : List ℕ
   acts = act_lines f.head f.live.progress.acts
 
-  lawful : (after f.table a.fetch.given).bad ≡ None
-  lawful = ap (λ (s : LiveState). s.bad) (sym a.live) ∙ a.lawful
+  lawful : (after f.table a.fetch.given).lawless ≡ None
+  lawful = ap (λ (s : LiveState). s.lawless) (sym a.live) ∙ a.lawful
 
   all_closed : (time : ℕ) → outcome f.live ≡ Ok time → IsClosed f.head f.table a.fetch (acts ++ closed_line time)
   unfolding acts
@@ -316,11 +319,11 @@ module _ (name : List ℕ) (past history : List Fetch) (start now : List ℕ) (f
       (took_after start now new.taken acts (closed_line time) a.wrote ends.1.2) in
       record { fetch = a.fetch; named = a.named; history_is = a.history_is; is = (ends.0, cut) }
   ended_broken (Refused Long) ends = absurd ends
-  ended_broken (Refused (Lawless bad)) ends =
-      let is = subst (IsRefused f.head f.table a.fetch (Lawless bad))
+  ended_broken (Refused (Lawless lawless)) ends =
+      let is = subst (IsRefused f.head f.table a.fetch (Lawless lawless))
       (ap (λ (s : LiveState). act_lines f.head s.progress.acts) (sym a.live))
       (unclosed f.head f.table a.fetch a.sound (omega (arith, a.few, a.read)) ended lawful
-      (omega (arith, a.few, a.read)) bad (ap outcome (sym a.live) ∙ ends.0)) in
+      (omega (arith, a.few, a.read)) lawless (ap outcome (sym a.live) ∙ ends.0)) in
       record {
         fetch = a.fetch;
         named = a.named;

@@ -8,8 +8,8 @@ use Rattle.cpg_table.specs.Lawful.{column_count}
 use Rattle.cpg_node.specs.Dispatcher.{Ended, next, acts_of_turn, is_strange, hear, finished, initial_dispatcher}
 use Rattle.cpg_node.specs.Instants.{entries_left}
 use Rattle.cpg_node.proofs.Rooms.{room_turn, room_open}
-use Rattle.cpg_live.specs.declared.bad.Why.{Why}
-use Rattle.cpg_live.specs.declared.bad.Why.TheVariants.{Length, Order, Frame as StrangeFrame, End as FalseEnd}
+use Rattle.cpg_live.specs.declared.lawless.Defect.{Defect}
+use Rattle.cpg_live.specs.declared.lawless.Defect.TheVariants.{Length, Order, Frame as StrangeFrame, End as FalseEnd}
 use Rattle.cpg_live.specs.declared.event.Event.{Event}
 use Rattle.cpg_live.specs.declared.event.Event.TheVariants.{Frame as Arrival, End as Ending, Close}
 use Rattle.cpg_live.specs.Records.{cut, record_of, event_of}
@@ -70,10 +70,10 @@ module _ (table : NodeTable) (most : ℕ) where
   step_few time Close p h = turned_few (time + 1) p h
 
   -- a record keeps the bound, whatever is wrong with it
-  settled_few : (s : LiveState) (time : ℕ) (event : Event) (why : Option Why) → HasFew s.progress →
-      HasFew (settled s time event why).progress
+  settled_few : (s : LiveState) (time : ℕ) (event : Event) (defect : Option Defect) → HasFew s.progress →
+      HasFew (settled s time event defect).progress
   settled_few s time event None h = h
-  settled_few s time event (Some why) h = h
+  settled_few s time event (Some defect) h = h
 
   judged_few : (s : LiveState) (time : ℕ) (event : Option Event) → HasFew s.progress →
       HasFew (judged s time event).progress
@@ -86,7 +86,7 @@ module _ (table : NodeTable) (most : ℕ) where
           (step time event s.progress).fault (step_few time event s.progress h)
 
   record_few : (s : LiveState) (bytes : List ℕ) → HasFew s.progress → HasFew (take_record s bytes).progress
-  record_few s bytes h = go (is_some s.bad) s.closed
+  record_few s bytes h = go (is_some s.lawless) s.closed
     where
       go : (b c : Bool) →
           HasFew (cond b s (cond c (refused s Length)
@@ -100,7 +100,7 @@ module _ (table : NodeTable) (most : ℕ) where
   records_few s (r ∷ rs) h = records_few (take_record s r) rs (record_few s r h)
 
   rest_few : (s : LiveState) (rest : List ℕ) → HasFew s.progress → HasFew (with_rest s rest).progress
-  rest_few s rest h = go (is_some s.bad) (s.closed && nat_lt 0 (length rest))
+  rest_few s rest h = go (is_some s.lawless) (s.closed && nat_lt 0 (length rest))
     where
       go : (b c : Bool) → HasFew (cond b s (cond c (refused s Length) (record s { rest = rest }))).progress
       go true c = h

@@ -6,9 +6,9 @@ use Rattle.std.specs.Prelude.{◌⊎◌, is_some, nat_lt}
 use Rattle.std.proofs.lemmas.List.{length-append}
 use Rattle.std.proofs.lemmas.Bool.{cases_lt}
 use Rattle.cpg_table.specs.Table.{NodeTable}
-use Rattle.cpg_live.specs.declared.bad.Bad.{Bad}
-use Rattle.cpg_live.specs.declared.bad.Why.{Why}
-use Rattle.cpg_live.specs.declared.bad.Why.TheVariants.{Length, Kind, Order}
+use Rattle.cpg_live.specs.declared.lawless.LawlessRecord.{LawlessRecord}
+use Rattle.cpg_live.specs.declared.lawless.Defect.{Defect}
+use Rattle.cpg_live.specs.declared.lawless.Defect.TheVariants.{Length, Kind, Order}
 use Rattle.cpg_live.specs.declared.event.Event.{Event}
 use Rattle.cpg_live.specs.Records.{Cut, cut_byte, cut, record_of, event_of}
 use Rattle.cpg_live.specs.Stream.{LiveState, after, open_stream, refused, settled, stepped, judged, step, take_record}
@@ -56,37 +56,38 @@ cut_counted bytes = subst (IsCounted (cut bytes)) (omega arith)
 
 -- the record before was lawful too, and this one is counted
 record IsTaken (s t : LiveState) : Type 0 where
-  lawful : s.bad ≡ None
+  lawful : s.lawless ≡ None
   taken : t.taken ≡ min (s.taken + 1) (2 ^ 64 - 1)
 
-refused_not : (s : LiveState) (why : Why) → (refused s why).bad ≡ None → ⊥
-refused_not s why e = true≢false (ap is_some e)
+refused_not : (s : LiveState) (defect : Defect) → (refused s defect).lawless ≡ None → ⊥
+refused_not s defect e = true≢false (ap is_some e)
 
 -- a record that leaves the stream lawful is counted
-settled_taken : (s t : LiveState) (time : ℕ) (event : Event) (why : Option Why) → t.bad ≡ s.bad → t.taken ≡ s.taken →
-    (settled t time event why).bad ≡ None →
-    IsTaken s (settled t time event why)
+settled_taken : (s t : LiveState) (time : ℕ) (event : Event) (defect : Option Defect) → t.lawless ≡ s.lawless →
+    t.taken ≡ s.taken →
+    (settled t time event defect).lawless ≡ None →
+    IsTaken s (settled t time event defect)
 settled_taken s t time event None b n e = record { lawful = sym b ∙ e; taken = ap (λ k. min (k + 1) (2 ^ 64 - 1)) n }
-settled_taken s t time event (Some why) b n e = absurd (refused_not t why e)
+settled_taken s t time event (Some defect) b n e = absurd (refused_not t defect e)
 
 -- a record that is judged lawful is counted
-judged_taken : (s : LiveState) (time : ℕ) (event : Option Event) → (judged s time event).bad ≡ None →
+judged_taken : (s : LiveState) (time : ℕ) (event : Option Event) → (judged s time event).lawless ≡ None →
     IsTaken s (judged s time event)
 judged_taken s time None e = absurd (refused_not s Kind e)
 judged_taken s time (Some event) e = go (nat_lt time s.time) e
   where
-    go : (b : Bool) → (cond b (refused s Order) (stepped s time event (step time event s.progress))).bad ≡ None →
+    go : (b : Bool) → (cond b (refused s Order) (stepped s time event (step time event s.progress))).lawless ≡ None →
         IsTaken s (cond b (refused s Order) (stepped s time event (step time event s.progress)))
     go true e = absurd (refused_not s Order e)
     go false e = settled_taken s (record s { progress = (step time event s.progress).progress }) time event
         (step time event s.progress).fault refl refl e
 
-record_taken : (s : LiveState) (bytes : List ℕ) → (take_record s bytes).bad ≡ None → IsTaken s (take_record s bytes)
-record_taken s bytes e = go (is_some s.bad) s.closed refl e
+record_taken : (s : LiveState) (bytes : List ℕ) → (take_record s bytes).lawless ≡ None → IsTaken s (take_record s bytes)
+record_taken s bytes e = go (is_some s.lawless) s.closed refl e
   where
-    go : (b c : Bool) → is_some s.bad ≡ b →
+    go : (b c : Bool) → is_some s.lawless ≡ b →
         (cond b s (cond c (refused s Length)
-        (judged s (record_of bytes).time (event_of s.progress.dispatcher.table (record_of bytes))))).bad ≡ None →
+        (judged s (record_of bytes).time (event_of s.progress.dispatcher.table (record_of bytes))))).lawless ≡ None →
         IsTaken s (cond b s (cond c (refused s Length)
         (judged s (record_of bytes).time (event_of s.progress.dispatcher.table (record_of bytes)))))
     go true c some e = absurd (true≢false (sym some ∙ ap is_some e))
@@ -95,12 +96,12 @@ record_taken s bytes e = go (is_some s.bad) s.closed refl e
         judged_taken s (record_of bytes).time (event_of s.progress.dispatcher.table (record_of bytes)) e
 
 -- if a stream is lawful after records, it was lawful before them
-records_lawful : (s : LiveState) (rs : List (List ℕ)) → (fold take_record s rs).bad ≡ None → s.bad ≡ None
+records_lawful : (s : LiveState) (rs : List (List ℕ)) → (fold take_record s rs).lawless ≡ None → s.lawless ≡ None
 records_lawful s [] e = e
 records_lawful s (r ∷ rs) e = (record_taken s r (records_lawful (take_record s r) rs e)).lawful
 
 -- records that leave the stream lawful are all counted
-records_taken : (s : LiveState) (rs : List (List ℕ)) → s.taken ≤ 2 ^ 64 - 1 → (fold take_record s rs).bad ≡ None →
+records_taken : (s : LiveState) (rs : List (List ℕ)) → s.taken ≤ 2 ^ 64 - 1 → (fold take_record s rs).lawless ≡ None →
     (fold take_record s rs).taken ≡ min (s.taken + length rs) (2 ^ 64 - 1)
 records_taken s [] l e = omega (arith, l)
 records_taken s (r ∷ rs) l e =
@@ -111,21 +112,21 @@ records_taken s (r ∷ rs) l e =
 
 -- bytes of a next record come only to an open stream
 record HasRest (s t : LiveState) (rest : List ℕ) : Type 0 where
-  lawful : s.bad ≡ None
+  lawful : s.lawless ≡ None
   taken : t.taken ≡ s.taken
   open_still : 0 < length rest → t.closed ≡ false
 
-rest_taken : (s : LiveState) (rest : List ℕ) → (with_rest s rest).bad ≡ None → HasRest s (with_rest s rest) rest
-rest_taken s rest e = go (is_some s.bad) refl e
+rest_taken : (s : LiveState) (rest : List ℕ) → (with_rest s rest).lawless ≡ None → HasRest s (with_rest s rest) rest
+rest_taken s rest e = go (is_some s.lawless) refl e
   where
-    closing : (c : Bool) → s.closed ≡ c → s.bad ≡ None →
-        (cond (c && nat_lt 0 (length rest)) (refused s Length) (record s { rest = rest })).bad ≡ None →
+    closing : (c : Bool) → s.closed ≡ c → s.lawless ≡ None →
+        (cond (c && nat_lt 0 (length rest)) (refused s Length) (record s { rest = rest })).lawless ≡ None →
         HasRest s (cond (c && nat_lt 0 (length rest)) (refused s Length) (record s { rest = rest })) rest
     closing false c n e = record { lawful = n; taken = refl; open_still = λ some. c }
     closing true c n e = none (nat_lt 0 (length rest)) refl e
       where
         none : (b : Bool) → nat_lt 0 (length rest) ≡ b →
-            (cond b (refused s Length) (record s { rest = rest })).bad ≡ None →
+            (cond b (refused s Length) (record s { rest = rest })).lawless ≡ None →
             HasRest s (cond b (refused s Length) (record s { rest = rest })) rest
         none true b e = absurd (refused_not s Length e)
         none false b e = record {
@@ -134,17 +135,17 @@ rest_taken s rest e = go (is_some s.bad) refl e
           open_still = λ some. absurd (true≢false (sym (lt-ltb 0 (length rest) some) ∙ b));
         }
 
-    lawful_of : (o : Option Bad) → is_some o ≡ false → o ≡ None
+    lawful_of : (o : Option LawlessRecord) → is_some o ≡ false → o ≡ None
     lawful_of None e = refl
-    lawful_of (Some bad) e = absurd (true≢false e)
+    lawful_of (Some lawless) e = absurd (true≢false e)
 
-    go : (b : Bool) → is_some s.bad ≡ b →
-        (cond b s (cond (s.closed && nat_lt 0 (length rest)) (refused s Length) (record s { rest = rest }))).bad
+    go : (b : Bool) → is_some s.lawless ≡ b →
+        (cond b s (cond (s.closed && nat_lt 0 (length rest)) (refused s Length) (record s { rest = rest }))).lawless
         ≡ None →
         HasRest s
         (cond b s (cond (s.closed && nat_lt 0 (length rest)) (refused s Length) (record s { rest = rest }))) rest
     go true some e = absurd (true≢false (sym some ∙ ap is_some e))
-    go false some e = closing s.closed refl (lawful_of s.bad some) e
+    go false some e = closing s.closed refl (lawful_of s.lawless some) e
 
 -- of lawful bytes that end within a record, each whole record is counted, and none is a close
 pub record IsWithinRecord (s : LiveState) (records : ℕ) : Type 0 where
@@ -152,7 +153,7 @@ pub record IsWithinRecord (s : LiveState) (records : ℕ) : Type 0 where
   pub not_closed : s.closed ≡ false
 
 -- after lawful bytes that end within a record, each whole record is counted and none is a close
-pub within_record : (table : NodeTable) (bytes : List ℕ) (records part : ℕ) → (after table bytes).bad ≡ None →
+pub within_record : (table : NodeTable) (bytes : List ℕ) (records part : ℕ) → (after table bytes).lawless ≡ None →
     length bytes ≡ 14 * records + part → 0 < part → part < 14 →
     records < 2 ^ 64 →
     IsWithinRecord (after table bytes) records

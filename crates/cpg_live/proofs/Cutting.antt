@@ -7,9 +7,9 @@ use Rattle.std.proofs.lemmas.Bool.{cases_Bool}
 use Rattle.std.proofs.lemmas.List.{length-append}
 use Rattle.std.proofs.lemmas.List.Sums.{fold-append}
 use Rattle.cpg_table.specs.Table.{NodeTable}
-use Rattle.cpg_live.specs.declared.bad.Bad.{Bad}
-use Rattle.cpg_live.specs.declared.bad.Why.{Why}
-use Rattle.cpg_live.specs.declared.bad.Why.TheVariants.{Length, Order}
+use Rattle.cpg_live.specs.declared.lawless.LawlessRecord.{LawlessRecord}
+use Rattle.cpg_live.specs.declared.lawless.Defect.{Defect}
+use Rattle.cpg_live.specs.declared.lawless.Defect.TheVariants.{Length, Order}
 use Rattle.cpg_live.specs.declared.event.Event.{Event}
 use Rattle.cpg_live.specs.declared.reading.Record.{Record}
 use Rattle.cpg_live.specs.Records.{Cut, cut_byte, cut, record_of, event_of}
@@ -24,10 +24,10 @@ abbrev IsEmpty : LiveState → Type 0
 IsEmpty s = s.rest ≡ []
 
 -- a record leaves no bytes of the next one
-settled_empty : (s : LiveState) (time : ℕ) (event : Event) (why : Option Why) → IsEmpty s →
-    IsEmpty (settled s time event why)
+settled_empty : (s : LiveState) (time : ℕ) (event : Event) (defect : Option Defect) → IsEmpty s →
+    IsEmpty (settled s time event defect)
 settled_empty s time event None e = e
-settled_empty s time event (Some why) e = e
+settled_empty s time event (Some defect) e = e
 
 judged_empty : (s : LiveState) (time : ℕ) (event : Option Event) → IsEmpty s → IsEmpty (judged s time event)
 judged_empty s time None e = e
@@ -39,7 +39,7 @@ judged_empty s time (Some event) e = go (nat_lt time s.time)
         (step time event s.progress).fault e
 
 record_empty : (s : LiveState) (bytes : List ℕ) → IsEmpty s → IsEmpty (take_record s bytes)
-record_empty s bytes e = go (is_some s.bad) s.closed
+record_empty s bytes e = go (is_some s.lawless) s.closed
   where
     go : (b c : Bool) →
         IsEmpty (cond b s (cond c (refused s Length)
@@ -56,7 +56,7 @@ records_empty s (r ∷ rs) e = records_empty (take_record s r) rs (record_empty 
 
 -- with no bytes of a next record nothing changes
 no_rest : (s : LiveState) → IsEmpty s → with_rest s [] ≡ s
-no_rest s e = go (is_some s.bad) s.closed
+no_rest s e = go (is_some s.lawless) s.closed
   where
     go : (b c : Bool) → cond b s (cond (c && nat_lt 0 0) (refused s Length) (record s { rest = [] })) ≡ s
     go true c = refl
@@ -68,10 +68,10 @@ abbrev more : LiveState → List ℕ → LiveState
 more s rest = cond (length rest == 14) (with_rest (take_record s rest) []) (with_rest s rest)
 
 -- one more byte after a lawless record
-bad_byte : (s : LiveState) (bad : Bad) (rest bytes : List ℕ) (byte : ℕ) → s.bad ≡ Some bad →
+lawless_byte : (s : LiveState) (lawless : LawlessRecord) (rest bytes : List ℕ) (byte : ℕ) → s.lawless ≡ Some lawless →
     take_byte (with_rest s rest) byte ≡ more s bytes
-bad_byte s bad rest bytes byte e =
-    let t : is_some s.bad ≡ true = ap is_some e in
+lawless_byte s lawless rest bytes byte e =
+    let t : is_some s.lawless ≡ true = ap is_some e in
     let same : (r : List ℕ) → with_rest s r ≡ s =
     λ r. ap (λ b. cond b s (cond (s.closed && nat_lt 0 (length r)) (refused s Length) (record s { rest = r }))) t in
     let taken : take_record s bytes ≡ s = ap (λ b. cond b s (cond s.closed (refused s Length)
@@ -88,7 +88,7 @@ some_length : (rest : List ℕ) (byte : ℕ) → 0 < length (rest ++ byte ∷ []
 some_length rest byte = omega (arith, length-append rest (byte ∷ []))
 
 -- one more byte after a close
-closed_byte : (s : LiveState) (rest : List ℕ) (byte : ℕ) → IsEmpty s → s.bad ≡ None → s.closed ≡ true →
+closed_byte : (s : LiveState) (rest : List ℕ) (byte : ℕ) → IsEmpty s → s.lawless ≡ None → s.closed ≡ true →
     take_byte (with_rest s rest) byte ≡ more s (rest ++ byte ∷ [])
 closed_byte s rest byte e n c =
     first rest ∙ sym
@@ -121,7 +121,7 @@ closed_byte s rest byte e n c =
     first (x ∷ xs) = ap (λ z. take_byte z byte) (with_some (x ∷ xs) (omega arith))
 
 -- a byte is taken of an open stream
-open_byte : (s : LiveState) (rest : List ℕ) (byte : ℕ) → IsEmpty s → s.bad ≡ None → s.closed ≡ false →
+open_byte : (s : LiveState) (rest : List ℕ) (byte : ℕ) → IsEmpty s → s.lawless ≡ None → s.closed ≡ false →
     take_byte (with_rest s rest) byte ≡ more s (rest ++ byte ∷ [])
 open_byte s rest byte e n c =
     ap (λ z. take_byte z byte) (held rest) ∙ ap
@@ -150,10 +150,10 @@ open_byte s rest byte e n c =
 -- a byte after whole records and the first bytes of the next one is taken as all of these bytes
 next_byte : (s : LiveState) (rest : List ℕ) (byte : ℕ) → IsEmpty s →
     take_byte (with_rest s rest) byte ≡ more s (rest ++ byte ∷ [])
-next_byte s rest byte e = go s.bad refl
+next_byte s rest byte e = go s.lawless refl
   where
-    go : (o : Option Bad) → s.bad ≡ o → take_byte (with_rest s rest) byte ≡ more s (rest ++ byte ∷ [])
-    go (Some bad) n = bad_byte s bad rest (rest ++ byte ∷ []) byte n
+    go : (o : Option LawlessRecord) → s.lawless ≡ o → take_byte (with_rest s rest) byte ≡ more s (rest ++ byte ∷ [])
+    go (Some lawless) n = lawless_byte s lawless rest (rest ++ byte ∷ []) byte n
     go None n =
         elim (cases_Bool s.closed) [ inl c ↦ closed_byte s rest byte e n c | inr c ↦ open_byte s rest byte e n c ]
 
@@ -190,14 +190,15 @@ feeds before now piece is table fed e = is ∙ ap (λ z. take_bytes z piece) e �
     ∙ ap (after_cut table) (sym (fold-append cut_byte (record { whole = []; rest = [] }) fed piece))
 
 -- after a lawless record nothing changes
-pub bad_stays : (s : LiveState) (bad : Bad) (bytes : List ℕ) → s.bad ≡ Some bad → take_bytes s bytes ≡ s
-bad_stays s bad [] e = refl
-bad_stays s bad (byte ∷ bytes) e = ap (λ z. take_bytes z bytes)
+pub lawless_stays : (s : LiveState) (lawless : LawlessRecord) (bytes : List ℕ) → s.lawless ≡ Some lawless →
+    take_bytes s bytes ≡ s
+lawless_stays s lawless [] e = refl
+lawless_stays s lawless (byte ∷ bytes) e = ap (λ z. take_bytes z bytes)
     (ap (λ b. cond b s (cond s.closed (refused s Length) (take_open s (s.rest ++ byte ∷ [])))) (ap is_some e))
-    ∙ bad_stays s bad bytes e
+    ∙ lawless_stays s lawless bytes e
 
 -- an open stream takes a record as it judges it
-pub open_record : (s : LiveState) (bytes : List ℕ) → s.bad ≡ None → s.closed ≡ false →
+pub open_record : (s : LiveState) (bytes : List ℕ) → s.lawless ≡ None → s.closed ≡ false →
     take_record s bytes ≡ judged s (record_of bytes).time (event_of s.progress.dispatcher.table (record_of bytes))
 open_record s bytes n c = ap (λ b. cond b s (cond s.closed (refused s Length)
     (judged s (record_of bytes).time (event_of s.progress.dispatcher.table (record_of bytes))))) (ap is_some n)
@@ -205,14 +206,14 @@ open_record s bytes n c = ap (λ b. cond b s (cond s.closed (refused s Length)
     (judged s (record_of bytes).time (event_of s.progress.dispatcher.table (record_of bytes)))) c
 
 -- a byte of an open stream, which completes a record or doesn't
-pub opened : (s : LiveState) (byte : ℕ) → s.bad ≡ None → s.closed ≡ false →
+pub opened : (s : LiveState) (byte : ℕ) → s.lawless ≡ None → s.closed ≡ false →
     take_byte s byte ≡ take_open s (s.rest ++ byte ∷ [])
 opened s byte n c =
     ap (λ b. cond b s (cond s.closed (refused s Length) (take_open s (s.rest ++ byte ∷ [])))) (ap is_some n)
     ∙ ap (λ b. cond b (refused s Length) (take_open s (s.rest ++ byte ∷ []))) c
 
 -- a byte that completes a record has the record judged
-pub whole_byte : (s : LiveState) (byte : ℕ) (bytes : List ℕ) (told : Record) → s.bad ≡ None → s.closed ≡ false →
+pub whole_byte : (s : LiveState) (byte : ℕ) (bytes : List ℕ) (told : Record) → s.lawless ≡ None → s.closed ≡ false →
     bytes ≡ s.rest ++ byte ∷ [] → length bytes ≡ 14 →
     told ≡ record_of bytes →
     judged (record s { rest = [] }) told.time (event_of s.progress.dispatcher.table told) ≡ take_byte s byte
@@ -224,7 +225,7 @@ whole_byte s byte bytes told n c same l is =
     ∙ ap (take_open s) same ∙ sym (opened s byte n c)
 
 -- a byte that does not complete a record is kept with the record's first bytes
-pub part_byte : (s : LiveState) (byte : ℕ) (bytes : List ℕ) → s.bad ≡ None → s.closed ≡ false →
+pub part_byte : (s : LiveState) (byte : ℕ) (bytes : List ℕ) → s.lawless ≡ None → s.closed ≡ false →
     bytes ≡ s.rest ++ byte ∷ [] → length bytes ≢ 14 →
     record s { rest = bytes } ≡ take_byte s byte
 part_byte s byte bytes n c same l =
@@ -233,9 +234,9 @@ part_byte s byte bytes n c same l =
     ∙ ap (take_open s) same ∙ sym (opened s byte n c)
 
 -- a feed after a lawless record changes nothing
-pub kept : (s now : LiveState) (bytes : List ℕ) → now ≡ take_bytes s bytes → IfSome s.bad (λ _. now ≡ s)
-kept s now bytes is = go s.bad refl
+pub kept : (s now : LiveState) (bytes : List ℕ) → now ≡ take_bytes s bytes → IfSome s.lawless (λ _. now ≡ s)
+kept s now bytes is = go s.lawless refl
   where
-    go : (o : Option Bad) → s.bad ≡ o → IfSome o (λ _. now ≡ s)
+    go : (o : Option LawlessRecord) → s.lawless ≡ o → IfSome o (λ _. now ≡ s)
     go None e = tt
-    go (Some bad) e = is ∙ bad_stays s bad bytes e
+    go (Some lawless) e = is ∙ lawless_stays s lawless bytes e

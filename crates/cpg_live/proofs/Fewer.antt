@@ -26,8 +26,9 @@ use Rattle.cpg_node.proofs.Turning.{length_zip}
 use Rattle.cpg_node.proofs.TableBounds.{DoRise, own_rise}
 use Rattle.cpg_live.specs.declared.event.Event.{Event}
 use Rattle.cpg_live.specs.declared.event.Event.TheVariants.{Frame as Arrival, End as Ending, Close}
-use Rattle.cpg_live.specs.declared.bad.Why.{Why}
-use Rattle.cpg_live.specs.declared.bad.Why.TheVariants.{Length, Kind, Order, Frame as StrangeFrame, End as FalseEnd}
+use Rattle.cpg_live.specs.declared.lawless.Defect.{Defect}
+use Rattle.cpg_live.specs.declared.lawless.Defect.TheVariants.{Length, Kind, Order, Frame as StrangeFrame}
+use Rattle.cpg_live.specs.declared.lawless.Defect.TheVariants.{End as FalseEnd}
 use Rattle.cpg_live.specs.Records.{cut, record_of, event_of}
 use Rattle.cpg_live.specs.Stream.{NodeProgress, Step, LiveState, take_turn, instant_below, turn_if, turns_below, turned}
 use Rattle.cpg_live.specs.Stream.{faulty, lawful, may_tell, may_end_now, may_end, arrived, ended, step, refused}
@@ -587,20 +588,20 @@ module _ (t : NodeTable) (made : IsTable t) where
   record Twins (s z : LiveState) : Type 0 where
     limit : ℕ
     pair : Pair limit s.progress z.progress
-    up_to : s.bad ≡ None → s.closed ≡ false → limit ≤ s.time
+    up_to : s.lawless ≡ None → s.closed ≡ false → limit ≤ s.time
     same : z ≡ record s { progress = z.progress }
 
   -- streams that are refused for the same reason stay alike
-  refused_twins : (s z : LiveState) (why : Why) → Twins s z → Twins (refused s why) (refused z why)
-  refused_twins s z why k = record {
+  refused_twins : (s z : LiveState) (defect : Defect) → Twins s z → Twins (refused s defect) (refused z defect)
+  refused_twins s z defect k = record {
     limit = k.limit;
     pair = k.pair;
     up_to = λ none _. absurd (none-some _ (sym none));
-    same = ap (λ z. refused z why) k.same;
+    same = ap (λ z. refused z defect) k.same;
   }
 
   -- a record leaves both streams alike, whatever is wrong with it
-  settled_twins : (s : LiveState) (P Q : NodeProgress) (time : ℕ) (event : Event) (o : Option Why) →
+  settled_twins : (s : LiveState) (P Q : NodeProgress) (time : ℕ) (event : Event) (o : Option Defect) →
       Pair (bound time event) P Q →
       Twins (settled (record s { progress = P }) time event o) (settled (record s { progress = Q }) time event o)
   settled_twins s P Q time event None k =
@@ -611,7 +612,7 @@ module _ (t : NodeTable) (made : IsTable t) where
       far (Arrival f) e = omega arith
       far (Ending process faults value) e = omega arith
       far Close e = absurd (true≢false e)
-  settled_twins s P Q time event (Some why) k =
+  settled_twins s P Q time event (Some defect) k =
       record { limit = bound time event; pair = k; up_to = λ none _. absurd (none-some _ (sym none)); same = refl }
 
   -- a record leaves both streams alike
@@ -649,10 +650,10 @@ module _ (t : NodeTable) (made : IsTable t) where
   -- a record that is taken leaves both streams alike
   record_twins : (s : LiveState) (Q : NodeProgress) (bytes : List ℕ) → Twins s (record s { progress = Q }) →
       Twins (take_record s bytes) (take_record_fewer (record s { progress = Q }) bytes)
-  record_twins s Q bytes k = go (is_some s.bad) s.closed refl refl
+  record_twins s Q bytes k = go (is_some s.lawless) s.closed refl refl
     where
       -- by whether the stream is refused already, and by whether it is closed
-      go : (b c : Bool) → is_some s.bad ≡ b → s.closed ≡ c →
+      go : (b c : Bool) → is_some s.lawless ≡ b → s.closed ≡ c →
           Twins (cond b s (cond c (refused s Length)
           (judged s (record_of bytes).time (event_of s.progress.dispatcher.table (record_of bytes)))))
           (cond b (record s { progress = Q }) (cond c (refused (record s { progress = Q }) Length)
@@ -665,7 +666,7 @@ module _ (t : NodeTable) (made : IsTable t) where
           (judged_fewer (record s { progress = Q }) (record_of bytes).time (event_of t (record_of bytes))))
           (sym (table_of k.limit s.progress Q k.pair))
           (judged_twins s Q k.limit (record_of bytes).time
-          (event_of s.progress.dispatcher.table (record_of bytes)) k.pair (k.up_to (is_none_of s.bad e) f) k)
+          (event_of s.progress.dispatcher.table (record_of bytes)) k.pair (k.up_to (is_none_of s.lawless e) f) k)
 
   -- records that are taken, one after another, leave both streams alike
   twins_whole : (whole : List (List ℕ)) (s z : LiveState) → Twins s z →
@@ -716,7 +717,7 @@ module _ (t : NodeTable) (made : IsTable t) where
 -- the first bytes of a next record leave the last instant as it is
 rest_last : (s : LiveState) (rest : List ℕ) (x : Option ℕ) →
     with_rest (with_last s x) rest ≡ with_last (with_rest s rest) x
-rest_last s rest x = go (is_some s.bad) (s.closed && nat_lt 0 (length rest))
+rest_last s rest x = go (is_some s.lawless) (s.closed && nat_lt 0 (length rest))
   where
     -- by whether the stream is refused, and by whether bytes come after its close
     go : (b c : Bool) →
@@ -728,7 +729,7 @@ rest_last s rest x = go (is_some s.bad) (s.closed && nat_lt 0 (length rest))
 
 -- the first bytes of a next record leave the node as it is
 rest_same : (s : LiveState) (rest : List ℕ) → (with_rest s rest).progress ≡ s.progress
-rest_same s rest = go (is_some s.bad) (s.closed && nat_lt 0 (length rest))
+rest_same s rest = go (is_some s.lawless) (s.closed && nat_lt 0 (length rest))
   where
     -- by the same cases
     go : (b c : Bool) → (cond b s (cond c (refused s Length) (record s { rest = rest }))).progress ≡ s.progress

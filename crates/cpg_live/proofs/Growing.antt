@@ -4,8 +4,8 @@ use Rattle.std.proofs.Common.{Option, Some, None, refl, sym, ap, ◌∙◌}
 use Rattle.std.specs.Prelude.{is_some, nat_lt}
 use Rattle.std.proofs.lemmas.List.{append_assoc, append-nil}
 use Rattle.cpg_node.specs.Dispatcher.{Act, Ended, next, acts_of_turn, is_strange, hear, finished}
-use Rattle.cpg_live.specs.declared.bad.Why.{Why}
-use Rattle.cpg_live.specs.declared.bad.Why.TheVariants.{Length, Order, Frame as StrangeFrame, End as FalseEnd}
+use Rattle.cpg_live.specs.declared.lawless.Defect.{Defect}
+use Rattle.cpg_live.specs.declared.lawless.Defect.TheVariants.{Length, Order, Frame as StrangeFrame, End as FalseEnd}
 use Rattle.cpg_live.specs.declared.event.Event.{Event}
 use Rattle.cpg_live.specs.declared.event.Event.TheVariants.{Frame as Arrival, End as Ending, Close}
 use Rattle.cpg_live.specs.Records.{record_of, event_of}
@@ -58,10 +58,10 @@ step_grows time (Ending process faults value) p = go (record { process = process
 step_grows time Close p = turned_grows (time + 1) p
 
 -- what is wrong with a record changes no acts
-settled_acts : (s : LiveState) (time : ℕ) (event : Event) (why : Option Why) →
-    (settled s time event why).progress.acts ≡ s.progress.acts
+settled_acts : (s : LiveState) (time : ℕ) (event : Event) (defect : Option Defect) →
+    (settled s time event defect).progress.acts ≡ s.progress.acts
 settled_acts s time event None = refl
-settled_acts s time event (Some why) = refl
+settled_acts s time event (Some defect) = refl
 
 judged_grows : (s : LiveState) (time : ℕ) (event : Option Event) →
     Grows s.progress.acts (judged s time event).progress.acts
@@ -80,7 +80,7 @@ judged_grows s time (Some event) = go (nat_lt time s.time)
         )
 
 record_grows : (s : LiveState) (bytes : List ℕ) → Grows s.progress.acts (take_record s bytes).progress.acts
-record_grows s bytes = go (is_some s.bad) s.closed
+record_grows s bytes = go (is_some s.lawless) s.closed
   where
     go : (b c : Bool) →
         Grows s.progress.acts (cond b s (cond c (refused s Length)
@@ -99,7 +99,7 @@ open_grows s bytes = go (length bytes == 14)
     go false = same s.progress.acts
 
 byte_grows : (s : LiveState) (byte : ℕ) → Grows s.progress.acts (take_byte s byte).progress.acts
-byte_grows s byte = go (is_some s.bad) s.closed
+byte_grows s byte = go (is_some s.lawless) s.closed
   where
     go : (b c : Bool) →
         Grows s.progress.acts (cond b s (cond c (refused s Length) (take_open s (s.rest ++ byte ∷ [])))).progress.acts

@@ -8,7 +8,7 @@ use Rattle.std.proofs.lemmas.Option.{none-some}
 use Rattle.cpg_node.specs.Dispatcher.{Dispatcher, Ended, Frame, next, is_strange, hear, finished}
 use Rattle.cpg_node.specs.State.{running_of}
 use Rattle.cpg_node.proofs.Commuting.{next_same, other_running, reported_once, swap, hear_either, fine_either}
-use Rattle.cpg_live.specs.declared.bad.Why.TheVariants.{Frame as StrangeFrame, End as FalseEnd}
+use Rattle.cpg_live.specs.declared.lawless.Defect.TheVariants.{Frame as StrangeFrame, End as FalseEnd}
 use Rattle.cpg_live.specs.declared.event.Event.{Event}
 use Rattle.cpg_live.specs.declared.event.Event.TheVariants.{Frame as Arrival, End as Ending, Close}
 use Rattle.cpg_live.specs.Stream.{NodeProgress, Step, faulty, lawful, instant_below, turned, may_tell, may_end_now}

@@ -12,8 +12,8 @@ use Rattle.byteorder.specs.Endian.{big_number, big_bytes}
 use Rattle.cpg_table.specs.Table.{NodeTable}
 use Rattle.cpg_node.specs.Dispatcher.{Ended, Frame, is_strange, hear, finished}
 use Rattle.cpg_live.specs.declared.reading.Record.{Record}
-use Rattle.cpg_live.specs.declared.bad.Why.{Why}
-use Rattle.cpg_live.specs.declared.bad.Why.TheVariants.{Order, Frame as StrangeFrame, End as FalseEnd}
+use Rattle.cpg_live.specs.declared.lawless.Defect.{Defect}
+use Rattle.cpg_live.specs.declared.lawless.Defect.TheVariants.{Order, Frame as StrangeFrame, End as FalseEnd}
 use Rattle.cpg_live.specs.declared.event.Event.{Event}
 use Rattle.cpg_live.specs.declared.event.Event.TheVariants.{Frame as Arrival, End as Ending, Close}
 use Rattle.cpg_live.specs.Records.{Cut, cut_byte, record_of, event_of}
@@ -117,18 +117,19 @@ step_table time Close p = turned_table (time + 1) p
 
 -- A lawful front.
 
--- after an unlawful event, more events change nothing
-stays_faulty : (es : List (ℕ × Event)) (s : Step) (why : Why) → s.fault ≡ Some why → (follow s es).fault ≡ Some why
-stays_faulty [] s why e = e
-stays_faulty (f ∷ es) s why e = ap (λ z. (follow z es).fault) (ap (follow_if s f) e) ∙ stays_faulty es s why e
+-- after an lawless event, more events change nothing
+stays_faulty : (es : List (ℕ × Event)) (s : Step) (defect : Defect) → s.fault ≡ Some defect →
+    (follow s es).fault ≡ Some defect
+stays_faulty [] s defect e = e
+stays_faulty (f ∷ es) s defect e = ap (λ z. (follow z es).fault) (ap (follow_if s f) e) ∙ stays_faulty es s defect e
 
 -- if events are lawful, so was the step before them
 pub lawful_front : (es : List (ℕ × Event)) (s : Step) → (follow s es).fault ≡ None → s ≡ lawful s.progress
 lawful_front es s e = go s.fault refl
   where
-    go : (o : Option Why) → s.fault ≡ o → s ≡ lawful s.progress
+    go : (o : Option Defect) → s.fault ≡ o → s ≡ lawful s.progress
     go None n = ap (λ o. record { progress = s.progress; fault = o }) n
-    go (Some why) n = absurd (none-some why (sym e ∙ stays_faulty es s why n))
+    go (Some defect) n = absurd (none-some defect (sym e ∙ stays_faulty es s defect n))
 
 -- events that rise within two times have the first no later than the second
 pub within_le : (from to : ℕ) (es : List (ℕ × Event)) → RiseWithin from to es → from ≤ to
@@ -138,7 +139,8 @@ within_le from to (e ∷ es) h = omega (arith, h.0, within_le e.0 to es h.2)
 -- An open stream takes them.
 
 abbrev state : NodeProgress → ℕ → ℕ → Bool → LiveState
-state p taken time closed = record { progress = p; taken = taken; time = time; rest = []; closed = closed; bad = None }
+state p taken time closed =
+    record { progress = p; taken = taken; time = time; rest = []; closed = closed; lawless = None }
 
 module _ (table : NodeTable) where
   -- an open stream takes the bytes of a lawful event as the event

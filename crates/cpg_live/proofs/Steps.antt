@@ -12,7 +12,7 @@ use Rattle.cpg_node.specs.Instants.{entries_left}
 use Rattle.cpg_node.proofs.Rooms.{room_turn}
 use Rattle.cpg_live.specs.declared.event.Event.{Event}
 use Rattle.cpg_live.specs.declared.event.Event.TheVariants.{Frame as Arrival, End as Ending, Close}
-use Rattle.cpg_live.specs.declared.bad.Why.TheVariants.{Frame as StrangeFrame, End as FalseEnd}
+use Rattle.cpg_live.specs.declared.lawless.Defect.TheVariants.{Frame as StrangeFrame, End as FalseEnd}
 use Rattle.cpg_live.specs.Stream.{NodeProgress, faulty, lawful, take_turn, turned, may_end, may_end_now, may_tell}
 use Rattle.cpg_live.specs.Stream.{arrived, ended, step, is_close}
 use Rattle.cpg_live.specs.Feeding.{IsTurned}

@@ -12,7 +12,7 @@ use Rattle.cpg_io.proofs.Writes.{Took-trans}
 use Rattle.cpg_head.specs.Head.{Head}
 use Rattle.cpg_table.specs.Table.{NodeTable}
 use Rattle.cpg_node.specs.Dispatcher.{Act}
-use Rattle.cpg_live.specs.declared.bad.Bad.{Bad}
+use Rattle.cpg_live.specs.declared.lawless.LawlessRecord.{LawlessRecord}
 use Rattle.cpg_live.specs.Stream.{LiveState, after, outcome, outcome_if}
 use Rattle.cpg_live.specs.Feeding.{take_bytes}
 use Rattle.cpg_live.specs.Laws.{Grows}
@@ -60,25 +60,27 @@ acts_more table fed more =
 
 -- ---- how it ends
 
-end_bad : (s : LiveState) (count : ℕ) (bad : Bad) → s.bad ≡ Some bad → end_of s count ≡ Err (Lawless bad)
-end_bad s count bad e = ap (λ o. cond (is_none o && nat_lt STREAM_LIMIT count) (Err Long) (end_by (outcome_if s o))) e
+end_lawless : (s : LiveState) (count : ℕ) (lawless : LawlessRecord) → s.lawless ≡ Some lawless →
+    end_of s count ≡ Err (Lawless lawless)
+end_lawless s count lawless e =
+    ap (λ o. cond (is_none o && nat_lt STREAM_LIMIT count) (Err Long) (end_by (outcome_if s o))) e
 
-end_long : (s : LiveState) (count : ℕ) → s.bad ≡ None → STREAM_LIMIT < count → end_of s count ≡ Err Long
+end_long : (s : LiveState) (count : ℕ) → s.lawless ≡ None → STREAM_LIMIT < count → end_of s count ≡ Err Long
 end_long s count e l =
-    ap (λ o. cond (is_none o && nat_lt STREAM_LIMIT count) (Err Long) (end_by (outcome_if s s.bad))) e
-    ∙ ap (λ b. cond b (Err Long) (end_by (outcome_if s s.bad))) (lt-ltb STREAM_LIMIT count l)
+    ap (λ o. cond (is_none o && nat_lt STREAM_LIMIT count) (Err Long) (end_by (outcome_if s s.lawless))) e
+    ∙ ap (λ b. cond b (Err Long) (end_by (outcome_if s s.lawless))) (lt-ltb STREAM_LIMIT count l)
 
-end_short : (s : LiveState) (count : ℕ) → s.bad ≡ None → count ≤ STREAM_LIMIT → end_of s count ≡ end_by (outcome s)
+end_short : (s : LiveState) (count : ℕ) → s.lawless ≡ None → count ≤ STREAM_LIMIT → end_of s count ≡ end_by (outcome s)
 end_short s count e l =
-    ap (λ o. cond (is_none o && nat_lt STREAM_LIMIT count) (Err Long) (end_by (outcome_if s s.bad))) e
-    ∙ ap (λ b. cond b (Err Long) (end_by (outcome_if s s.bad))) (le-ltb STREAM_LIMIT count l)
+    ap (λ o. cond (is_none o && nat_lt STREAM_LIMIT count) (Err Long) (end_by (outcome_if s s.lawless))) e
+    ∙ ap (λ b. cond b (Err Long) (end_by (outcome_if s s.lawless))) (le-ltb STREAM_LIMIT count l)
 
 -- a lawless record is not an overlong stream
-pub not_long : (bad : Bad) → Lawless bad ≡ Long → ⊥
-not_long bad e = true≢false (ap is_lawless e)
+pub not_long : (lawless : LawlessRecord) → Lawless lawless ≡ Long → ⊥
+not_long lawless e = true≢false (ap is_lawless e)
   where
     is_lawless : StreamFault → Bool
-    is_lawless (Lawless bad) = true
+    is_lawless (Lawless lawless) = true
     is_lawless Long = false
 
 -- all lines of a stream are those of its acts and that of its close, if it has one
@@ -88,8 +90,8 @@ lines_of : (h : Head) (table : NodeTable) (bytes : List ℕ) (s : LiveState) (en
     stream_lines h table bytes ≡ act_lines h s.progress.acts ++ close_of ends
 lines_of h table bytes s ends same e = ap₂ (λ (t : LiveState) r. act_lines h t.progress.acts ++ close_of r) same e
 
-some_none : (bad : Bad) → Some bad ≡ None → ⊥
-some_none bad e = true≢false (sym (ap is_none e))
+some_none : (lawless : LawlessRecord) → Some lawless ≡ None → ⊥
+some_none lawless e = true≢false (sym (ap is_none e))
 
 -- given what was read of a stream, without a fault and within the limit and one byte
 module _ (h : Head) (table : NodeTable) (fetch : Fetch) (sound : fetch.failed ≡ false)
@@ -103,7 +105,7 @@ module _ (h : Head) (table : NodeTable) (fetch : Fetch) (sound : fetch.failed �
 
   -- a stream with such an end is refused by it
   refused_by : (fault : StreamFault) → (fault ≡ Long → IsTooLong table fetch.given) →
-      (fault ≢ Long → (after table fetch.given).bad ≡ None → fetch.ended ≡ true) →
+      (fault ≢ Long → (after table fetch.given).lawless ≡ None → fetch.ended ≡ true) →
       stream_end table fetch.given ≡ Err fault →
       IsRefused h table fetch fault (act_lines h (after table fetch.given).progress.acts)
   refused_by fault long all ends = record {
@@ -117,21 +119,22 @@ module _ (h : Head) (table : NodeTable) (fetch : Fetch) (sound : fetch.failed �
   }
 
   -- a stream with a lawless record is refused by that record
-  pub lawless : (bad : Bad) → (after table fetch.given).bad ≡ Some bad →
-      IsRefused h table fetch (Lawless bad) (act_lines h (after table fetch.given).progress.acts)
-  lawless bad e =
-      refused_by (Lawless bad) (λ e. absurd (not_long bad e)) (λ other none. absurd (some_none bad (sym e ∙ none)))
-      (ends_as ∙ end_bad (after table fetch.given) (length fetch.given) bad e)
+  pub refused_by_record : (lawless : LawlessRecord) → (after table fetch.given).lawless ≡ Some lawless →
+      IsRefused h table fetch (Lawless lawless) (act_lines h (after table fetch.given).progress.acts)
+  refused_by_record lawless e =
+      refused_by (Lawless lawless) (λ e. absurd (not_long lawless e))
+      (λ other none. absurd (some_none lawless (sym e ∙ none)))
+      (ends_as ∙ end_lawless (after table fetch.given) (length fetch.given) lawless e)
 
   -- a stream with more lawful bytes than the limit is refused as too long
-  pub too_long : (after table fetch.given).bad ≡ None → STREAM_LIMIT < length fetch.given →
+  pub too_long : (after table fetch.given).lawless ≡ None → STREAM_LIMIT < length fetch.given →
       IsRefused h table fetch Long (act_lines h (after table fetch.given).progress.acts)
   too_long e l =
       let within = within_record table fetch.given 16777216 1 e (omega (arith, l, few)) (omega arith) (omega arith)
       (omega arith) in
       let long : IsTooLong table fetch.given = record {
         more = l;
-        lawful = ap (λ bytes. (after table bytes).bad) read_all ∙ e;
+        lawful = ap (λ bytes. (after table bytes).lawless) read_all ∙ e;
         taken = ap (λ bytes. (after table bytes).taken) read_all ∙ within.taken;
         not_closed = ap (λ bytes. (after table bytes).closed) read_all ∙ within.not_closed;
       } in
@@ -139,16 +142,16 @@ module _ (h : Head) (table : NodeTable) (fetch : Fetch) (sound : fetch.failed �
       (ends_as ∙ end_long (after table fetch.given) (length fetch.given) e l)
 
   -- at its end
-  module _ (ended : fetch.ended ≡ true) (lawful : (after table fetch.given).bad ≡ None)
+  module _ (ended : fetch.ended ≡ true) (lawful : (after table fetch.given).lawless ≡ None)
       (short : length fetch.given ≤ STREAM_LIMIT) where
     ends_short : stream_end table fetch.given ≡ end_by (outcome (after table fetch.given))
     ends_short = ends_as ∙ end_short (after table fetch.given) (length fetch.given) lawful short
 
     -- a stream that ended without a close is refused by the record that is missing
-    pub unclosed : (bad : Bad) → outcome (after table fetch.given) ≡ Err bad →
-        IsRefused h table fetch (Lawless bad) (act_lines h (after table fetch.given).progress.acts)
-    unclosed bad e =
-        refused_by (Lawless bad) (λ e. absurd (not_long bad e)) (λ other none. ended) (ends_short ∙ ap end_by e)
+    pub unclosed : (lawless : LawlessRecord) → outcome (after table fetch.given) ≡ Err lawless →
+        IsRefused h table fetch (Lawless lawless) (act_lines h (after table fetch.given).progress.acts)
+    unclosed lawless e =
+        refused_by (Lawless lawless) (λ e. absurd (not_long lawless e)) (λ other none. ended) (ends_short ∙ ap end_by e)
 
     -- a stream that ended after its close is closed, with all its lines
     pub closed : (time : ℕ) → outcome (after table fetch.given) ≡ Ok time →

@@ -11,7 +11,7 @@ use Rattle.cpg_node.specs.State.{MayFinish, running_of, time_of}
 use Rattle.cpg_node.proofs.HeardFirst.{hearing_first_is_the_same}
 use Rattle.cpg_node.proofs.Next.{next_is}
 use Rattle.cpg_node.proofs.Turning.{next_reported}
-use Rattle.cpg_live.specs.declared.bad.Why.TheVariants.{Frame as StrangeFrame, End as FalseEnd}
+use Rattle.cpg_live.specs.declared.lawless.Defect.TheVariants.{Frame as StrangeFrame, End as FalseEnd}
 use Rattle.cpg_live.specs.Stream.{NodeProgress, Step, faulty, lawful, take_turn, instant_below, turn_if, turns_below}
 use Rattle.cpg_live.specs.Stream.{turned, may_tell, may_end_now, may_end, arrived, ended}
 use Rattle.cpg_live.specs.Told.{end_event, frame_event, follow_one, follow, after_last, HasCome, MayReport}

@@ -2,7 +2,7 @@
 use Rattle.std.specs.Prelude.{ℕ, ◌≡◌, ◌≤◌, ◌+◌, ◌==◌, if◌then◌else◌, List, [], ◌∷◌, ◌++◌, IfSome, is_some, fold, length}
 use Rattle.cpg_node.specs.Dispatcher.{Dispatcher, next}
 use Rattle.cpg_node.specs.Instants.{instants_left}
-use Rattle.cpg_live.specs.declared.bad.Why.TheVariants.{Length}
+use Rattle.cpg_live.specs.declared.lawless.Defect.TheVariants.{Length}
 use Rattle.cpg_live.specs.Stream.{LiveState, NodeProgress, turns_below, refused, take_record}
 
 -- the state after a byte of an open stream, given the bytes of its record so far
@@ -11,7 +11,8 @@ take_open s rest = if length rest == 14 then take_record (record s { rest = [] }
 
 -- the state after one more byte
 abbrev pub take_byte : LiveState → ℕ → LiveState
-take_byte s byte = if is_some s.bad then s else if s.closed then refused s Length else take_open s (s.rest ++ byte ∷ [])
+take_byte s byte =
+    if is_some s.lawless then s else if s.closed then refused s Length else take_open s (s.rest ++ byte ∷ [])
 
 -- the state after more bytes
 abbrev pub take_bytes : LiveState → List ℕ → LiveState

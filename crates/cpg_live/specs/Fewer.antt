@@ -6,7 +6,7 @@ use Rattle.cpg_table.specs.Lawful.{IsTable}
 use Rattle.cpg_node.specs.Quiet.{next_awaited}
 use Rattle.cpg_live.specs.declared.event.Event.{Event}
 use Rattle.cpg_live.specs.declared.event.Event.TheVariants.{Frame as Arrival, End as Ending, Close}
-use Rattle.cpg_live.specs.declared.bad.Why.TheVariants.{Length, Kind, Order}
+use Rattle.cpg_live.specs.declared.lawless.Defect.TheVariants.{Length, Kind, Order}
 use Rattle.cpg_live.specs.Records.{Cut, cut, record_of, event_of}
 use Rattle.cpg_live.specs.Stream.{NodeProgress, Step, LiveState, instant_below, turn_if, arrived, ended, lawful}
 use Rattle.cpg_live.specs.Stream.{refused, stepped, with_rest, open_stream, after}
@@ -39,7 +39,7 @@ judged_fewer s time (Some event) = if nat_lt time s.time then refused s Order
 
 -- the state after one more record
 abbrev pub take_record_fewer : LiveState → List ℕ → LiveState
-take_record_fewer s bytes = if is_some s.bad then s else if s.closed then refused s Length
+take_record_fewer s bytes = if is_some s.lawless then s else if s.closed then refused s Length
     else judged_fewer s (record_of bytes).time (event_of s.progress.dispatcher.table (record_of bytes))
 
 -- the state after bytes

@@ -52,7 +52,7 @@ pub record IsAlong (name : List ℕ) (past history : List Fetch) (start now : Li
   pub read : f.read ≡ length fetch.given
   pub few : f.read ≤ STREAM_LIMIT
   pub live : f.live ≡ after f.table fetch.given
-  pub lawful : f.live.bad ≡ None
+  pub lawful : f.live.lawless ≡ None
   pub all_told : f.told ≡ length f.live.progress.acts
   pub wrote : Took start now (act_lines f.head f.live.progress.acts)
 
@@ -110,6 +110,7 @@ Closes f before now old new (Ok done) =
     (time : ℕ) × (outcome f.live ≡ Ok time) × Took old new (closed_line time) × (now ≡ before)
 Closes f before now old new (Err Sink) =
     Rose before now × ((time : ℕ) × (outcome f.live ≡ Ok time) × TookPrefix old new (closed_line time))
-Closes f before now old new (Err (Refused (Lawless bad))) = (outcome f.live ≡ Err bad) × (new ≡ old) × (now ≡ before)
+Closes f before now old new (Err (Refused (Lawless lawless))) =
+    (outcome f.live ≡ Err lawless) × (new ≡ old) × (now ≡ before)
 Closes f before now old new (Err (Refused Long)) = ⊥
 Closes f before now old new (Err Shelf) = ⊥

@@ -13,7 +13,7 @@ live_of l = record {
   time = l.time;
   rest = l.rest.items;
   closed = l.closed;
-  bad = l.bad;
+  lawless = l.lawless;
 }
 
 -- There is room for a record, and the bytes so far aren't a whole one. The last turn was before the time of the next
@@ -21,4 +21,4 @@ live_of l = record {
 pub record IsReady (l : Inside) : Type 0 where
   pub part : vec_len l.rest < 14
   pub room : 14 ≤ vec_capacity l.rest
-  pub later : l.bad ≡ None → l.closed ≡ false → is_after l.progress.dispatcher.last l.time ≡ true
+  pub later : l.lawless ≡ None → l.closed ≡ false → is_after l.progress.dispatcher.last l.time ≡ true

@@ -31,14 +31,14 @@ record_of bytes = record {
   value = slice_index bytes 13;
 }
 
--- A record's kind is unlawful if the kind is above 2, the value byte is above 1, a close has other numbers than 0, or a
+-- A record's kind is lawless if the kind is above 2, the value byte is above 1, a close has other numbers than 0, or a
 -- message's frame has a value.
 
 -- whether all other numbers of a record are 0, as those of a close must be
 abbrev pub is_plain : Record → Bool
 is_plain r = (r.item == 0) && (r.number == 0) && (r.value == 0)
 
--- whether a record's kind is unlawful
+-- whether a record's kind is lawless
 abbrev pub is_unkind : NodeTable → Record → Bool
 is_unkind table r = nat_lt 2 r.kind || nat_lt 1 r.value || ((r.kind == 2) && not (is_plain r))
     || ((r.kind == 0) && nat_lt r.item table.first_broadcast && (r.value == 1))

@@ -1,4 +1,4 @@
--- One node on a stream of records: what it does, and which record is the first unlawful one.
+-- One node on a stream of records: what it does, and which record is the first lawless one.
 use Rattle.std.specs.Prelude.{ℕ, zero, suc, ◌+◌, ◌-◌, ◌^◌, min, Bool, true, false, not, ◌&&◌, ◌||◌, nat_lt, nat_le}
 use Rattle.std.specs.Prelude.{if◌then◌else◌, List, [], ◌++◌, Option, Some, None, is_some, is_none, fold, length, Result}
 use Rattle.std.specs.Prelude.{Ok, Err}
@@ -8,9 +8,10 @@ use Rattle.cpg_node.specs.Dispatcher.{acts_of_turn, hear, is_strange, finished, 
 use Rattle.cpg_node.specs.State.{running_of, time_of}
 use Rattle.cpg_live.specs.declared.event.Event.{Event}
 use Rattle.cpg_live.specs.declared.event.Event.TheVariants.{Frame as Arrival, End as Ending, Close}
-use Rattle.cpg_live.specs.declared.bad.Bad.{Bad}
-use Rattle.cpg_live.specs.declared.bad.Why.{Why}
-use Rattle.cpg_live.specs.declared.bad.Why.TheVariants.{Length, Kind, Order, Frame as StrangeFrame, End as FalseEnd}
+use Rattle.cpg_live.specs.declared.lawless.LawlessRecord.{LawlessRecord}
+use Rattle.cpg_live.specs.declared.lawless.Defect.{Defect}
+use Rattle.cpg_live.specs.declared.lawless.Defect.TheVariants.{Length, Kind, Order, Frame as StrangeFrame}
+use Rattle.cpg_live.specs.declared.lawless.Defect.TheVariants.{End as FalseEnd}
 use Rattle.cpg_live.specs.Records.{Cut, cut, record_of, event_of}
 
 -- a node, and the acts of all its turns, in order
@@ -52,16 +53,16 @@ turns_below (suc count) limit p = turns_below count limit (turn_below limit p)
 abbrev pub turned : ℕ → NodeProgress → NodeProgress
 turned limit p = turns_below limit limit p
 
--- What an event does, and when it is unlawful. The turns that came before it are kept.
+-- What an event does, and when it is lawless. The turns that came before it are kept.
 
 -- where a node is after an event, and what is wrong with the event, if anything
 pub record Step : Type 0 where
   pub progress : NodeProgress
-  pub fault : Option Why
+  pub fault : Option Defect
 
--- the step of an unlawful event
-abbrev pub faulty : NodeProgress → Why → Step
-faulty p why = record { progress = p; fault = Some why }
+-- the step of an lawless event
+abbrev pub faulty : NodeProgress → Defect → Step
+faulty p defect = record { progress = p; fault = Some defect }
 
 -- the step of a lawful event
 abbrev pub lawful : NodeProgress → Step
@@ -111,16 +112,16 @@ pub record LiveState : Type 0 where
   pub rest : List ℕ
   -- whether a close was taken
   pub closed : Bool
-  -- the first unlawful record, and why it is
-  pub bad : Option Bad
+  -- the first lawless record, and why it is
+  pub lawless : Option LawlessRecord
 
 -- a node before the first byte of its stream
 abbrev pub open_stream : NodeTable → LiveState
-open_stream table = record { progress = start table; taken = 0; time = 0; rest = []; closed = false; bad = None }
+open_stream table = record { progress = start table; taken = 0; time = 0; rest = []; closed = false; lawless = None }
 
--- the next record is unlawful
-abbrev pub refused : LiveState → Why → LiveState
-refused s why = record s { bad = Some (record { index = s.taken; why = why }) }
+-- the next record is lawless
+abbrev pub refused : LiveState → Defect → LiveState
+refused s defect = record s { lawless = Some (record { index = s.taken; defect = defect }) }
 
 -- whether an event closes the stream
 abbrev pub is_close : Event → Bool
@@ -133,9 +134,9 @@ abbrev pub take : LiveState → ℕ → Event → LiveState
 take s time event = record s { taken = min (s.taken + 1) (2 ^ 64 - 1); time = time; closed = is_close event }
 
 -- the state after a record, by what is wrong with it, if anything
-abbrev pub settled : LiveState → ℕ → Event → Option Why → LiveState
+abbrev pub settled : LiveState → ℕ → Event → Option Defect → LiveState
 settled s time event None = take s time event
-settled s time event (Some why) = refused s why
+settled s time event (Some defect) = refused s defect
 
 -- the state after a record of a lawful kind and time
 abbrev pub stepped : LiveState → ℕ → Event → Step → LiveState
@@ -147,14 +148,14 @@ judged s time None = refused s Kind
 judged s time (Some event) = if nat_lt time s.time then refused s Order
     else stepped s time event (step time event s.progress)
 
--- The state after one more record. After an unlawful record nothing changes, and after a close any record is unlawful.
+-- The state after one more record. After an lawless record nothing changes, and after a close any record is lawless.
 abbrev pub take_record : LiveState → List ℕ → LiveState
-take_record s bytes = if is_some s.bad then s else if s.closed then refused s Length
+take_record s bytes = if is_some s.lawless then s else if s.closed then refused s Length
     else judged s (record_of bytes).time (event_of s.progress.dispatcher.table (record_of bytes))
 
 -- the state with the bytes of the next record so far; after a close there may be none
 abbrev pub with_rest : LiveState → List ℕ → LiveState
-with_rest s rest = if is_some s.bad then s else if s.closed && nat_lt 0 (length rest) then refused s Length
+with_rest s rest = if is_some s.lawless then s else if s.closed && nat_lt 0 (length rest) then refused s Length
     else record s { rest = rest }
 
 -- the state after whole records, with the bytes of the next one so far
@@ -166,15 +167,15 @@ abbrev pub after : NodeTable → List ℕ → LiveState
 after table bytes = after_cut table (cut bytes)
 
 -- the answer when bytes are fed
-abbrev pub answer_of : Option Bad → Result Unit Bad
+abbrev pub answer_of : Option LawlessRecord → Result Unit LawlessRecord
 answer_of None = Ok tt
-answer_of (Some bad) = Err bad
+answer_of (Some lawless) = Err lawless
 
--- how a stream ends in a state, by its first unlawful record, if there is one
-abbrev pub outcome_if : LiveState → Option Bad → Result ℕ Bad
-outcome_if s (Some bad) = Err bad
-outcome_if s None = if s.closed then Ok s.time else Err (record { index = s.taken; why = Length })
+-- how a stream ends in a state, by its first lawless record, if there is one
+abbrev pub outcome_if : LiveState → Option LawlessRecord → Result ℕ LawlessRecord
+outcome_if s (Some lawless) = Err lawless
+outcome_if s None = if s.closed then Ok s.time else Err (record { index = s.taken; defect = Length })
 
--- how a stream ends in a state: with the time of its close, or with its first unlawful record
-abbrev pub outcome : LiveState → Result ℕ Bad
-outcome s = outcome_if s s.bad
+-- how a stream ends in a state: with the time of its close, or with its first lawless record
+abbrev pub outcome : LiveState → Result ℕ LawlessRecord
+outcome s = outcome_if s s.lawless

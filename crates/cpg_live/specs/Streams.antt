@@ -8,9 +8,9 @@ use Rattle.cpg_io.specs.Sink.{TookPrefix}
 use Rattle.cpg_head.specs.Head.{Head}
 use Rattle.cpg_table.specs.Table.{NodeTable}
 use Rattle.cpg_node.specs.Dispatcher.{Act}
-use Rattle.cpg_live.specs.declared.bad.Bad.{Bad}
-use Rattle.cpg_live.specs.declared.bad.Why.{Why}
-use Rattle.cpg_live.specs.declared.bad.Why.TheVariants.{Length, Kind, Order, Frame, End}
+use Rattle.cpg_live.specs.declared.lawless.LawlessRecord.{LawlessRecord}
+use Rattle.cpg_live.specs.declared.lawless.Defect.{Defect}
+use Rattle.cpg_live.specs.declared.lawless.Defect.TheVariants.{Length, Kind, Order, Frame, End}
 use Rattle.cpg_live.specs.Stream.{LiveState, after, outcome}
 use Rattle.cpg_label.specs.Labels.{head_labels}
 use Rattle.cpg_label.specs.ItemText.{item_of, done_text}
@@ -31,16 +31,16 @@ abbrev pub closed_line : ℕ → List ℕ
 closed_line time = codes "closed " ++ decimal time ++ codes "\n"
 
 -- what is wrong with a record
-abbrev pub why_text : Why → List ℕ
-why_text Length = codes "length"
-why_text Kind = codes "kind"
-why_text Order = codes "order"
-why_text Frame = codes "frame"
-why_text End = codes "end"
+abbrev pub defect_text : Defect → List ℕ
+defect_text Length = codes "length"
+defect_text Kind = codes "kind"
+defect_text Order = codes "order"
+defect_text Frame = codes "frame"
+defect_text End = codes "end"
 
 -- why a stream is rejected
 abbrev pub fault_text : StreamFault → List ℕ
-fault_text (Lawless bad) = codes "21 stream " ++ decimal bad.index ++ codes " " ++ why_text bad.why
+fault_text (Lawless lawless) = codes "21 stream " ++ decimal lawless.index ++ codes " " ++ defect_text lawless.defect
 fault_text Long = codes "16 long stream"
 
 -- the line of a stream that is rejected
@@ -51,15 +51,15 @@ fault_line fault = codes "cpgc: refused " ++ fault_text fault ++ codes "\n"
 abbrev pub read_part : List ℕ → List ℕ
 read_part bytes = take (STREAM_LIMIT + 1) bytes
 
--- the close of a stream, or its first unlawful record
-abbrev pub end_by : Result ℕ Bad → Result ℕ StreamFault
+-- the close of a stream, or its first lawless record
+abbrev pub end_by : Result ℕ LawlessRecord → Result ℕ StreamFault
 end_by (Ok time) = Ok time
-end_by (Err bad) = Err (Lawless bad)
+end_by (Err lawless) = Err (Lawless lawless)
 
--- How a stream ends in a state after this many bytes. If no record was unlawful, more bytes than the limit are too
+-- How a stream ends in a state after this many bytes. If no record was lawless, more bytes than the limit are too
 -- many.
 abbrev pub end_of : LiveState → ℕ → Result ℕ StreamFault
-end_of s count = if is_none s.bad && nat_lt STREAM_LIMIT count then Err Long else end_by (outcome s)
+end_of s count = if is_none s.lawless && nat_lt STREAM_LIMIT count then Err Long else end_by (outcome s)
 
 -- how a stream of these bytes ends: the time of its close, or why it is rejected
 abbrev pub stream_end : NodeTable → List ℕ → Result ℕ StreamFault
@@ -70,7 +70,7 @@ abbrev pub close_of : Result ℕ StreamFault → List ℕ
 close_of (Ok time) = closed_line time
 close_of (Err fault) = []
 
--- All lines of a stream: those of the acts for the records before the first unlawful one and, if the stream is lawful
+-- All lines of a stream: those of the acts for the records before the first lawless one and, if the stream is lawful
 -- to its end, that of its close.
 abbrev pub stream_lines : Head → NodeTable → List ℕ → List ℕ
 stream_lines h table bytes =
@@ -88,26 +88,26 @@ pub record IsClosed (h : Head) (table : NodeTable) (fetch : Fetch) (lines : List
 -- A stream is too long: as many records as the limit allows are lawful, none of them is a close, and another byte came.
 pub record IsTooLong (table : NodeTable) (bytes : List ℕ) : Type 0 where
   pub more : STREAM_LIMIT < length bytes
-  pub lawful : (after table (read_part bytes)).bad ≡ None
+  pub lawful : (after table (read_part bytes)).lawless ≡ None
   pub taken : (after table (read_part bytes)).taken ≡ 16777216
   pub not_closed : (after table (read_part bytes)).closed ≡ false
 
 -- A stream is rejected because of the bytes that came; these are the lines of the records before. The bytes have an
--- unlawful record, are too many, or are all that there are.
+-- lawless record, are too many, or are all that there are.
 pub record IsRefused (h : Head) (table : NodeTable) (fetch : Fetch) (fault : StreamFault)
     (lines : List ℕ) : Type 0 where
   pub sound : fetch.failed ≡ false
   pub few : length fetch.given ≤ STREAM_LIMIT + 1
   pub ends : stream_end table fetch.given ≡ Err fault
   pub long : fault ≡ Long → IsTooLong table fetch.given
-  pub all : fault ≢ Long → (after table fetch.given).bad ≡ None → fetch.ended ≡ true
+  pub all : fault ≢ Long → (after table fetch.given).lawless ≡ None → fetch.ended ≡ true
   pub spelled : lines ≡ stream_lines h table fetch.given
 
 -- the shelf met a fault; the records of the bytes that came before it are all lawful, and these are their lines
 pub record IsLawfulSoFar (h : Head) (table : NodeTable) (fetch : Fetch) (lines : List ℕ) : Type 0 where
   pub failed : fetch.failed ≡ true
   pub few : length fetch.given ≤ STREAM_LIMIT
-  pub lawful : (after table fetch.given).bad ≡ None
+  pub lawful : (after table fetch.given).lawless ≡ None
   pub spelled : lines ≡ act_lines h (after table fetch.given).progress.acts
 
 -- A proper prefix of all lines of the bytes that came was written. It has a part of the close's line only if the bytes

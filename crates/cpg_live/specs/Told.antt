@@ -6,7 +6,7 @@ use Rattle.cpg_node.specs.Dispatcher.{due_reports, turn, acts_of_turn}
 use Rattle.cpg_node.specs.State.{MayFinish}
 use Rattle.cpg_live.specs.declared.event.Event.{Event}
 use Rattle.cpg_live.specs.declared.event.Event.TheVariants.{Frame as Arrival, End as Ending, Close}
-use Rattle.cpg_live.specs.declared.bad.Why.{Why}
+use Rattle.cpg_live.specs.declared.lawless.Defect.{Defect}
 use Rattle.cpg_live.specs.Stream.{NodeProgress, Step, lawful, step, turned}
 
 -- the event of a report, at its time
@@ -18,9 +18,9 @@ abbrev pub frame_event : ℕ → Frame → ℕ × Event
 frame_event time f = (time, Arrival f)
 
 -- the step of one more event, if all before it were lawful
-abbrev pub follow_if : Step → ℕ × Event → Option Why → Step
+abbrev pub follow_if : Step → ℕ × Event → Option Defect → Step
 follow_if s e None = step e.0 e.1 s.progress
-follow_if s e (Some why) = s
+follow_if s e (Some defect) = s
 
 -- the step of one more event
 abbrev pub follow_one : Step → ℕ × Event → Step

@@ -3,10 +3,10 @@ ghost use Rattle.std.specs.Prelude.{◌≡◌, ◌+◌, ◌*◌, ◌≤◌, ◌+
 ghost use Rattle.std.specs.Vec.{vec_len, vec_capacity};
 ghost use Rattle.cpg_label.specs.ItemText.{item_of, done_text};
 ghost use Rattle.cpg_label.specs.Labels.{condition_name, head_labels, process_name};
-ghost use Rattle.cpg_live.specs.Streams.{act_line, act_lines, closed_line, fault_line, fault_text, why_text};
+ghost use Rattle.cpg_live.specs.Streams.{act_line, act_lines, closed_line, fault_line, fault_text, defect_text};
 
 use crate::following::StreamFault;
-use crate::{Bad, Why};
+use crate::{Defect, LawlessRecord};
 use cpg_base::Item;
 use cpg_head::Head;
 use cpg_label::{append, append_number, item_among};
@@ -109,16 +109,16 @@ pub fn append_closed(out: &mut Vec<u8>, time: u64)
 }
 
 /// What is wrong with a record, as text.
-fn why_text(why: Why) -> &'static [u8]
-    ensures text { result.now ≡ why_text why }
+fn defect_text(defect: Defect) -> &'static [u8]
+    ensures text { result.now ≡ defect_text defect }
     ensures few { length result.now ≤ 6 }
 {
-    match why {
-        Why::Length => b"length",
-        Why::Kind => b"kind",
-        Why::Order => b"order",
-        Why::Frame => b"frame",
-        Why::End => b"end",
+    match defect {
+        Defect::Length => b"length",
+        Defect::Kind => b"kind",
+        Defect::Order => b"order",
+        Defect::Frame => b"frame",
+        Defect::End => b"end",
     }
 }
 
@@ -130,11 +130,11 @@ fn append_fault(out: &mut Vec<u8>, fault: StreamFault)
     ensures room { vec_capacity out.old ≤ vec_capacity out.new }
 {
     match fault {
-        StreamFault::Lawless(bad) => {
+        StreamFault::Lawless(lawless) => {
             append(out, b"21 stream ");
-            append_number(out, bad.index);
+            append_number(out, lawless.index);
             append(out, b" ");
-            append(out, why_text(bad.why));
+            append(out, defect_text(lawless.defect));
         }
         StreamFault::Long => append(out, b"16 long stream"),
     }

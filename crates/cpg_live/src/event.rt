@@ -25,7 +25,7 @@ fn is_plain(read: &Record) -> bool
     read.item == 0 && read.number == 0 && read.value == 0
 }
 
-/// Whether the kind of a record is unlawful on the node of a table.
+/// Whether the kind of a record is lawless on the node of a table.
 fn is_unkind(table: &NodeTable, read: &Record) -> bool
     ensures { result ≡ is_unkind table.now read.now }
 {

@@ -13,7 +13,7 @@ ghost use Rattle.cpg_live.specs.Streams.{act_lines, closed_line, fault_line};
 
 use crate::act_lines::{MOST_LINE, append_acts, append_closed, append_refused};
 use crate::progress::count_entries;
-use crate::{Bad, Live};
+use crate::{LawlessRecord, Live};
 use cpg_base::OutOfMemory;
 use cpg_head::Head;
 use cpg_io::{Failed, Shelf, Sink, write_all};
@@ -34,7 +34,7 @@ pub fn stream_limit_is_this()
 #[derive(Clone, Copy, Debug, PartialEq, Eq)]
 pub enum StreamFault {
     /// Its first lawless record, which is the awaited one if it ends without a close.
-    Lawless(Bad),
+    Lawless(LawlessRecord),
     /// It has more than 16,777,216 records, of which the first 16,777,216 are lawful and none is a close.
     Long,
 }
@@ -54,7 +54,7 @@ pub enum Broken {
 #[derive(Clone, Copy, Debug, PartialEq, Eq)]
 struct Fed {
     count: usize,
-    bad: Option<Bad>,
+    lawless: Option<LawlessRecord>,
 }
 
 /// A node of a pack that follows a stream, with room for the lines of all that it can do. It is seen as the pack's head,
@@ -118,7 +118,7 @@ impl Follower {
         ensures access { SameAccess (S.may_fetch shelf.old) (S.may_fetch shelf.new) }
         ensures rest { LeavesRest (S.state shelf.old) → LeavesRest (S.state shelf.new) }
         ensures piece { IfOk result (λ fed. TakesPiece (S.state shelf.old) (S.state shelf.new) self.old self.new fed.count) }
-        ensures bad { IfOk result (λ fed. fed.bad ≡ self.new.live.bad) }
+        ensures lawless { IfOk result (λ fed. fed.lawless ≡ self.new.live.lawless) }
         ensures failed { OnErr result ((S.state shelf.new).history ≡ failed (S.state shelf.old).history) }
         ensures same { OnErr result (self.new ≡ self.old) }
         ensures cause { HasCause (S.state shelf.old).faults (S.state shelf.new).faults result }
@@ -127,15 +127,15 @@ impl Follower {
         let most = buffer.len().min(STREAM_LIMIT + 1 - self.read);
         let piece = &mut buffer[..most];
         let count = shelf.read(piece)?;
-        let bad = match self.live.feed(&piece[..count]) {
+        let lawless = match self.live.feed(&piece[..count]) {
             Ok(()) => None,
-            Err(bad) => Some(bad),
+            Err(lawless) => Some(lawless),
         };
         self.read += count;
-        Ok(Fed { count, bad })
+        Ok(Fed { count, lawless })
     }
 
-    /// Writes the lines of the acts that haven't been written yet, in one write.
+    /// Writes the lines of the acts that haven't been written yet, all of them before anything is read.
     fn tell<O: Sink>(&mut self, out: &mut O) -> Result<(), Failed>
         ensures whole { OnOk result (Took (O.state out.old).taken (O.state out.new).taken
             (act_lines self.old.head (drop self.old.told self.old.live.progress.acts))) }
@@ -182,8 +182,8 @@ impl Follower {
             return Err(Broken::Sink);
         }
         // the lines of the acts before the lawless record are written already
-        if let Some(bad) = fed.bad {
-            return Err(Broken::Refused(StreamFault::Lawless(bad)));
+        if let Some(lawless) = fed.lawless {
+            return Err(Broken::Refused(StreamFault::Lawless(lawless)));
         }
         // all records up to the limit are lawful, and more bytes follow
         if self.read > STREAM_LIMIT {
@@ -205,13 +205,13 @@ impl Follower {
     }
 
     /// Closes a stream that has no more bytes: writes the line of its close.
-    pub fn end<O: Sink>(&mut self, out: &mut O) -> Result<(), Broken>
+    pub fn close<O: Sink>(&mut self, out: &mut O) -> Result<(), Broken>
         ensures same { self.new ≡ self.old }
         ensures closes { Closes self.old (O.state out.old).faults (O.state out.new).faults (O.state out.old).taken (O.state out.new).taken result }
     {
         let time = match self.live.closed() {
             Ok(time) => time,
-            Err(bad) => return Err(Broken::Refused(StreamFault::Lawless(bad))),
+            Err(lawless) => return Err(Broken::Refused(StreamFault::Lawless(lawless))),
         };
         match self.write_close(time, out) {
             Ok(()) => Ok(()),

@@ -7,16 +7,16 @@ ghost use Rattle.cpg_live.specs.Spelling.{BytesSpellEvents};
 ghost use Rattle.cpg_live.specs.Told.{ClosesAreFollowed, TurnsAreFollowed};
 
 mod act_lines;
-mod bad;
 mod ending;
 mod event;
 mod following;
+mod lawless;
 mod live;
 mod progress;
 mod reading;
 
-pub use bad::{Bad, Why};
 pub use following::{Broken, Follower, STREAM_LIMIT, StreamFault, stream_limit_is_this};
+pub use lawless::{Defect, LawlessRecord};
 pub use live::Live;
 
 /// A node that takes no more turns than it must does the same on each stream. These turns are at the times of its columns and

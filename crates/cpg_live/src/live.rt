@@ -9,7 +9,7 @@ ghost use Rattle.cpg_live.specs.Laws.{Feeds, Grows};
 use crate::event::{Event, event_of, is_close};
 use crate::progress::NodeProgress;
 use crate::reading::{RECORD_SIZE, Record, read_record};
-use crate::{Bad, Why};
+use crate::{Defect, LawlessRecord};
 use cpg_base::OutOfMemory;
 use cpg_node::Act;
 use cpg_table::NodeTable;
@@ -18,7 +18,7 @@ use std::marker::Model;
 
 /// One node on a stream of records (docs/FORMATS.md) that comes in pieces. It is seen as the node's state, the acts so far, the
 /// number of records taken, the time of the last one, the bytes of the next one so far, whether a close was taken, and the
-/// first unlawful record, if there is one.
+/// first lawless record, if there is one.
 #[derive(Drop)]
 pub struct Live {
     progress: NodeProgress,
@@ -26,7 +26,7 @@ pub struct Live {
     time: u64,
     rest: Vec<u8>,
     closed: bool,
-    bad: Option<Bad>,
+    lawless: Option<LawlessRecord>,
 }
 
 impl Model for Live {
@@ -54,7 +54,7 @@ impl Live {
             time: 0,
             rest,
             closed: false,
-            bad: None,
+            lawless: None,
         })
     }
 
@@ -66,33 +66,33 @@ impl Live {
     }
 
     /// The time of the close, in time units of the graph file, if the stream is lawful and ends here. Otherwise the first
-    /// unlawful record. If no record is unlawful and no close was taken, that is the next record.
-    pub fn closed(&self) -> Result<u64, Bad>
+    /// lawless record. If no record is lawless and no close was taken, that is the next record.
+    pub fn closed(&self) -> Result<u64, LawlessRecord>
         ensures { result ≡ outcome self.now }
     {
-        if let Some(bad) = self.bad {
-            return Err(bad);
+        if let Some(lawless) = self.lawless {
+            return Err(lawless);
         }
         if self.closed {
             return Ok(self.time);
         }
-        Err(Bad {
+        Err(LawlessRecord {
             index: self.taken,
-            why: Why::Length,
+            defect: Defect::Length,
         })
     }
 
-    /// Takes the next bytes of the stream: all records that they complete, up to the first unlawful one, which is the answer
+    /// Takes the next bytes of the stream: all records that they complete, up to the first lawless one, which is the answer
     /// from then on. It doesn't matter how the stream is cut into pieces.
-    pub fn feed(&mut self, piece: &[u8]) -> Result<(), Bad>
+    pub fn feed(&mut self, piece: &[u8]) -> Result<(), LawlessRecord>
         ensures whole { Feeds self.old piece.now self.new }
         ensures grows { Grows self.old.progress.acts self.new.progress.acts }
-        ensures answer { result ≡ answer_of self.new.bad }
-        ensures kept { IfSome self.old.bad (λ _. self.new ≡ self.old) }
+        ensures answer { result ≡ answer_of self.new.lawless }
+        ensures kept { IfSome self.old.lawless (λ _. self.new ≡ self.old) }
     {
         self.take_bytes(piece);
-        match self.bad {
-            Some(bad) => Err(bad),
+        match self.lawless {
+            Some(lawless) => Err(lawless),
             None => Ok(()),
         }
     }
@@ -110,13 +110,13 @@ impl Live {
     fn take_byte(&mut self, byte: u8)
         ensures { self.new ≡ take_byte self.old byte }
     {
-        // after an unlawful record nothing more is taken
-        if self.bad.is_some() {
+        // after an lawless record nothing more is taken
+        if self.lawless.is_some() {
             return;
         }
         // a byte after the close
         if self.closed {
-            self.refuse(Why::Length);
+            self.refuse(Defect::Length);
             return;
         }
         self.rest.push_reserved(byte);
@@ -127,22 +127,22 @@ impl Live {
         }
     }
 
-    /// Notes that the next record is unlawful.
-    fn refuse(&mut self, why: Why)
-        ensures { self.new ≡ refused self.old why }
+    /// Notes that the next record is lawless.
+    fn refuse(&mut self, defect: Defect)
+        ensures { self.new ≡ refused self.old defect }
     {
         let index = self.taken;
-        self.bad = Some(Bad { index, why });
+        self.lawless = Some(LawlessRecord { index, defect });
     }
 
-    /// Takes a record of a lawful kind and time, unless it is unlawful after the turns that come first.
+    /// Takes a record of a lawful kind and time, unless it is lawless after the turns that come first.
     fn take(&mut self, time: u64, event: Event)
         requires { is_after self.old.progress.dispatcher.last time ≡ true }
         ensures { self.new ≡ stepped self.old time event (step time event self.old.progress) }
     {
-        if let Some(why) = self.progress.step(time, event) {
+        if let Some(defect) = self.progress.step(time, event) {
             let index = self.taken;
-            self.bad = Some(Bad { index, why });
+            self.lawless = Some(LawlessRecord { index, defect });
             return;
         }
         self.taken = self.taken.saturating_add(1);
@@ -150,19 +150,19 @@ impl Live {
         self.closed = is_close(&event);
     }
 
-    /// Takes a record, unless it is unlawful.
+    /// Takes a record, unless it is lawless.
     fn judge(&mut self, told: Record)
         requires open { self.old.closed ≡ false }
-        requires lawful { self.old.bad ≡ None }
+        requires lawful { self.old.lawless ≡ None }
         ensures { self.new ≡ judged self.old told.time (event_of self.old.progress.dispatcher.table told) }
     {
         let Some(event) = event_of(self.progress.table(), &told) else {
-            self.refuse(Why::Kind);
+            self.refuse(Defect::Kind);
             return;
         };
         // the time of a record is no earlier than that of the one before
         if told.time < self.time {
-            self.refuse(Why::Order);
+            self.refuse(Defect::Order);
             return;
         }
         self.take(told.time, event);

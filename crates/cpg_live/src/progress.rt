@@ -6,7 +6,7 @@ ghost use Rattle.cpg_node.specs.Instants.{instants_left};
 ghost use Rattle.cpg_live.specs.Feeding.{IsTurned, AreFewTurns};
 ghost use Rattle.cpg_live.specs.Stream.{start, take_turn, instant_below, turned, step, arrived, ended};
 
-use crate::Why;
+use crate::Defect;
 use crate::ending::{count_within, may_end};
 use crate::event::Event;
 use cpg_base::OutOfMemory;
@@ -80,7 +80,7 @@ impl NodeProgress {
         if time > last { None } else { Some(time) }
     }
 
-    /// Takes the turn of the next instant. Only the contract uses `time`.
+    /// Takes the turn of the next instant. The contract alone names `time`.
     fn take_turn(&mut self, time: u64)
         requires { next self.old.dispatcher ≡ Some time }
         ensures turn { self.new ≡ take_turn time self.old }
@@ -111,25 +111,25 @@ impl NodeProgress {
     }
 
     /// Takes a frame that arrives at a time.
-    fn arrive(&mut self, time: u64, frame: Frame) -> Option<Why>
+    fn arrive(&mut self, time: u64, frame: Frame) -> Option<Defect>
         ensures progress { self.new ≡ (arrived time frame self.old).progress }
         ensures fault { result ≡ (arrived time frame self.old).fault }
     {
         match self.node.hear(time, frame) {
             Ok(()) => None,
-            Err(_) => Some(Why::Frame),
+            Err(_) => Some(Defect::Frame),
         }
     }
 
     /// Takes the end of an execution of a process with this many faults.
-    fn end(&mut self, time: u64, process: u32, number: u16, value: bool) -> Option<Why>
+    fn end(&mut self, time: u64, process: u32, number: u16, value: bool) -> Option<Defect>
         requires before { IsTurned self.old.dispatcher time }
         requires after { is_after self.old.dispatcher.last time ≡ true }
         ensures progress { self.new ≡ (ended time (record { process = process; faults = number; value = value }) self.old).progress }
         ensures fault { result ≡ (ended time (record { process = process; faults = number; value = value }) self.old).fault }
     {
         let Some(faults) = count_within(number, self.node.table().faults()) else {
-            return Some(Why::End);
+            return Some(Defect::End);
         };
         let report = Ended {
             process,
@@ -137,14 +137,14 @@ impl NodeProgress {
             value,
         };
         if !may_end(&self.node, time, &report) {
-            return Some(Why::End);
+            return Some(Defect::End);
         }
         self.node.finished(time, report);
         None
     }
 
     /// Takes the turns that come before an event at a time, and then the event, unless it is lawless.
-    pub fn step(&mut self, time: u64, event: Event) -> Option<Why>
+    pub fn step(&mut self, time: u64, event: Event) -> Option<Defect>
         requires { is_after self.old.dispatcher.last time ≡ true }
         ensures progress { self.new ≡ (step time event self.old).progress }
         ensures fault { result ≡ (step time event self.old).fault }

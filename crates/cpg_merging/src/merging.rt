@@ -134,29 +134,29 @@ fn settled(alloc: Global, problem: &Problem, listing: Listing) -> Result<Listing
     }
 }
 
-/// The columns of a row that have the times of the entries in every scenario of at most as many faults as the problem
+/// The columns of a row that have the times of the given ones in every scenario of at most as many faults as the problem
 /// has, and are as few as can be: no two of them have one time, equal ranges of all variables but one, and ranges of that
-/// one which touch. Each column's ranges contain those of the entries that match together with it. No literal has the
+/// one which touch. Each column's ranges contain those of the given ones that match together with it. No literal has the
 /// whole range of its variable, and the columns stand by the least scenario that they match along the order.
 ///
-/// Each entry must match some scenario, and no scenario two of them; their literals must be on variables of the problem
+/// Each given column must match some scenario, and no scenario two of them; their literals must be on variables of the problem
 /// and within their ranges. The one error is `OutOfMemory`.
 pub fn merged(
     alloc: Global,
     problem: &Problem,
     order: &Order,
-    entries: Vec<Column>,
+    columns: Vec<Column>,
 ) -> Result<Vec<Column>, OutOfMemory>
     requires order { IsPermutation (numbers_below (process_count problem.now)) order.now }
-    requires entries { AreMergeable problem.now entries.items }
-    ensures { IfOk result (λ r. IsMergeOf problem.now order.now entries.items r.items) }
+    requires columns { AreMergeable problem.now columns.items }
+    ensures { IfOk result (λ r. IsMergeOf problem.now order.now columns.items r.items) }
 {
-    let columns = shorn_columns(alloc, problem.faults(), entries)?;
-    let listing = settled(alloc, problem, unsorted(columns))?;
+    let shorn = shorn_columns(alloc, problem.faults(), columns)?;
+    let listing = settled(alloc, problem, unsorted(shorn))?;
     listing.sorted(alloc, problem, order)
 }
 
-/// What `merged` returns for entries of which no literal has the whole range of its variable. If they are known to
+/// What `merged` returns for columns of which no literal has the whole range of its variable. If they are known to
 /// stand by the least scenario that they match, and no two may touch at any variable, they aren't sorted.
 pub fn merged_tidy(
     alloc: Global,
@@ -165,7 +165,7 @@ pub fn merged_tidy(
     listing: Listing,
 ) -> Result<Vec<Column>, OutOfMemory>
     requires order { IsPermutation (numbers_below (process_count problem.now)) order.now }
-    requires entries { AreMergeable problem.now listing.columns.items }
+    requires columns { AreMergeable problem.now listing.columns.items }
     requires tidy { HaveNoWhole problem.now.faults listing.columns.items }
     requires sorted { OnTrue listing.is_sorted (AreByLows (λ c. c.cube) problem.now order.now listing.columns.items) }
     ensures { IfOk result (λ r. IsMergeOf problem.now order.now listing.columns.items r.items) }

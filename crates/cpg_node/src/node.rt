@@ -161,8 +161,8 @@ impl Node {
         }
     }
 
-    /// Notes an execution that ended at a time, maybe early. Its report is kept until its planned end. Only the contract
-    /// uses `time`.
+    /// Notes an execution that ended at a time, maybe early. Its report is kept until its planned end. The contract alone
+    /// names `time`.
     pub fn finished(&mut self, time: u64, ended: Ended)
         requires { MayFinish self.old.dispatcher time ended }
         ensures { self.new ≡ record self.old { dispatcher = finished self.old.dispatcher ended } }

@@ -118,7 +118,7 @@ pub fn time_at(times: &[u64], place: usize) -> Option<u64>
     times.get(place).copied()
 }
 
-/// The place of the first time that is later than this. The search begins at a place before which no time is later.
+/// The place of the first time that is later than this, from a place on, and the number of times if none is.
 pub fn past_times(times: &[u64], from: usize, time: u64) -> usize
     requires within { from ≤ length times.now }
     ensures within { (from ≤ result) × (result ≤ length times.now) }
@@ -136,7 +136,7 @@ pub fn past_times(times: &[u64], from: usize, time: u64) -> usize
     place
 }
 
-/// The place of the first entry that is later than this. The search begins at a place before which no entry is later.
+/// The place of the first entry that is later than this, from a place on, and the plan's length if none is.
 pub fn past_entries(plan: &[Planned], from: usize, time: u64) -> usize
     requires within { from ≤ length plan.now }
     ensures within { (from ≤ result) × (result ≤ length plan.now) }

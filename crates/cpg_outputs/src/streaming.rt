@@ -60,7 +60,7 @@ fn follow_rest<S: Shelf, O: Sink>(
     ensures later { (S.state shelf.old).faults ≤ (S.state shelf.new).faults }
 {
     match follow_pieces(follower, shelf, out) {
-        Ok(()) => follower.end(out),
+        Ok(()) => follower.close(out),
         Err(broken) => Err(broken),
     }
 }

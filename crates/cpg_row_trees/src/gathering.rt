@@ -25,8 +25,8 @@ fn add_place(place: Option<u32>, found: &mut Vec<u32>) -> Result<bool, OutOfMemo
     Ok(true)
 }
 
-/// Adds the places that scenarios of a space come to, as long as there is one and a test passes at each; false if it
-/// stopped before the last. The space is changed on the way, and is as before if it didn't stop.
+/// Adds the places that scenarios of a space come to. It stops with false as soon as there is none or a test fails, the
+/// place where it fails left out. The space is changed on the way, and is as before if all passed.
 fn gather_each<J: Test>(
     items: &[TreeItem<Option<u32>>],
     space: &mut Space,
@@ -83,7 +83,7 @@ fn gather_each<J: Test>(
     }
 }
 
-/// Does what `gather_each` does, with a space of its own to change. It is a function of its own, since that space is cleared
+/// Does what `gather_each` does, with a space of its own to change. It is a function of its own, since that space is copied
 /// at each call.
 fn gather_in_all<J: Test>(
     items: &[TreeItem<Option<u32>>],
@@ -120,8 +120,7 @@ fn gather_one<J: Test>(
     Ok(there)
 }
 
-/// Adds the places that scenarios of a space come to, as long as there is one and a test passes at each; false if it
-/// stopped before the last.
+/// Adds the places that scenarios of a space come to. It stops with false as soon as there is none or a test fails.
 pub(crate) fn gather<J: Test>(
     items: &[TreeItem<Option<u32>>],
     space: &Space,

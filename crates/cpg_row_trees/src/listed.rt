@@ -70,7 +70,8 @@ fn step_of(space: &Space, literal: Literal) -> ListedStep
     })
 }
 
-/// The top of the tree from a cube on, if the first literals, up to a depth, say who is in the space.
+/// The top of the tree from a cube on, if the first literals, up to a depth, say who is in the space. The contract alone
+/// names `k`.
 fn top_behind(k: u8, space: &Space, literals: &[Literal], depth: usize) -> ListedTop
     requires own { IsOwn k space.now (take depth literals.now) }
     requires depth { depth ≤ length literals.now }

@@ -126,7 +126,7 @@ fn do_pass_side<J: Test>(items: &[TreeItem<Option<u32>>], space: &mut Space, tes
     }
 }
 
-/// Does what `do_pass_each` does, with a space of its own to change. It is a function of its own, since that space is cleared
+/// Does what `do_pass_each` does, with a space of its own to change. It is a function of its own, since that space is copied
 /// at each call.
 fn do_pass_in_all<J: Test>(items: &[TreeItem<Option<u32>>], space: &Space, test: &J) -> bool
     requires { IsFlat items.now }

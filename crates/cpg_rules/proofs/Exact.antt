@@ -61,7 +61,7 @@ module _ (g : Graph) (senders : HasSenderSlots g) (node : ℕ) where
       go false e f = both_ways false refl e
 
 -- at most one live input is not two
-two_live : (n : ℕ) → n ≤ 1 → nat_lt 1 n ≡ true → ⊥
+pub two_live : (n : ℕ) → n ≤ 1 → nat_lt 1 n ≡ true → ⊥
 two_live n l t = let h = ltb-true 1 n t in omega arith
 
 -- an admitted graph shows no fault but that memory runs out

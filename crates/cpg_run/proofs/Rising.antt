@@ -53,7 +53,8 @@ frozen_le : (o : Option ℕ) (b : ℕ) → ((time : ℕ) → o ≡ Some time →
 frozen_le None b h = omega arith
 frozen_le (Some time) b h = let l = h time refl in omega (arith, greatest-cons time [])
 
--- what is settled before a moment is no later than this, and an item of the moment two rounds later at most
+-- What is settled before a moment is no later than this. From one moment to the next the bound grows by more than an
+-- execution takes (600000000000) or two rounds take (32000000000).
 abbrev pub bound : ℕ → ℕ → ℕ
 bound base m = base + m * 700000000000
 

@@ -1,4 +1,5 @@
--- The rows of a graph: one entry for each group of scenarios in which an item's node has the same literals, merged.
+-- The rows of a graph: one column for each group of scenarios in which an item's node has the same literals, merged.
+-- Such a column is an entry as long as it isn't merged.
 use Rattle.std.specs.Prelude.{ℕ, ◌≡◌, ◌≢◌, ◌<◌, List, Option, Some, None, length, map, get_or, Contains, AllPairs}
 use Rattle.std.specs.Prelude.{IsTrue}
 use Rattle.cpg_base.specs.Graph.{Graph, item_count, item_at}

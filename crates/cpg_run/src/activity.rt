@@ -12,7 +12,7 @@ use cpg_base::{OutOfMemory, Problem, Scenario};
 use cpg_rules::GuardTrees;
 use std::alloc::Global;
 
-/// Whether a process is active in a scenario, by the guards of an admitted graph. Only the contract uses `problem`.
+/// Whether a process is active in a scenario, by the guards of an admitted graph. The contract alone names `problem`.
 pub fn is_active(problem: &Problem, guards: &GuardTrees, scenario: &Scenario, process: u32) -> bool
     requires admitted { AreAdmitted problem.now guards.now }
     requires scenario { IsScenario problem.now scenario.now }
@@ -23,7 +23,7 @@ pub fn is_active(problem: &Problem, guards: &GuardTrees, scenario: &Scenario, pr
     active
 }
 
-/// Whether an edge is live. Only the contract uses `problem`.
+/// Whether an edge is live. The contract alone names `problem`.
 pub(crate) fn is_live(
     problem: &Problem,
     guards: &GuardTrees,
@@ -39,7 +39,7 @@ pub(crate) fn is_live(
     live
 }
 
-/// The conditions that decide a process. Only the contract uses `problem`.
+/// The conditions that decide a process. The contract alone names `problem`.
 pub(crate) fn deciding(
     alloc: Global,
     problem: &Problem,
@@ -58,7 +58,7 @@ pub(crate) fn deciding(
 }
 
 /// Whether an item that an active process may send is active: each broadcast is active, and a message is active if its
-/// edge is live. Only the contract uses `process`.
+/// edge is live. The contract alone names `process`.
 pub(crate) fn is_item_active(
     problem: &Problem,
     guards: &GuardTrees,

@@ -34,7 +34,7 @@ impl FrozenTimes {
     }
 
     /// The time of an item, and `None` exactly if none was set.
-    pub fn of(&self, item: u32) -> Option<u64>
+    pub fn time_of(&self, item: u32) -> Option<u64>
         requires { item < length self.now }
         ensures { result ≡ get_or self.now item None }
     {

@@ -207,7 +207,7 @@ pub(crate) fn frozen_time(frozen: &FrozenTimes, item: u32) -> u64
     requires { item < length frozen.now }
     ensures { result ≡ frozen_in frozen.now item }
 {
-    frozen.of(item).unwrap_or(0)
+    frozen.time_of(item).unwrap_or(0)
 }
 
 /// The start of an active process whose node is ready for it at a time.

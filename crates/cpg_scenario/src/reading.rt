@@ -148,7 +148,7 @@ fn set_lengths(problem: &Problem, document: &Table, lengths: &mut Lengths) -> bo
     ensures lengths { OnTrue result (lengths.new ≡ lengths_of problem.now (table_view document.now)) }
 {
     for process in 0..problem.processes().len() as u32 {
-        let longest = lengths.of(process);
+        let longest = lengths.length_of(process);
         let Some(length) = length_within(length_given(problem, document, process), longest) else {
             return false;
         };

@@ -12,7 +12,7 @@ use Rattle.cpg_io.specs.Sink.{TookPrefix}
 use Rattle.cpg_head.specs.Head.{Head}
 use Rattle.cpg_table.specs.Table.{NodeTable}
 use Rattle.cpg_node.specs.Dispatcher.{Act}
-use Rattle.cpg_live.specs.declared.bad.Bad.{Bad}
+use Rattle.cpg_live.specs.declared.lawless.LawlessRecord.{LawlessRecord}
 use Rattle.cpg_live.specs.Stream.{LiveState, after, outcome_if}
 use Rattle.cpg_live.specs.declared.following.StreamFault.{StreamFault}
 use Rattle.cpg_live.specs.declared.following.StreamFault.TheVariants.{Lawless, Long}
@@ -20,19 +20,22 @@ use Rattle.cpg_live.specs.declared.following.TheConstants.{STREAM_LIMIT}
 use Rattle.cpg_live.specs.Streams.{act_line, act_lines, close_of, end_by, end_of, read_part, stream_end, stream_lines}
 use Rattle.cpg_live.specs.Streams.{IsTooLong, IsClosed as IsClosedFetch, IsRefused as IsRefusedFetch}
 use Rattle.cpg_live.specs.Streams.{IsLawfulSoFar as IsLawfulFetch, IsCutOff as IsCutFetch}
-use Rattle.cpg_live.proofs.Cutting.{bad_stays}
+use Rattle.cpg_live.proofs.Cutting.{lawless_stays}
 use Rattle.cpg_live.proofs.Streams.{acts_more, after_more, not_long, took_more}
 use Rattle.cpg_shelf_laws.specs.Streams.{IsClosed, IsCutOff, IsLawfulSoFar, IsRefused}
 
-end_bad : (s : LiveState) (count : ℕ) (bad : Bad) → s.bad ≡ Some bad → end_of s count ≡ Err (Lawless bad)
-end_bad s count bad e = ap (λ o. cond (is_none o && nat_lt STREAM_LIMIT count) (Err Long) (end_by (outcome_if s o))) e
+end_lawless : (s : LiveState) (count : ℕ) (lawless : LawlessRecord) → s.lawless ≡ Some lawless →
+    end_of s count ≡ Err (Lawless lawless)
+end_lawless s count lawless e =
+    ap (λ o. cond (is_none o && nat_lt STREAM_LIMIT count) (Err Long) (end_by (outcome_if s o))) e
 
-after_bad : (table : NodeTable) (fed more : List ℕ) (bad : Bad) → (after table fed).bad ≡ Some bad →
+after_lawless : (table : NodeTable) (fed more : List ℕ) (lawless : LawlessRecord) →
+    (after table fed).lawless ≡ Some lawless →
     after table (fed ++ more) ≡ after table fed
-after_bad table fed more bad e = after_more table fed more ∙ bad_stays (after table fed) bad more e
+after_lawless table fed more lawless e = after_more table fed more ∙ lawless_stays (after table fed) lawless more e
 
-none_some : (bad : Bad) → None ≡ Some bad → ⊥
-none_some bad e = true≢false (ap is_none e)
+none_some : (lawless : LawlessRecord) → None ≡ Some lawless → ⊥
+none_some lawless e = true≢false (ap is_none e)
 
 part_of : (limit : ℕ) (fed rest : List ℕ) → length fed ≤ limit →
     take limit (fed ++ rest) ≡ fed ++ take (limit - length fed) rest
@@ -72,7 +75,7 @@ module _ (h : Head) (table : NodeTable) (f : Fetch) (whole : List ℕ) (w : IsFr
     long = λ e. let long = c.long e in record {
       more = (let m = long.more in let l = ap (λ (bytes : List ℕ). length bytes) w.front in
           let k = length-append f.given w.rest in omega (arith, m, l, k));
-      lawful = ap (λ bytes. (after table bytes).bad) same ∙ long.lawful;
+      lawful = ap (λ bytes. (after table bytes).lawless) same ∙ long.lawful;
       taken = ap (λ bytes. (after table bytes).taken) same ∙ long.taken;
       not_closed = ap (λ bytes. (after table bytes).closed) same ∙ long.not_closed;
     };
@@ -81,36 +84,38 @@ module _ (h : Head) (table : NodeTable) (f : Fetch) (whole : List ℕ) (w : IsFr
   }
 
   -- the rest comes after a lawless record
-  refused_bad : (fault : StreamFault) (lines : List ℕ) (bad : Bad) → IsRefusedFetch h table f fault lines →
-      (after table f.given).bad ≡ Some bad →
+  refused_lawless : (fault : StreamFault) (lines : List ℕ) (lawless : LawlessRecord) →
+      IsRefusedFetch h table f fault lines →
+      (after table f.given).lawless ≡ Some lawless →
       IsRefusedBy h table whole fault lines
-  refused_bad fault lines bad c e =
+  refused_lawless fault lines lawless c e =
       let state : after table (read_part whole) ≡ after table (read_part f.given) =
-      ap (after table) read_whole ∙ (after_bad table f.given _ bad e ∙ sym (ap (after table) read_given)) in
-      let bad_given : (after table (read_part f.given)).bad ≡ Some bad =
-      ap (λ bytes. (after table bytes).bad) read_given ∙ e in
+      ap (after table) read_whole ∙ (after_lawless table f.given _ lawless e ∙ sym (ap (after table) read_given)) in
+      let lawless_given : (after table (read_part f.given)).lawless ≡ Some lawless =
+      ap (λ bytes. (after table bytes).lawless) read_given ∙ e in
       let ends : stream_end table whole ≡ stream_end table f.given =
       ap (λ (s : LiveState). end_of s (length (read_part whole))) state ∙
-      (end_bad (after table (read_part f.given)) (length (read_part whole)) bad bad_given
-      ∙ sym (end_bad (after table (read_part f.given)) (length (read_part f.given)) bad bad_given)) in
+      (end_lawless (after table (read_part f.given)) (length (read_part whole)) lawless lawless_given
+      ∙ sym (end_lawless (after table (read_part f.given)) (length (read_part f.given)) lawless lawless_given)) in
       record {
         ends = ends ∙ c.ends;
-        long = λ is. absurd (none_some bad (sym (c.long is).lawful ∙ bad_given));
+        long = λ is. absurd (none_some lawless (sym (c.long is).lawful ∙ lawless_given));
         spelled = c.spelled ∙ sym (ap₂ (λ (s : LiveState) r. act_lines h s.progress.acts ++ close_of r) state ends);
       }
 
   refused_lawful : (fault : StreamFault) (lines : List ℕ) → IsRefusedFetch h table f fault lines →
-      (after table f.given).bad ≡ None →
+      (after table f.given).lawless ≡ None →
       IsRefusedBy h table whole fault lines
   refused_lawful Long lines c none = refused_same Long lines c (same_of_full (c.long refl).more)
-  refused_lawful (Lawless bad) lines c none =
-      refused_same (Lawless bad) lines c (same_of_none (w.all (c.all (not_long bad) none)))
+  refused_lawful (Lawless lawless) lines c none =
+      refused_same (Lawless lawless) lines c (same_of_none (w.all (c.all (not_long lawless) none)))
 
-  by_bad : (fault : StreamFault) (lines : List ℕ) → IsRefusedFetch h table f fault lines → (o : Option Bad) →
-      (after table f.given).bad ≡ o →
+  by_lawless : (fault : StreamFault) (lines : List ℕ) → IsRefusedFetch h table f fault lines →
+      (o : Option LawlessRecord) →
+      (after table f.given).lawless ≡ o →
       IsRefusedBy h table whole fault lines
-  by_bad fault lines c None e = refused_lawful fault lines c e
-  by_bad fault lines c (Some bad) e = refused_bad fault lines bad c e
+  by_lawless fault lines c None e = refused_lawful fault lines c e
+  by_lawless fault lines c (Some lawless) e = refused_lawless fault lines lawless c e
 
   -- a front of the lines so far is one of all lines
   cut_lines : (a b : List ℕ) → TookPrefix a b (act_lines h (after table f.given).progress.acts) →
@@ -138,7 +143,7 @@ module _ (h : Head) (table : NodeTable) (f : Fetch) where
       IsRefusedFetch h table f fault lines →
       stream_end table whole ≡ Err fault
   refused_ends whole fault lines w c =
-      (by_bad h table f whole w c.few fault lines c (after table f.given).bad refl).ends
+      (by_lawless h table f whole w c.few fault lines c (after table f.given).lawless refl).ends
 
   -- if what was given of a stream closes it, so does the whole stream, at the same time
   pub closed_ends : (whole : List ℕ) (lines : List ℕ) → IsFrontOf whole f → (c : IsClosedFetch h table f lines) →
@@ -153,7 +158,7 @@ module _ (h : Head) (table : NodeTable) (f : Fetch) where
   refused_told None fault lines w c =
       record { bytes = f.given; of = tt; ends = c.ends; long = c.long; spelled = c.spelled }
   refused_told (Some whole) fault lines w c =
-      let by = by_bad h table f whole w c.few fault lines c (after table f.given).bad refl in
+      let by = by_lawless h table f whole w c.few fault lines c (after table f.given).lawless refl in
       record { bytes = whole; of = refl; ends = by.ends; long = by.long; spelled = by.spelled }
 
   -- a stream closed by what was given is closed by what stands under its name

@@ -49,7 +49,7 @@ pub record Seen : Type 0 where
 abbrev pub seen : ShelfState → ShelfState → Seen
 seen old new = record { stands = old.stands; given = given_count new; before = old.faults; now = new.faults }
 
--- the most bytes of each kind of file
+-- the most bytes of a graph file
 abbrev pub GRAPH_LIMIT : ℕ
 GRAPH_LIMIT = limit_of GraphFile
 
@@ -140,7 +140,7 @@ pub record IsNoPack (seen : Seen) (told : Option Text) (halt : Halt) : Type 0 wh
 abbrev pub StopsPack : Seen → Option Text → Halt → Type 0
 StopsPack seen told halt = IsUnread seen halt ⊎ (IsLong PACK_LIMIT LongPack seen told halt ⊎ IsNoPack seen told halt)
 
--- a pack stops a run: its bytes spell no tables, or the command's work on the tables stops
+-- a pack stops a run: its reading stops, or the command's work on the tables does
 abbrev pub StopsTables : Seen → Option Text → (Tables → Halt → Type 0) → Halt → Type 0
 StopsTables seen told work halt = StopsPack seen told halt ⊎ ((t : Tables) × Spells told t × work t halt)
 
@@ -230,7 +230,9 @@ StopsParts seen pairs halt =
 abbrev pub IsOutOfMemory : Admission → Halt → Type 0
 IsOutOfMemory a halt = halt ≡ Memory
 
--- why a run of a command stops
+-- Why a run of each of the ten commands stops, and one of `live` before its stream is followed. `seen.given` is of the
+-- file that was fetched last, so the bounds by it say something of that file alone. Nothing is promised of any other
+-- command.
 abbrev pub StopsCommand : Seen → Command → Halt → Type 0
 StopsCommand seen (Show graph) halt =
     StopsGraph seen (seen.stands graph) (IsAfterReading seen.given GRAPH_LIMIT IsUncompiled) halt

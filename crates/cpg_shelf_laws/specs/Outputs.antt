@@ -87,7 +87,7 @@ IsUnrolledOf stands pairs text = (parts : List Part) × AreSaid stands pairs par
 abbrev pub IsTunedOf : Option Text → Text → Type 0
 IsTunedOf told text = (a : Admission) × Admits told a × IsTuningText a.graph text
 
--- a command's output, in terms of its files
+-- what each of the ten commands puts out, in terms of its files
 abbrev pub IsOutputOf : Seen → Command → Text → Type 0
 IsOutputOf seen (Show graph) text = IsMade (seen.stands graph) shown text
 IsOutputOf seen (Compile graph) text = IsMade (seen.stands graph) packed text
@@ -101,7 +101,7 @@ IsOutputOf seen (Hyper parts) text = IsUnrolledOf seen.stands parts text
 IsOutputOf seen (Tune graph) text = IsTunedOf (seen.stands graph) text
 IsOutputOf seen (Audit graph pack log) text = IsAuditOf (seen.stands graph) (seen.stands pack) (seen.stands log) text
 
--- the file that a command reads last gave no more bytes than its limit
+-- the file that each of the ten commands reads last gave no more bytes than its limit
 abbrev pub ReadsWithin : Command → ℕ → Type 0
 ReadsWithin (Show graph) given = given ≤ GRAPH_LIMIT
 ReadsWithin (Compile graph) given = given ≤ GRAPH_LIMIT

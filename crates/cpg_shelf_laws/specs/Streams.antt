@@ -43,8 +43,8 @@ pub record IsLawfulSoFar (h : Head) (table : NodeTable) (told : Option (List ℕ
   pub count : given ≡ length bytes
   -- if the whole stream is known, the bytes are its first ones
   pub first : IfSome told (λ whole. bytes ≡ take given whole)
-  -- no record in these bytes is bad
-  pub lawful : (after table bytes).bad ≡ None
+  -- no record in these bytes is lawless
+  pub lawful : (after table bytes).lawless ≡ None
   pub spelled : lines ≡ act_lines h (after table bytes).progress.acts
 
 -- a proper prefix of all lines of a stream was written

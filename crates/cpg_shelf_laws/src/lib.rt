@@ -1,5 +1,6 @@
 //! An earlier contract of a run, stated over what a shelf reports. It follows from the present one, which is stated over the
-//! bytes that were given, if the shelf reports what stands under its names.
+//! bytes that were given, if the shelf reports what stands under its names. It is about ten commands, from `show` to
+//! `audit`, and says nothing of any other.
 #![tactic(auto)]
 
 ghost use Rattle.cpg_shelf_laws.specs.Told.{RunsKeepWhatWasTold};

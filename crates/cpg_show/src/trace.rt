@@ -65,7 +65,7 @@ fn write_kind(
             write!(out, "end {name} faults {faults}")?;
             write_outcome(out, problem, process, value)?;
             let full = problem.duration(process, faults);
-            write_ran(out, lengths.of(process), full)
+            write_ran(out, lengths.length_of(process), full)
         }
     }
 }

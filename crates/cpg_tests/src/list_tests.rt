@@ -173,7 +173,7 @@ fn has_runs(
 fn are_times(frozen: &FrozenTimes, message: Option<u64>) -> bool
     requires { length frozen.now ≡ 3 }
 {
-    frozen.of(0).is_none() && frozen.of(2) == message
+    frozen.time_of(0).is_none() && frozen.time_of(2) == message
 }
 
 /// Whether the frozen times under the urgency order and the runs are so.

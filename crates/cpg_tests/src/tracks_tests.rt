@@ -20,7 +20,7 @@ fn schedules(alloc: Global, admitted: &Admitted) -> Result<Vec<Starts>, OutOfMem
 
 /// The starts of the four processes.
 fn starts(schedule: &Starts) -> [Option<u64>; 4] {
-    let of = |process| schedule.of(process);
+    let of = |process| schedule.start_of(process);
     [of(0), of(1), of(2), of(3)]
 }
 

@@ -167,7 +167,8 @@ module _ (g : Graph) (w : WellFormed g) (o : List Bool) (s : List (Option ℕ)) 
   abbrev is_other : FedProcess → Bool
   is_other f = not (f.process == p)
 
-  -- when p is placed and left out, only targets of its live outputs may be missing
+  -- if p is placed at the time at which it would start and taken off the list, only targets of its live outputs may be
+  -- missing there
   fed_after : (fed : List FedProcess) → AreFed g o s fed →
       AreFedBut g o (set s p (Some (would_start g o s p))) p (filter is_other fed)
   fed_after fed are = record {
@@ -196,7 +197,7 @@ module _ (g : Graph) (w : WellFormed g) (o : List Bool) (s : List (Option ℕ)) 
     ];
   }
 
-  -- when p is placed and left out, only targets of its live outputs may be missing
+  -- the same of a list and of starts that are known to be these
   pub fed_next : (fed : List FedProcess) (start : ℕ) (starts : List (Option ℕ)) (kept : List FedProcess) →
       AreFed g o s fed → start ≡ would_start g o s p →
       starts ≡ set s p (Some start) →

@@ -19,7 +19,7 @@ fn latest(schedules: &[Starts], process: u32) -> u64
 {
     let mut latest = 0;
     for starts in schedules {
-        if let Some(start) = starts.of(process) {
+        if let Some(start) = starts.start_of(process) {
             latest = latest.max(start);
         }
     }

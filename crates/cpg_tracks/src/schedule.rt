@@ -35,7 +35,7 @@ impl Model for Starts {
 
 impl Starts {
     /// The start of a process, in time units; `None` exactly if it is inactive in the track, or there is no such process.
-    pub fn of(&self, process: u32) -> Option<u64>
+    pub fn start_of(&self, process: u32) -> Option<u64>
         ensures { result ≡ get_or self.now process None }
     {
         match self.starts.get(process as usize) {

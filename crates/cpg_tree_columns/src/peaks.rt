@@ -20,7 +20,7 @@ use cpg_base::{Order, OutOfMemory, Problem, Scenario, top};
 use cpg_cube::{Cube, Literal, first_by_least_scenario};
 use cpg_tree::{Top, Tree, TreeItem, top_of};
 
-/// The greater of two numbers, if there are two.
+/// The greater of two numbers, or the only one if there is one; `None` if there is none.
 fn greater(first: Option<u64>, second: Option<u64>) -> Option<u64>
     ensures { result ≡ greater first second }
 {

@@ -1,7 +1,7 @@
 -- What the rules read of a graph is as it was with other parts and another fault number.
 use Rattle.std.proofs.Common.{ℕ, zero, suc, ◌+◌, ◌-◌, ◌<◌, ◌≤◌, ◌≡◌, ◌==◌, if◌then◌else◌, Bool, true, false, not, ◌&&◌}
 use Rattle.std.proofs.Common.{◌||◌, List, [], ◌∷◌, length, get_or, filter, refl, sym, ap, ap₂, ◌∙◌, subst}
-use Rattle.std.proofs.Common.{arith, ltb-true}
+use Rattle.std.proofs.Common.{arith}
 use Rattle.std.specs.Prelude.{nat_lt, position, unwrap_or, IfSome, IsPermutation, Option, None, Some}
 use Rattle.std.proofs.lemmas.Bool.{both_ways}
 use Rattle.std.specs.List.{list_any, list_all}
@@ -29,7 +29,7 @@ use Rattle.cpg_rules.specs.declared.admission.RuleFault.TheVariants.{TooBig, Bad
 use Rattle.cpg_rules.specs.Rules.{slot_bytes, AllFit}
 use Rattle.cpg_rules.specs.Given.{GivesTopological}
 use Rattle.cpg_rules.specs.Admission.{IsAdmitted}
-use Rattle.cpg_rules.proofs.Exact.{no_lack}
+use Rattle.cpg_rules.proofs.Exact.{no_lack, two_live}
 use Rattle.cpg_rules.proofs.GivenOrders.{none_bad}
 use Rattle.cpg_tune.specs.Best.{best_parts}
 use Rattle.cpg_tune.specs.Retuned.{in_parts_each, retuned}
@@ -183,10 +183,6 @@ module _ (g : Graph) (parts : List ℕ) (faults : ℕ) (one_each : length parts 
     sizes = sizes_same;
     given = given_same;
   }
-
--- at most one live input is not two
-two_live : (n : ℕ) → n ≤ 1 → nat_lt 1 n ≡ true → ⊥
-two_live n l t = let above = ltb-true 1 n t in omega arith
 
 -- a graph that keeps the rules of an admitted one shows no fault but that memory runs out
 pub no_fault : (g h : Graph) (order : List ℕ) (guards : Guards) → IsAdmitted g order guards → KeepsRules g h →

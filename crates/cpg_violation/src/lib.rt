@@ -4,6 +4,7 @@
 
 mod activity;
 mod apart;
+mod arrival;
 mod edges;
 mod guards;
 mod heads;
@@ -17,6 +18,7 @@ mod sieve;
 mod sources;
 
 pub use activity::{least_at, value_literal};
+pub use arrival::has_come;
 pub use edges::edge_cube;
 pub use guards::{always_active, is_item_idle, is_item_running, is_refused, is_running};
 pub use heads::{HeadPart, first_difference};

@@ -99,7 +99,7 @@ settle-requires-clause-unset c =
     c.args.items.now c.loop-item.item-index c.loop-item.frozen c.loop-item.invariant.settled
     c.loop-item-test.true
 
--- the item's time is settled, what was found before its place stays right, and the other items come no earlier
+-- the item's time is settled, what was found before its place stays right, and the items that are left come no earlier
 pub loop-item-preserved : goal.loop-item-preserved
 loop-item-preserved c =
     let g = c.args.setting.now.problem.now in

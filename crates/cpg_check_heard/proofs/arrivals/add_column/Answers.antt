@@ -6,12 +6,12 @@ pub returns-clause-each : goal.returns-clause-each
 returns-clause-each c = λ g known can each.
     let at = c.in-Some.ensures.lookup.3 in
     rw c.in_ok-push.ensures.items
-    (each_push g c.args.arrivals.now.items (record { column = c.in-Some.column; telling = c.args.telling }) each
+    (each_push g c.args.arrivals.now.items (record { column = c.in-Some.column; means = c.args.means }) each
     (record { known = known_column g c.args.columns.now c.args.place c.in-Some.column.now at.0 at.1 known; can = can }))
 
 pub returns-clause-told : goal.returns-clause-told
 returns-clause-told c = λ g b s.
     let at = c.in-Some.ensures.lookup.3 in
     rw c.in_ok-push.ensures.items (tell_push g c.args.time b s c.args.arrivals.now.items
-    (record { column = c.in-Some.column; telling = c.args.telling }) _
-    (sym (telling_at g c.args.time b s c.args.telling c.args.columns.now c.args.place c.in-Some.column.now at.0 at.1)))
+    (record { column = c.in-Some.column; means = c.args.means }) _
+    (sym (telling_at g c.args.time b s c.args.means c.args.columns.now c.args.place c.in-Some.column.now at.0 at.1)))

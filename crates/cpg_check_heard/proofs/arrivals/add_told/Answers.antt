@@ -3,7 +3,7 @@ use Rattle.std.specs.List.{list_any}
 use Rattle.cpg_cube.specs.Cube.{matches}
 use Rattle.cpg_check_heard.specs.declared.arrivals.Arrival.{Arrival}
 use Rattle.cpg_check_heard.specs.Arrivals.{IsArrival}
-use Rattle.cpg_check_heard.specs.Tellings.{is_telling}
+use Rattle.cpg_check_heard.specs.TellingRows.{is_telling}
 use Rattle.cpg_check_heard.proofs.PartLaws.{told_add, known_add, row_more}
 use Rattle.cpg_check_heard.proofs.arrivals.add_told.Goals as goal
 
@@ -27,14 +27,14 @@ loop-arrival-preserved c =
     record {
       known = rw c.in_ok-add.ensures (known_add g c.loop-arrival.told.items c.in_ok-part.part
           c.loop-arrival.invariant.known c.in_ok-part.ensures.known);
-      told = λ s i. row_more (λ (a : Arrival). is_telling g a.telling c.args.time c.args.bound s a.column.now)
+      told = λ s i. row_more (λ (a : Arrival). is_telling g a.means c.args.time c.args.bound s a.column.now)
           c.args.arrivals.now c.loop-arrival.arrival-index d c.loop-arrival-test.true
           (list_any (λ b. matches b s) c.args.told.now.items) (list_any (λ b. matches b s) c.loop-arrival.told.items)
           (list_any (λ b. matches b s) c.add.new.told.items)
           (c.loop-arrival.invariant.told s i)
           (ap (list_any (λ b. matches b s)) c.in_ok-add.ensures
-          ∙ told_add g (λ t. is_telling g d.telling c.args.time c.args.bound t d.column.now) c.loop-arrival.told.items
+          ∙ told_add g (λ t. is_telling g d.means c.args.time c.args.bound t d.column.now) c.loop-arrival.told.items
           c.in_ok-part.part c.in_ok-part.ensures.part s i
           ∙ ap (λ (a : Arrival). list_any (λ b. matches b s) c.loop-arrival.told.items
-          || is_telling g a.telling c.args.time c.args.bound s a.column.now) c.arrival-item.is);
+          || is_telling g a.means c.args.time c.args.bound s a.column.now) c.arrival-item.is);
     }

@@ -27,7 +27,7 @@ first_unheard-requires-clause-hearing c =
       head = c.requires.head;
       tables = are;
       rules = c.requires.rules;
-      tellers = c.in_ok-tellers.ensures c.args.tables.now.nodes c.requires.lines;
+      telling_rows = c.in_ok-telling_rows.ensures c.args.tables.now.nodes c.requires.lines;
     }
 
 -- by V1, the processes of a column's literals are active if it matches

@@ -3,7 +3,7 @@ use Rattle.std.specs.List.{list_any}
 use Rattle.std.proofs.Math.Bool.{or-false}
 use Rattle.std.proofs.lemmas.List.{take_all}
 use Rattle.cpg_cube.specs.Cube.{matches}
-use Rattle.cpg_check_heard.specs.Tellings.{is_telling, is_telling_at}
+use Rattle.cpg_check_heard.specs.TellingRows.{is_telling, is_telling_at}
 use Rattle.cpg_check_heard.proofs.ArrivalLaws.{late_row}
 use Rattle.cpg_check_heard.proofs.PartLaws.{told_add, known_add, row_more, row_all}
 use Rattle.cpg_check_heard.proofs.parts.add_row.Goals as goal
@@ -16,13 +16,13 @@ loop-place-preserved c =
     record {
       known = rw c.in_ok-add.ensures (known_add g c.loop-place.told.items c.in_ok-part.part c.loop-place.invariant.known
           c.in_ok-part.ensures.known);
-      told = λ s i. row_more (is_telling_at g c.args.teller.now.telling c.args.time c.args.bound
-          c.args.teller.now.line.now.columns.now s) places c.loop-place.place-index 0 c.loop-place-test.true
+      told = λ s i. row_more (is_telling_at g c.args.row.now.means c.args.time c.args.bound
+          c.args.row.now.line.now.columns.now s) places c.loop-place.place-index 0 c.loop-place-test.true
           (list_any (λ b. matches b s) c.args.told.now.items) (list_any (λ b. matches b s) c.loop-place.told.items)
           (list_any (λ b. matches b s) c.add.new.told.items) (c.loop-place.invariant.told s i)
           (ap (list_any (λ b. matches b s)) c.in_ok-add.ensures
-          ∙ told_add g (λ t. is_telling_at g c.args.teller.now.telling c.args.time c.args.bound
-          c.args.teller.now.line.now.columns.now t (get_or places c.loop-place.place-index 0))
+          ∙ told_add g (λ t. is_telling_at g c.args.row.now.means c.args.time c.args.bound
+          c.args.row.now.line.now.columns.now t (get_or places c.loop-place.place-index 0))
           c.loop-place.told.items c.in_ok-part.part c.in_ok-part.ensures.part s i);
     }
 
@@ -32,9 +32,9 @@ returns-clause-told c = λ s i m.
     let g = c.args.problem.now in
     let places = c.as_slice-place-items.result.now in
     c.loop-place.invariant.told s i ∙ ap (λ t. list_any (λ b. matches b s) c.args.told.now.items || t)
-    (ap (list_any (is_telling_at g c.args.teller.now.telling c.args.time c.args.bound
-    c.args.teller.now.line.now.columns.now s)) (take_all c.loop-place.place-index places c.loop-place-test.false)
-    ∙ row_all g c.args.teller.now.telling c.args.time c.args.bound c.args.teller.now.line.now.columns.now places s
+    (ap (list_any (is_telling_at g c.args.row.now.means c.args.time c.args.bound
+    c.args.row.now.line.now.columns.now s)) (take_all c.loop-place.place-index places c.loop-place-test.false)
+    ∙ row_all g c.args.row.now.means c.args.time c.args.bound c.args.row.now.line.now.columns.now places s
     (λ j l t.
     subst (λ xs. Contains xs j) (sym c.as_slice-place-items.ensures.value) (c.in_ok-places.ensures s j l t m)))
 
@@ -42,8 +42,8 @@ returns-clause-told c = λ s i m.
 pub returns-then-not-may_have_come-clause-told : goal.returns-then-not-may_have_come-clause-told
 returns-then-not-may_have_come-clause-told c = λ s i m.
     let g = c.args.problem.now in
-    let t = c.args.teller.now in
+    let t = c.args.row.now in
     let told = list_any (λ b. matches b s) c.args.told.now.items in
-    sym (ap (λ x. told || x) (late_row (is_telling g t.telling c.args.time c.args.bound s) t.line.now.columns.now
+    sym (ap (λ x. told || x) (late_row (is_telling g t.means c.args.time c.args.bound s) t.line.now.columns.now
     t.line.now.first c.requires.line.first
     (c.if-not-may_have_come.ensures g c.args.bound s)) ∙ or-false told)

@@ -3,7 +3,7 @@ use Rattle.std.specs.List.{list_any}
 use Rattle.cpg_base.specs.Scenario.{Scenario, IsScenario}
 use Rattle.cpg_cube.specs.Cube.{matches}
 use Rattle.cpg_cube.specs.Fit.{IsKnown}
-use Rattle.cpg_check_heard.specs.Tellings.{is_telling_at}
+use Rattle.cpg_check_heard.specs.TellingRows.{is_telling_at}
 use Rattle.cpg_check_heard.proofs.parts.add_row.Given as goal
 
 -- After each place of the row. `known`: the cubes in `told` speak of known variables alone. `told`: a scenario
@@ -13,6 +13,6 @@ invariant-loop-place l = record {
   known : All (IsKnown l.problem) l.told.items;
   told : (s : Scenario) → IsScenario l.problem s → list_any (λ b. matches b s) l.told.items ≡
       (list_any (λ b. matches b s) l.fn.told.items
-      || list_any (is_telling_at l.problem l.teller.telling l.time l.bound l.teller.line.now.columns.now s)
+      || list_any (is_telling_at l.problem l.row.means l.time l.bound l.row.line.now.columns.now s)
       (take l.place-index l.place-items));
 }

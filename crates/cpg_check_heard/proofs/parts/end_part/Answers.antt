@@ -4,7 +4,7 @@ use Rattle.cpg_cube.specs.Narrow.{with_literal}
 use Rattle.cpg_cube.specs.Cube.{holds, matches}
 use Rattle.cpg_cube.specs.Fit.{IsKnown}
 use Rattle.cpg_check_heard.specs.Bounds.{range_of}
-use Rattle.cpg_check_heard.specs.Tellings.{IsPart}
+use Rattle.cpg_check_heard.specs.TellingRows.{IsPart}
 use Rattle.cpg_check_heard.proofs.PartLaws.{end_none, end_apart, end_told, part_with, known_with, range_variable}
 use Rattle.cpg_check_heard.proofs.parts.end_part.Goals as goal
 

@@ -4,7 +4,7 @@ use Rattle.std.specs.List.{list_any}
 use Rattle.cpg_base.specs.Graph.{IsVariable}
 use Rattle.cpg_cube.specs.Cube.{holds, matches}
 use Rattle.cpg_check_heard.specs.Bounds.{range_of, tells, variable_of}
-use Rattle.cpg_check_heard.specs.Tellings.{IsPart, is_value}
+use Rattle.cpg_check_heard.specs.TellingRows.{IsPart, is_value}
 use Rattle.cpg_check_heard.proofs.PartLaws.{frame_value, part_with, known_with, range_variable}
 use Rattle.cpg_check_heard.proofs.parts.frame_part.Goals as goal
 
@@ -19,7 +19,7 @@ returns-clause-part c =
     (part_with g c.range.result c.args.column.now.cube c.in_ok-told.told c.in_ok-told.ensures.both
     c.in_ok-told.ensures.none) in
     let come : nat_le (c.args.column.now.time + c.args.delay) c.args.time ≡ true =
-    sym c.has_come.ensures ∙ c.if-not-has_come.false in
+    sym c.has_come.ensures.is ∙ c.if-not-has_come.false in
     let off : list_any (tells c.args.bound) c.args.column.now.cube ≡ false =
     sym (c.is_told_by_any.ensures ∙ ap (list_any (tells c.args.bound)) c.literals.ensures.literals) ∙
     c.if-is_told_by_any.false in

@@ -13,10 +13,10 @@ loop-item-preserved c =
     rw c.in_ok-push.ensures.items (one_more c.args.admitted.now.graph c.args.tables.now.nodes Rule.Heard
     c.loop-item.item c.loop-item.marks.items c.in_ok-sure.sure c.loop-item.invariant
     (of_true c.in_ok-sure.sure c.in_ok-sure.ensures
-    (λ sure. sure c.args.tables.now.nodes c.requires.turns c.requires.frames c.requires.rules
+    (λ sure. sure c.args.tables.now.nodes c.requires.sequences c.requires.frames c.requires.rules
     (λ marked. c.requires.inputs c.loop-item.item below (sym c.is_marked-is_in_time.ensures ∙ marked))
     c.columns_of.ensures.columns)))
 
--- the marks that are made are sure, as after each turn
+-- the marks that are made are sure, as after each step
 pub returns : goal.returns
 returns c = c.loop-item.invariant.sure

@@ -9,9 +9,13 @@ loop-item-preserved c = rw c.in_ok-push.ensures.items
     (one_more c.args.admitted.now.graph c.args.tables.now.nodes Rule.Inputs c.loop-item.item c.loop-item.marks.items
     c.in_ok-sure.sure c.loop-item.invariant
     (of_true c.in_ok-sure.sure c.in_ok-sure.ensures (λ sure. sure c.args.tables.now.nodes
-    (record { links = rw c.problem.ensures.problem at c.in_ok-links.ensures; turns = c.requires.turns; frames = c.requires.frames })
+    (record {
+      links = rw c.problem.ensures.problem at c.in_ok-links.ensures;
+      sequences = c.requires.sequences;
+      frames = c.requires.frames;
+    })
     c.requires.rules c.columns_of.ensures.columns)))
 
--- the marks that are made are sure, as after each turn
+-- the marks that are made are sure, as after each step
 pub returns : goal.returns
 returns c = c.loop-item.invariant.sure

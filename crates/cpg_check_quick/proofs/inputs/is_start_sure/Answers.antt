@@ -8,14 +8,14 @@ use Rattle.cpg_check_quick.proofs.inputs.is_start_sure.Goals as goal
 -- the inputs of a process are edges of the graph
 pub others-requires-clause-edges : goal.others-requires-clause-edges
 others-requires-clause-edges c =
-    let g = c.args.waiting.now.admitted.now.graph in
+    let g = c.args.input_rows.now.admitted.now.graph in
     subst (All (λ e. e < edge_count g)) (sym (c.inputs-edges.ensures.of_graph g c.requires.links))
     (inputs_below g c.args.process)
 
 -- each column is no earlier than the release and the inputs that aren't always before, so the start keeps V5
 pub returns : goal.returns
 returns c = of_true c.are_late_enough.result c.are_late_enough.ensures (λ late tables w rules is.
-    let g = c.args.waiting.now.admitted.now.graph in
+    let g = c.args.input_rows.now.admitted.now.graph in
     let all : c.inputs-edges.result.now ≡ inputs g c.args.process =
     c.inputs-edges.ensures.of_graph g c.requires.links in
     let release =

@@ -8,7 +8,7 @@ use Rattle.cpg_check_quick.proofs.inputs.is_sure.Goals as goal
 pub returns-then-item-processes : goal.returns-then-item-processes
 returns-then-item-processes c =
     of_true c.is_after_producer.result c.is_after_producer.ensures (λ before tables w rules is.
-    let g = c.args.waiting.now.admitted.now.graph in
+    let g = c.args.input_rows.now.admitted.now.graph in
     let send : process_count g ≤ c.args.item = omega (
       arith,
       c.if-item-processes.true,

@@ -5,7 +5,7 @@ use Rattle.cpg_cube.specs.declared.literal.Literal.{Literal}
 use Rattle.cpg_violation.proofs.SureLaws.{each_all}
 use Rattle.cpg_check_quick.proofs.listening.are_known.Goals as goal
 
--- this turn's test shows it of one more
+-- this step's test shows it of one more
 pub loop-literal-preserved : goal.loop-literal-preserved
 loop-literal-preserved c both =
     let parts = and_parts _ _ both in

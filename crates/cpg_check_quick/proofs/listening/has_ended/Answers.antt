@@ -8,13 +8,13 @@ use Rattle.cpg_check_quick.proofs.listening.has_ended.Goals as goal
 
 -- the item is a start, so the process is over before it by the order of the executions
 pub returns-then-item-processes : goal.returns-then-item-processes
-returns-then-item-processes c = of_true c.is_before.result c.is_before.ensures (λ before tables turns rules sent.
+returns-then-item-processes c = of_true c.is_before.result c.is_before.ensures (λ before tables sequences rules sent.
     let g = c.args.admitted.now.graph in
-    before_ended g tables rules c.args.item c.args.process c.requires.process (before g tables (execution g) turns))
+    before_ended g tables rules c.args.item c.args.process c.requires.process (before g tables (execution g) sequences))
 
 -- the process is the producer of the send, which keeps V5, so it has ended
 pub returns-then-process-producer : goal.returns-then-process-producer
-returns-then-process-producer c = λ tables turns rules sent.
+returns-then-process-producer c = λ tables sequences rules sent.
     let g = c.args.admitted.now.graph in
     let from : c.producer-producer.result ≡ producer g c.args.item =
     c.producer-producer.ensures.producer ∙ ap (λ h. producer h c.args.item) c.problem-problem.ensures.problem in
@@ -29,7 +29,7 @@ returns-then-process-producer c = λ tables turns rules sent.
 
 -- the process is always over before the producer, and so it has ended by the item's columns
 pub returns : goal.returns
-returns c = of_true c.is_before-2.result c.is_before-2.ensures (λ before tables turns rules sent.
+returns c = of_true c.is_before-2.result c.is_before-2.ensures (λ before tables sequences rules sent.
     let g = c.args.admitted.now.graph in
     let from : c.producer-producer.result ≡ producer g c.args.item =
     c.producer-producer.ensures.producer ∙ ap (λ h. producer h c.args.item) c.problem-problem.ensures.problem in
@@ -41,5 +41,5 @@ returns c = of_true c.is_before-2.result c.is_before-2.ensures (λ before tables
     ) in
     earlier_ended g tables rules c.args.item c.requires.item send c.problem-problem.ensures.admitted.well_formed
     c.args.process c.requires.process
-    (subst (λ p. IsBefore g tables c.args.process p) from (before g tables (execution g) turns))
+    (subst (λ p. IsBefore g tables c.args.process p) from (before g tables (execution g) sequences))
     (sent c.if-not-is_sent_in_time.false))

@@ -6,16 +6,16 @@ use Rattle.cpg_check_quick.proofs.listening.own_ended.Goals as goal
 
 -- no variable is marked yet
 pub loop-variable-init : goal.loop-variable-init
-loop-variable-init c = record { long = refl; ended = λ tables turns rules sent v t. absurd (none_marked 256 v t) }
+loop-variable-init c = record { long = refl; ended = λ tables sequences rules sent v t. absurd (none_marked 256 v t) }
 
 -- the next variable is marked only if its process has always ended
 pub loop-variable-preserved : goal.loop-variable-preserved
 loop-variable-preserved c = record {
   long =
       length-set c.loop-variable.known c.loop-variable.variable c.is_own_ended.result ∙ c.loop-variable.invariant.long;
-  ended = λ tables turns rules sent. own_more c.args.admitted.now.graph tables c.args.item c.loop-variable.known
+  ended = λ tables sequences rules sent. own_more c.args.admitted.now.graph tables c.args.item c.loop-variable.known
       c.loop-variable.variable c.is_own_ended.result
       (omega (arith, c.loop-variable-test.true, c.loop-variable.invariant.long))
-      (c.loop-variable.invariant.ended tables turns rules sent)
-      (of_true c.is_own_ended.result c.is_own_ended.ensures (λ own. own tables turns rules sent));
+      (c.loop-variable.invariant.ended tables sequences rules sent)
+      (of_true c.is_own_ended.result c.is_own_ended.ensures (λ own. own tables sequences rules sent));
 }

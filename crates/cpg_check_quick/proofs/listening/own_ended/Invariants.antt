@@ -5,7 +5,7 @@ use Rattle.cpg_violation.specs.Sure.{IsSure}
 use Rattle.cpg_violation.specs.Violation.{AllHold, row_rules}
 use Rattle.cpg_check_quick.specs.Hearing.{AreOwnEnded}
 use Rattle.cpg_check_quick.specs.Order.{execution}
-use Rattle.cpg_check_quick.specs.Turns.{AreTurns}
+use Rattle.cpg_check_quick.specs.Sequences.{AreSequences}
 use Rattle.cpg_check_quick.proofs.listening.own_ended.Given as goal
 
 -- there are 256 marks, and each variable that is marked is of a process on the item's node that has always ended by
@@ -13,7 +13,7 @@ use Rattle.cpg_check_quick.proofs.listening.own_ended.Given as goal
 abbrev pub invariant-loop-variable : goal.invariant-loop-variable
 invariant-loop-variable l = record {
   long : length l.known ≡ 256;
-  ended : (tables : List NodeTable) → AreTurns (execution l.admitted.graph) l.admitted.graph tables l.turns →
+  ended : (tables : List NodeTable) → AreSequences (execution l.admitted.graph) l.admitted.graph tables l.sequences →
       AllHold l.admitted.graph tables row_rules →
       (l.is_sent_in_time ≡ true → IsSure l.admitted.graph tables Rule.Inputs l.item) →
       AreOwnEnded l.admitted.graph tables l.item l.known;

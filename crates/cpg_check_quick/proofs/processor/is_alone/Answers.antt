@@ -1,7 +1,7 @@
 use Rattle.std.proofs.Common.{◌∙◌, ap, arith, length}
 use Rattle.cpg_tree.proofs.Passes.{of_true}
 use Rattle.cpg_check_quick.specs.Order.{execution}
-use Rattle.cpg_check_quick.proofs.ClashLaws.{sure_alone, sure_none}
+use Rattle.cpg_check_quick.proofs.ClashLaws.{sure_alone, sure_no_process}
 use Rattle.cpg_check_quick.proofs.processor.is_alone.Goals as goal
 
 -- the item is apart from each process on its node with a lower number
@@ -12,5 +12,5 @@ returns c = of_true c.in_ok-is_alone.is_alone c.in_ok-is_alone.ensures (λ all t
 
 -- the item isn't a start, so it takes no processor
 pub returns-then-item-processes : goal.returns-then-item-processes
-returns-then-item-processes c = λ tables are. sure_none c.args.problem.now tables c.args.item
+returns-then-item-processes c = λ tables are. sure_no_process c.args.problem.now tables c.args.item
     (omega (arith, c.if-item-processes.true, ap length c.processes.ensures.processes))

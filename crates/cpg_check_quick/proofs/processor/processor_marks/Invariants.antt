@@ -3,7 +3,7 @@ use Rattle.cpg_table.specs.Table.{NodeTable}
 use Rattle.cpg_table.specs.declared.rule.Rule.{Rule}
 use Rattle.cpg_violation.specs.Sure.{AreSure}
 use Rattle.cpg_check_quick.specs.Order.{execution}
-use Rattle.cpg_check_quick.specs.Turns.{AreTurns}
+use Rattle.cpg_check_quick.specs.Sequences.{AreSequences}
 use Rattle.cpg_check_quick.proofs.processor.processor_marks.Given as goal
 
 -- after each item, there is a mark for each item so far, and a mark that is set means that the rule Processor surely
@@ -11,6 +11,6 @@ use Rattle.cpg_check_quick.proofs.processor.processor_marks.Given as goal
 abbrev pub invariant-loop-item : goal.invariant-loop-item
 invariant-loop-item l = record {
   long : length l.marks.items ≡ l.item;
-  sure : (tables : List NodeTable) → AreTurns (execution l.problem) l.problem tables l.turns →
+  sure : (tables : List NodeTable) → AreSequences (execution l.problem) l.problem tables l.sequences →
       AreSure l.problem tables Rule.Processor l.marks.items;
 }

@@ -7,7 +7,7 @@ use Rattle.cpg_cube.specs.declared.column.Column.{Column}
 use Rattle.cpg_violation.proofs.SureLaws.{each_all, each_more}
 use Rattle.cpg_check_quick.proofs.slots.are_in_slots.Goals as goal
 
--- this turn's test shows it of one more
+-- this step's test shows it of one more
 pub loop-column-preserved : goal.loop-column-preserved
 loop-column-preserved c = each_more (λ (d : Column). (s : Scenario) → IsScenario c.args.problem.now s →
     matches d.cube s ≡ true → next_slot c.args.problem.now c.args.node d.time ≡ d.time)

@@ -22,4 +22,4 @@ returns c =
     (OnTrue_at c.if-not-are_in_slots.false c.are_in_slots.ensures) in
     of_true c.in_ok-is_alone.is_alone c.in_ok-is_alone.ensures (λ all.
     sure_own_slots g tables c.args.item c.as_slice.result.now (c.as_slice.ensures.value
-    ∙ rw c.problem-problem.ensures.problem at c.in_ok-lower.ensures) starts (all g tables sending c.requires.turns))
+    ∙ rw c.problem-problem.ensures.problem at c.in_ok-lower.ensures) starts (all g tables sending c.requires.sequences))

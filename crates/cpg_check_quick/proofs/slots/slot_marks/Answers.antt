@@ -8,6 +8,6 @@ loop-item-preserved c = rw c.in_ok-push.ensures.items
     (one_more c.args.admitted.now.graph c.args.tables.now.nodes Rule.Slot c.loop-item.item c.loop-item.marks.items
     c.in_ok-is_sure.is_sure c.loop-item.invariant c.in_ok-is_sure.ensures)
 
--- the marks that are made are sure, as after each turn
+-- the marks that are made are sure, as after each step
 pub returns : goal.returns
 returns c = c.loop-item.invariant.sure

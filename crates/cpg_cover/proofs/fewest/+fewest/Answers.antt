@@ -8,7 +8,7 @@ pub fewest_by_count-fewest_with-requires : goal.fewest_by_count-fewest_with-requ
 fewest_by_count-fewest_with-requires t c =
     let cubes = c.args.cubes.now in
     let steps : Steps cubes c.args.variable false c.args.bound.budget c.in_ok-zero.zero.items =
-    rw (c.none.ensures.variable, c.none.ensures.more) at c.in_ok-zero.ensures in
+    rw (c.zero.ensures.variable, c.zero.ensures.more) at c.in_ok-zero.ensures in
     let needs : Needs c.in_ok-zero.zero.items c.in_ok-without.without =
     rw c.as_slice.ensures.value at c.in_ok-without.ensures in (
       search rules,
@@ -36,7 +36,7 @@ fewest_by_value-returns t c =
     let v = c.args.variable in
     let budget = c.args.bound.budget in
     let off : Steps cubes v false budget c.in_ok-zero.zero.items =
-    rw (c.none.ensures.variable, c.none.ensures.more) at c.in_ok-zero.ensures in
+    rw (c.zero.ensures.variable, c.zero.ensures.more) at c.in_ok-zero.ensures in
     let on : Steps cubes v true budget c.in_ok-one.one.items =
     rw (c.more.ensures.variable, c.more.ensures.more) at c.in_ok-one.ensures in
     let a = c.min-fewer.ensures in

@@ -19,8 +19,8 @@ ready-ready-requires-clause-small c =
     c.args.faults c.requires.faults (place order c.args.process) c.args.course.now c.requires.course
 
 -- what is known of small latest times is small
-pub start-unfrozen-requires-clause-small : goal.start-unfrozen-requires-clause-small
-start-unfrozen-requires-clause-small c =
+pub unfrozen_start-unfrozen-requires-clause-small : goal.unfrozen_start-unfrozen-requires-clause-small
+unfrozen_start-unfrozen-requires-clause-small c =
     let g = c.args.setting.now.problem.now in
     let order = c.args.setting.now.order.now in
     course_small g order c.requires.setting.topological (IsDone g order c.args.process 0) c.args.frozen.now
@@ -52,7 +52,7 @@ latest_end-end-requires-clause-start c =
     let values = c.args.asked.now.scenario.now.values in
     let on : node_of g p < length g.nodes = omega (arith, c.node_of-node.ensures.node, c.node_of-node.ensures.within) in
     let acts = sym c.requires.asked.acts ∙ c.if-not-asked.false in
-    let is_start = c.max-start.ensures ∙ ap₂ max c.start-unfrozen.ensures c.frozen_time.ensures in
+    let is_start = c.max-start.ensures ∙ ap₂ max c.unfrozen_start-unfrozen.ensures c.frozen_time.ensures in
     let is = start_is_latest g order c.requires.setting.topological (IsDone g order p 0) c.args.frozen.now values p
     c.requires.process on c.args.faults c.requires.faults c.args.course.now
     c.requires.course
@@ -82,7 +82,9 @@ latest_end-end-requires-clause-last c =
     c.args.faults c.requires.faults in
     omega (arith, is, small)
 
--- the process is active: its start and its end are the latest ones, so it has begun
+-- The process is active: its start and its end are the latest ones, so it has begun. The arguments of `begins` are, in
+-- turn: what the order and the track fix, the number of faults with the course before the process, when the node is
+-- ready, that the process is active with its start, and its end with the end of one fault less.
 pub returns-clause-sends : goal.returns-clause-sends
 returns-clause-sends c =
     let g = c.args.setting.now.problem.now in
@@ -91,7 +93,7 @@ returns-clause-sends c =
     let values = c.args.asked.now.scenario.now.values in
     let on : node_of g p < length g.nodes = omega (arith, c.node_of-node.ensures.node, c.node_of-node.ensures.within) in
     let acts = sym c.requires.asked.acts ∙ c.if-not-asked.false in
-    let is_start = c.max-start.ensures ∙ ap₂ max c.start-unfrozen.ensures c.frozen_time.ensures in
+    let is_start = c.max-start.ensures ∙ ap₂ max c.unfrozen_start-unfrozen.ensures c.frozen_time.ensures in
     subst (IsSending g order (IsDone g order p 0) c.args.frozen.now values p 0 c.args.faults)
     (sym (c.begin.ensures
     ∙ ap (λ m. begun c.args.course.now p m c.max-start.result c.latest_end-end.result) c.node_of-node.ensures.node))
@@ -109,7 +111,7 @@ returns-clause-end c on_asked =
     let values = c.args.asked.now.scenario.now.values in
     let on : node_of g p < length g.nodes = omega (arith, c.node_of-node.ensures.node, c.node_of-node.ensures.within) in
     let acts = sym c.requires.asked.acts ∙ c.if-not-asked.false in
-    let is_start = c.max-start.ensures ∙ ap₂ max c.start-unfrozen.ensures c.frozen_time.ensures in
+    let is_start = c.max-start.ensures ∙ ap₂ max c.unfrozen_start-unfrozen.ensures c.frozen_time.ensures in
     end_is_latest g order c.requires.setting.topological (IsDone g order p 0) c.args.frozen.now values p
     c.requires.process on c.args.faults c.requires.faults c.args.course.now c.requires.course
     c.ready-ready.result c.ready-ready.ensures (inr (inl refl)) acts c.max-start.result is_start c.latest_end-end.result

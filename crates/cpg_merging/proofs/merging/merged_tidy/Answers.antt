@@ -9,27 +9,27 @@ use Rattle.cpg_merging.proofs.MergingEnds.{merge_of, if_ok_both}
 use Rattle.cpg_merging.proofs.MergingSteps.{sorted_still}
 use Rattle.cpg_merging.proofs.merging.merged_tidy.Goals as goal
 
--- the entries can be merged, and none has a literal of the whole range
+-- the columns can be merged, and none has a literal of the whole range
 pub settled-requires : goal.settled-requires
-settled-requires c = record { good = c.requires.entries; not_whole = c.requires.tidy }
+settled-requires c = record { good = c.requires.columns; not_whole = c.requires.tidy }
 
--- if the listing is known to be sorted, it has the entries of before, which were sorted
+-- if the listing is known to be sorted, it has the columns of before, which were sorted
 pub sorted-requires-clause-sorted : goal.sorted-requires-clause-sorted
 sorted-requires-clause-sorted c = OnTrue_from c.in_ok-listing.listing.is_sorted _
     (sorted_still c.args.problem.now c.args.order.now c.args.listing c.in_ok-listing.listing
     (λ t. OnTrue_at t c.requires.sorted) c.in_ok-listing.ensures.sorted)
 
--- the entries have no whole literals, so they are joined until they are settled, and then sorted if need be
+-- the columns have no whole literals, so they are joined until they are settled, and then sorted if need be
 pub returns : goal.returns
 returns c =
     let g = c.args.problem.now in
     let order = c.args.order.now in
-    let entries = c.args.listing.columns.items in
+    let given = c.args.listing.columns.items in
     let columns = c.in_ok-listing.listing.columns.items in
     let settled = subst (λ before. AreSettled g before columns)
-    (sym (tidy_kept g.faults entries c.requires.tidy)) c.in_ok-listing.ensures.settled in
+    (sym (tidy_kept g.faults given c.requires.tidy)) c.in_ok-listing.ensures.settled in
     if_ok_both c.sorted.result (λ r. IsPermutation columns r.items)
-    (λ r. AreByLows (λ (e : Column). e.cube) g order r.items) (λ r. IsMergeOf g order entries r.items)
-    (λ r p up. merge_of g c.processes-processes.ensures.within.few_processes order c.requires.order entries columns
-    r.items c.requires.entries settled p up)
+    (λ r. AreByLows (λ (e : Column). e.cube) g order r.items) (λ r. IsMergeOf g order given r.items)
+    (λ r p up. merge_of g c.processes-processes.ensures.within.few_processes order c.requires.order given columns
+    r.items c.requires.columns settled p up)
     c.sorted.ensures.permutation c.sorted.ensures.by_lows

@@ -10,7 +10,7 @@ use Rattle.cpg_outputs.proofs.streaming.follow.Goals as goal
 pub follow_rest-requires : goal.follow_rest-requires
 follow_rest-requires g c = omega (arith, ap (λ (f : Follower). f.read) c.requires.opened)
 
--- from the node's opening along all pieces, the stream was followed to its close
+-- from the follower's first state along all pieces, the stream was followed to its end
 pub returns-in-Ok-clause-whole : goal.returns-in-Ok-clause-whole
 returns-in-Ok-clause-whole g c =
     let f = c.args.follower.now in
@@ -22,7 +22,7 @@ returns-in-Ok-clause-whole g c =
     (subst (IsAlong name past history now now) (sym c.requires.opened)
     (along_open name past history now f.head f.table c.in-Ok.ensures.history)))
 
--- from the node's opening along all pieces, the stream broke off
+-- from the follower's first state along all pieces, the stream broke off
 pub returns-in-Ok-clause-broken : goal.returns-in-Ok-clause-broken
 returns-in-Ok-clause-broken g c =
     let f = c.args.follower.now in

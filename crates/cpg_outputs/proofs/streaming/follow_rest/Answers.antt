@@ -8,7 +8,8 @@ returns-in-Ok-clause-along g c start name past a =
     let out = g.O.Sink.state c.follow_pieces.new.out in
     end_of_all c.args.follower.now c.follow_pieces.new.follower name past
     (g.S.Shelf.state c.follow_pieces.new.shelf).history start out.taken (g.O.Sink.state c.args.out.now) out
-    (g.O.Sink.state c.end.new.out) c.end.result all.same all.out_kept (all.along start name past a) c.end.ensures.closes
+    (g.O.Sink.state c.close.new.out) c.close.result all.same all.out_kept (all.along start name past a)
+    c.close.ensures.closes
 
 pub returns-in-Err-clause-along : goal.returns-in-Err-clause-along
 returns-in-Err-clause-along g c start name past a = c.in-Err.ensures.along start name past a

@@ -33,7 +33,7 @@ returns-in_default-clause-kept c =
     sym (one_fails (λ q. is_length_if (longest q) (given q)) (process_count c.args.problem.now) c.loop-process.process
     (omega (arith, ap length c.processes.ensures.processes))
     (ap₂ is_length_if
-    (sym (c.of-longest.ensures ∙ c.loop-process.invariant.full c.loop-process.process (omega arith)
+    (sym (c.length_of-longest.ensures ∙ c.loop-process.invariant.full c.loop-process.process (omega arith)
     (omega (arith, ap length c.processes.ensures.processes))))
     (sym c.length_given.ensures)
     ∙ c.in_default.ensures.none))
@@ -45,7 +45,7 @@ loop-process-preserved c =
     let longest =
     λ (q : ℕ). duration c.args.problem.now q (count_of c.args.problem.now (table_view c.args.document.now) q) in
     let given = length_given c.args.problem.now (table_view c.args.document.now) in
-    let is = c.of-longest.ensures ∙ c.loop-process.invariant.full c.loop-process.process (omega arith)
+    let is = c.length_of-longest.ensures ∙ c.loop-process.invariant.full c.loop-process.process (omega arith)
     (omega (arith, ap length c.processes.ensures.processes)) in
     record {
       kept = below_next (λ q. is_length_if (longest q) (given q) ≡ true) c.loop-process.process

@@ -11,8 +11,8 @@ duration-full-requires-clause-process c = (subst (IsKindWithin c.args.problem.no
 pub duration-full-requires-clause-faults : goal.duration-full-requires-clause-faults
 duration-full-requires-clause-faults c = (subst (IsKindWithin c.args.problem.now) c.in-End.is c.requires.within).1
 
-pub of-requires : goal.of-requires
-of-requires c =
+pub length_of-requires : goal.length_of-requires
+length_of-requires c =
     omega (arith, (subst (IsKindWithin c.args.problem.now) c.in-End.is c.requires.within).0, c.requires.lengths)
 
 pub write_item-requires : goal.write_item-requires

@@ -26,7 +26,7 @@ loop-row-preserved-in-Continue-1 c =
           (subst (All (λ (r : Row). r.item < item_count g)) is c.loop-row.invariant.known);
     }
 
--- this row is of an item of another node, and goes to the other rows
+-- this row is of an item that the node neither starts nor sends, and goes to the other rows
 pub loop-row-preserved : goal.loop-row-preserved
 loop-row-preserved c =
     let g = c.args.problem.now in

@@ -7,7 +7,7 @@ use Rattle.cpg_violation.proofs.Violations.{columns_known}
 use Rattle.cpg_check_heard.specs.Bounds.{variable_of}
 use Rattle.cpg_check_heard.specs.Untold.{item_tells}
 use Rattle.cpg_check_heard.proofs.Facts.{own_can}
-use Rattle.cpg_check_heard.proofs.TellerLists.{teller_at}
+use Rattle.cpg_check_heard.proofs.TellingRowLists.{row_at}
 use Rattle.cpg_check_heard.proofs.hearing.Hearing.add_own.Goals as goal
 
 -- the row of the variable's process can tell the bound
@@ -16,17 +16,17 @@ add_row-requires-clause-can c =
     let g = c.args.self.now.admitted.now.graph in
     let tables = c.args.self.now.tables.now.nodes in
     let p = c.process_of_variable-process.result in
-    let t = c.index-teller.result.now in
+    let t = c.index-row.result.now in
     let own : p < process_count g =
     rw c.problem-problem.ensures.problem at c.process_of_variable-process.ensures.within in
     let below : p < item_count g = omega arith in
-    let is = teller_at g tables
-    (item_count g) c.args.self.now.tellers.items p t c.requires.hearing.tellers below c.index-teller.ensures in
+    let is = row_at g tables
+    (item_count g) c.args.self.now.telling_rows.items p t c.requires.hearing.telling_rows below c.index-row.ensures in
     let here : p ≡ process_of_variable g (variable_of c.args.bound) =
     rw (← c.problem-problem.ensures.problem, ← c.variable.ensures) c.process_of_variable-process.ensures.process in
     rw (
       c.problem-problem.ensures.problem,
-      is.telling,
+      is.means,
     ) (own_can g tables c.args.time c.args.bound (record { values = []; faults = [] }) p own (sym here))
 
 -- the columns of the process's row are on variables of the graph
@@ -35,12 +35,12 @@ add_row-requires-clause-columns c =
     let g = c.args.self.now.admitted.now.graph in
     let tables = c.args.self.now.tables.now.nodes in
     let p = c.process_of_variable-process.result in
-    let t = c.index-teller.result.now in
+    let t = c.index-row.result.now in
     let own : p < process_count g =
     rw c.problem-problem.ensures.problem at c.process_of_variable-process.ensures.within in
     let below : p < item_count g = omega arith in
-    let is = teller_at g tables
-    (item_count g) c.args.self.now.tellers.items p t c.requires.hearing.tellers below c.index-teller.ensures in
+    let is = row_at g tables
+    (item_count g) c.args.self.now.telling_rows.items p t c.requires.hearing.telling_rows below c.index-row.ensures in
     rw (c.problem-problem.ensures.problem, is.line.all)
     (columns_known c.requires.hearing.admitted tables c.requires.hearing.tables p)
 
@@ -50,12 +50,12 @@ add_row-requires-clause-line c =
     let g = c.args.self.now.admitted.now.graph in
     let tables = c.args.self.now.tables.now.nodes in
     let p = c.process_of_variable-process.result in
-    let t = c.index-teller.result.now in
+    let t = c.index-row.result.now in
     let own : p < process_count g =
     rw c.problem-problem.ensures.problem at c.process_of_variable-process.ensures.within in
     let below : p < item_count g = omega arith in
-    let is = teller_at g tables
-    (item_count g) c.args.self.now.tellers.items p t c.requires.hearing.tellers below c.index-teller.ensures in
+    let is = row_at g tables
+    (item_count g) c.args.self.now.telling_rows.items p t c.requires.hearing.telling_rows below c.index-row.ensures in
     subst (λ columns. IsLine columns t.line.now) (sym is.line.all) is.line
 
 -- the process is on the node, so its row tells all that the node's own ends tell
@@ -64,19 +64,19 @@ returns-clause-told c =
     let g = c.args.self.now.admitted.now.graph in
     let tables = c.args.self.now.tables.now.nodes in
     let p = c.process_of_variable-process.result in
-    let t = c.index-teller.result.now in
+    let t = c.index-row.result.now in
     let own : p < process_count g =
     rw c.problem-problem.ensures.problem at c.process_of_variable-process.ensures.within in
     let below : p < item_count g = omega arith in
-    let is = teller_at g tables
-    (item_count g) c.args.self.now.tellers.items p t c.requires.hearing.tellers below c.index-teller.ensures in
+    let is = row_at g tables
+    (item_count g) c.args.self.now.telling_rows.items p t c.requires.hearing.telling_rows below c.index-row.ensures in
     let here : p ≡ process_of_variable g (variable_of c.args.bound) =
     rw (← c.problem-problem.ensures.problem, ← c.variable.ensures) c.process_of_variable-process.ensures.process in
     let home : node_of g p ≡ c.args.node =
     rw c.problem-problem.ensures.problem at (sym c.node_of.ensures.node ∙ c.if-node_of-node.false) in
     λ s i m.
     let tells = item_tells g tables c.args.time c.args.bound s in
-    rw (c.problem-problem.ensures.problem, is.telling, is.line.all) at c.in_ok-add_row.ensures.told s i m
+    rw (c.problem-problem.ensures.problem, is.means, is.line.all) at c.in_ok-add_row.ensures.told s i m
     ∙ ap (λ a. list_any (λ b. matches b s) c.args.told.now.items || a)
     (sym (ap (λ q. (node_of g q == c.args.node) && tells q) (sym here)
     ∙ ap (λ a. a && tells p) (eq-eqb (node_of g p) c.args.node home)))

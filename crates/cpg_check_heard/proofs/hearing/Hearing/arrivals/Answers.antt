@@ -8,22 +8,22 @@ use Rattle.cpg_violation.specs.Lines.{IsLine}
 use Rattle.cpg_violation.proofs.Violations.{columns_known}
 use Rattle.cpg_check_heard.specs.declared.bound.LiteralBound.{LiteralBound}
 use Rattle.cpg_check_heard.specs.Arrivals.{do_tell}
-use Rattle.cpg_check_heard.specs.Tellings.{CanTell}
+use Rattle.cpg_check_heard.specs.TellingRows.{CanTell}
 use Rattle.cpg_check_heard.specs.Untold.{item_tells}
 use Rattle.cpg_check_heard.proofs.Facts.{heard_can}
 use Rattle.cpg_check_heard.proofs.Framed.{heard_below}
 use Rattle.cpg_check_heard.proofs.PartLaws.{row_more}
-use Rattle.cpg_check_heard.proofs.TellerLists.{teller_at}
+use Rattle.cpg_check_heard.proofs.TellingRowLists.{row_at}
 use Rattle.cpg_check_heard.proofs.hearing.Hearing.arrivals.Goals as goal
 
 -- an item that is heard is one of the graph, so it has a row
-pub index-teller-requires : goal.index-teller-requires
-index-teller-requires c =
+pub index-row-requires : goal.index-row-requires
+index-row-requires c =
     let g = c.args.self.now.admitted.now.graph in
     let x = get_or c.args.items.now c.loop-item.item-index 0 in
     let below : x < item_count g =
     heard_below g c.args.node x (c.requires.items c.loop-item.item-index 0 c.loop-item-test.true) in
-    omega (arith, below, c.requires.hearing.tellers.count)
+    omega (arith, below, c.requires.hearing.telling_rows.count)
 
 -- the row is that of the item, and its columns are on variables of the graph
 pub add_row-requires : goal.add_row-requires
@@ -32,9 +32,9 @@ add_row-requires c =
     let x = get_or c.args.items.now c.loop-item.item-index 0 in
     let below : x < item_count g =
     heard_below g c.args.node x (c.requires.items c.loop-item.item-index 0 c.loop-item-test.true) in
-    let t = c.index-teller.result.now in
-    let is = teller_at g c.args.self.now.tables.now.nodes
-    (item_count g) c.args.self.now.tellers.items x t c.requires.hearing.tellers below c.index-teller.ensures in
+    let t = c.index-row.result.now in
+    let is = row_at g c.args.self.now.tables.now.nodes
+    (item_count g) c.args.self.now.telling_rows.items x t c.requires.hearing.telling_rows below c.index-row.ensures in
     subst (λ columns. IsLine columns t.line.now) (sym is.line.all) is.line
 
 -- with the next item's row, the columns tell what the rows of one item more tell
@@ -46,18 +46,18 @@ loop-item-preserved c =
     (c.requires.items c.loop-item.item-index 0 c.loop-item-test.true) in
     let below : x < item_count g = numbers-Contains (item_count g) x parts.0 in
     let tables = c.args.self.now.tables.now.nodes in
-    let t = c.index-teller.result.now in
-    let is = teller_at g tables
-    (item_count g) c.args.self.now.tellers.items x t c.requires.hearing.tellers below c.index-teller.ensures in
+    let t = c.index-row.result.now in
+    let is = row_at g tables
+    (item_count g) c.args.self.now.telling_rows.items x t c.requires.hearing.telling_rows below c.index-row.ensures in
     let known : All (λ (d : Column). IsKnown g d.cube) t.line.now.columns.now =
     rw is.line.all (columns_known c.requires.hearing.admitted tables c.requires.hearing.tables x) in
-    let can : (b : LiteralBound) → CanTell g b t.telling = λ b.
-    rw is.telling (heard_can g tables c.args.time b (record { values = []; faults = [] }) x c.args.node parts.1) in
+    let can : (b : LiteralBound) → CanTell g b t.means = λ b.
+    rw is.means (heard_can g tables c.args.time b (record { values = []; faults = [] }) x c.args.node parts.1) in
     record {
       each = c.in_ok-add_row.ensures.each g known can c.loop-item.invariant.each;
       told = λ b s m.
           row_more (item_tells g tables c.args.time b s) c.args.items.now c.loop-item.item-index 0 c.loop-item-test.true
           false (do_tell g c.args.time b c.loop-item.arrivals.items s)
           (do_tell g c.args.time b c.add_row.new.arrivals.items s) (c.loop-item.invariant.told b s m)
-          (rw (is.telling, is.line.all) at c.in_ok-add_row.ensures.told g b s m);
+          (rw (is.means, is.line.all) at c.in_ok-add_row.ensures.told g b s m);
     }

@@ -4,7 +4,7 @@ use Rattle.cpg_base.specs.Graph.{item_count, node_of, process_count, process_of_
 use Rattle.cpg_table.specs.Table.{columns_of}
 use Rattle.cpg_cube.specs.declared.column.Column.{Column}
 use Rattle.cpg_check_heard.proofs.Endings.{ended_by}
-use Rattle.cpg_check_heard.proofs.TellerLists.{teller_at}
+use Rattle.cpg_check_heard.proofs.TellingRowLists.{row_at}
 use Rattle.cpg_check_heard.proofs.hearing.Hearing.has_ended.Goals as goal
 
 -- the last column of the process and its longest execution end by the time, so all do
@@ -17,8 +17,8 @@ returns c =
     let own : p < process_count g =
     rw c.problem-problem.ensures.problem at c.process_of_variable-process.ensures.within in
     let below : p < item_count g = omega arith in
-    let is = teller_at g tables
-    (item_count g) c.args.self.now.tellers.items p t c.requires.hearing.tellers below c.index.ensures in
+    let is = row_at g tables
+    (item_count g) c.args.self.now.telling_rows.items p t c.requires.hearing.telling_rows below c.index.ensures in
     let here : p ≡ process_of_variable g c.args.variable =
     rw c.problem-problem.ensures.problem at c.process_of_variable-process.ensures.process in
     let home : node_of g p ≡ c.args.node =
@@ -26,6 +26,6 @@ returns c =
     let longest : c.duration-longest.result ≡ duration g p g.faults =
     rw (← c.problem-problem.ensures.problem) (rw c.faults.ensures.faults at c.duration-longest.ensures.duration) in
     ended_by g tables c.args.node c.args.variable c.args.time t.line.now.last c.duration-longest.result
-    c.has_come.result c.has_come.ensures (subst (λ q. node_of g q ≡ c.args.node) here home)
+    c.has_come.result c.has_come.ensures.is (subst (λ q. node_of g q ≡ c.args.node) here home)
     (subst (λ q. c.duration-longest.result ≡ duration g q g.faults) here longest)
     (subst (λ q. All (λ (d : Column). d.time ≤ t.line.now.last) (columns_of tables q)) here is.line.last)

@@ -3,7 +3,7 @@ use Rattle.std.specs.Prelude.{IfSome}
 use Rattle.cpg_cube.specs.declared.column.Column.{Column}
 use Rattle.cpg_cube.specs.Column.{column_at}
 use Rattle.cpg_tree.proofs.Passes.{of_true}
-use Rattle.cpg_check_quick.specs.Courses.{IsOverAt}
+use Rattle.cpg_check_quick.specs.SpannedRows.{IsOverAt}
 use Rattle.cpg_check_quick.proofs.OrderLaws.{told_at}
 use Rattle.cpg_check_quick.proofs.before.BeforePairTest.passes.Goals as goal
 
@@ -11,8 +11,8 @@ use Rattle.cpg_check_quick.proofs.before.BeforePairTest.passes.Goals as goal
 pub returns : goal.returns
 returns c = of_true c.is_over_from.result c.is_over_from.ensures (λ all s lies.
     subst (λ (o : Option ℕ). IfSome o
-    (λ i. IsOverAt c.args.self.now.course.now (column_at c.args.self.now.columns.now i).time c.args.second s))
+    (λ i. IsOverAt c.args.self.now.row.now (column_at c.args.self.now.columns.now i).time c.args.second s))
     (sym c.in-Some.is)
-    (told_at (λ (d : Column). IsOverAt c.args.self.now.course.now d.time c.args.second s) c.args.self.now.columns.now
+    (told_at (λ (d : Column). IsOverAt c.args.self.now.row.now d.time c.args.second s) c.args.self.now.columns.now
     c.in-Some.place c.in-Some-get.column.now
     c.in-Some-get.ensures.lookup.3.0 c.in-Some-get.ensures.lookup.1 (all s lies)))

@@ -8,14 +8,15 @@ use Rattle.cpg_check_quick.proofs.listening.Listener.are_over.Goals as goal
 -- the process of the next literal's variable is over by the time, too
 pub loop-literal-preserved : goal.loop-literal-preserved
 loop-literal-preserved c =
-    λ tables s turns law lies. All-more (λ (m : Literal). IsOwnOver c.args.self.now.admitted.now.graph tables
+    λ tables s sequences law lies. All-more (λ (m : Literal). IsOwnOver c.args.self.now.admitted.now.graph tables
     c.args.self.now.node m.variable c.args.time s) c.args.literals.now
     c.loop-literal.literal-index (record { variable = 0; low = 0; high = 0 }) c.loop-literal-test.true
-    (c.loop-literal.invariant tables s turns law lies)
-    (OnTrue_at c.if-not-is_own_over.false c.is_own_over.ensures tables s turns law lies)
+    (c.loop-literal.invariant tables s sequences law lies)
+    (OnTrue_at c.if-not-is_own_over.false c.is_own_over.ensures tables s sequences law lies)
 
 -- the loop has gone over all of them, so what holds of those so far holds of all
 pub returns : goal.returns
-returns c = λ tables s turns law lies. each_all (λ (m : Literal). IsOwnOver c.args.self.now.admitted.now.graph tables
+returns c = λ tables s sequences law lies.
+    each_all (λ (m : Literal). IsOwnOver c.args.self.now.admitted.now.graph tables
     c.args.self.now.node m.variable c.args.time s) c.args.literals.now
-    c.loop-literal.literal-index c.loop-literal-test.false (c.loop-literal.invariant tables s turns law lies)
+    c.loop-literal.literal-index c.loop-literal-test.false (c.loop-literal.invariant tables s sequences law lies)

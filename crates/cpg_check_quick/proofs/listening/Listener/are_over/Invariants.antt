@@ -5,14 +5,14 @@ use Rattle.cpg_table.specs.Table.{NodeTable}
 use Rattle.cpg_tree.specs.Space.{IsInSpace}
 use Rattle.cpg_check_quick.specs.Hearing.{IsOwnOver}
 use Rattle.cpg_check_quick.specs.Order.{execution}
-use Rattle.cpg_check_quick.specs.Turns.{AreTurns}
+use Rattle.cpg_check_quick.specs.Sequences.{AreSequences}
 use Rattle.cpg_check_quick.proofs.listening.Listener.are_over.Given as goal
 
 -- in each scenario of the space, each literal so far is on a variable of a process on the listener's own node that is
 -- over by `time`
 abbrev pub invariant-loop-literal : goal.invariant-loop-literal
 invariant-loop-literal l = (tables : List NodeTable) (s : Scenario) →
-    AreTurns (execution l.self.admitted.now.graph) l.self.admitted.now.graph tables l.self.turns.now →
+    AreSequences (execution l.self.admitted.now.graph) l.self.admitted.now.graph tables l.self.sequences.now →
     IsScenario l.self.admitted.now.graph s → IsInSpace l.space s →
     All (λ (m : Literal). IsOwnOver l.self.admitted.now.graph tables l.self.node m.variable l.time s)
     (take l.literal-index l.literals)

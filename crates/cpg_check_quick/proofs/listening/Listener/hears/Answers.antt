@@ -8,7 +8,7 @@ use Rattle.cpg_tree.proofs.Forks.{from_false, from_true}
 use Rattle.cpg_tree.proofs.Passes.{of_true}
 use Rattle.cpg_check_quick.specs.Bounds.{unknown_bounds}
 use Rattle.cpg_check_quick.specs.Hearing.{AreLeft, IsAllHeard}
-use Rattle.cpg_check_quick.specs.Speakers.{AreToldIn}
+use Rattle.cpg_check_quick.specs.HeardRows.{AreToldIn}
 use Rattle.cpg_check_quick.proofs.BoundLaws.{all_wider, column_heard}
 use Rattle.cpg_check_quick.proofs.OwnLaws.{known_heard, left_heard}
 use Rattle.cpg_check_quick.proofs.listening.Listener.hears.Goals as goal
@@ -18,7 +18,7 @@ pub returns-then-not-narrow_to : goal.returns-then-not-narrow_to
 returns-then-not-narrow_to c = λ tables x is rules k l h s law m.
     let none = rw c.literals-literals.ensures.literals at
     (from_false c.narrow_to.result c.if-not-narrow_to.true c.narrow_to.ensures.none) in
-    absurd (true≢false (sym m ∙ none s (is.turns.courses.everywhere.lies s law)))
+    absurd (true≢false (sym m ∙ none s (is.sequences.rows.everywhere.lies s law)))
 
 -- each bound of the column is told by a frame, or is on a variable of a process that is over; so all are heard
 pub returns : goal.returns
@@ -31,7 +31,7 @@ returns c = of_true c.are_over.result c.are_over.ensures (λ over tables x is ru
     let fits = rw c.literals-literals.ensures.literals at
     (from_true c.narrow_to.result c.if-not-narrow_to.false c.narrow_to.ensures.lies) in
     let lies : (s : Scenario) → IsScenario g s → matches column.cube s ≡ true → IsInSpace c.narrow_to.new.self s =
-    λ s law m. fits s (is.turns.courses.everywhere.lies s law) m in
+    λ s law m. fits s (is.sequences.rows.everywhere.lies s law) m in
     let wanted : List Literal = c.list_unknown.new.bounds.items in
     let left : List Literal = c.listen.new.wanted.items in
     let listed : wanted ≡ flat_map (unknown_bounds g.faults known) column.cube =
@@ -39,10 +39,10 @@ returns c = of_true c.are_over.result c.are_over.ensures (λ over tables x is ru
     c.in_ok-list_unknown.ensures in
     let wider : AreToldIn column.cube wanted = all_wider g tables node column known wanted listed in
     let told : AreLeft g tables (home g x) column wanted left = subst (λ n. AreLeft g tables n column wanted left)
-    is.node (c.in_ok-listen.ensures g tables is.speakers wider lies) in
+    is.node (c.in_ok-listen.ensures g tables is.heard_rows wider lies) in
     let ended = rw (c.as_slice.ensures.value, is.node) at over in
     subst (λ n. IsAllHeard g tables n column) (sym is.node)
     (column_heard g tables (home g x) column known wanted listed
     (known_heard g tables rules x is.item few column k known is.known)
     (left_heard g tables rules x is.item few column k wanted left wider told
-    (λ s law m. ended tables s is.turns law (lies s law m)))))
+    (λ s law m. ended tables s is.sequences law (lies s law m)))))

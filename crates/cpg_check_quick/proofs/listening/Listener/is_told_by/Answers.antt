@@ -9,7 +9,7 @@ use Rattle.cpg_table.specs.Table.{columns_of}
 use Rattle.cpg_tree.proofs.Passes.{of_true}
 use Rattle.cpg_check_quick.specs.Hearing.{IsHeardIn}
 use Rattle.cpg_check_quick.proofs.OwnLaws.{known_heard}
-use Rattle.cpg_check_quick.proofs.SpeakerLaws.{begun_heard}
+use Rattle.cpg_check_quick.proofs.HeardRowLaws.{begun_heard}
 use Rattle.cpg_check_quick.proofs.listening.Listener.is_told_by.Goals as goal
 
 pub returns : goal.returns
@@ -21,11 +21,11 @@ returns c = of_true c.begin_with.result
     let column = c.args.column.now in
     let own = c.in-Some.own.now in
     let few = c.problem-problem.ensures.admitted.limits.few_processes in
-    let there : Contains (columns_of tables c.args.speaker.now.item) own =
+    let there : Contains (columns_of tables c.args.heard_row.now.item) own =
     subst (λ (cs : List Column). Contains cs own) speaks.columns
     (c.args.place, c.in-Some.ensures.lookup.3.0, sym c.in-Some.ensures.lookup.1) in
     let rest : List Literal = drop (length own.cube) column.cube in
-    begun_heard speaks column own there (OnTrue_at c.if-not-has_come.false c.has_come.ensures) begins.first (λ l h.
+    begun_heard speaks column own there (OnTrue_at c.if-not-has_come.false c.has_come.ensures.come) begins.first (λ l h.
     subst (λ n. IsHeardIn g tables n column l) (sym is.node)
     (known_heard g tables rules x is.item few column k known is.known l
     (subst (λ cube. Contains cube l) (take-append-drop (length own.cube) column.cube)

@@ -49,23 +49,23 @@ loop-faults-init c = let lane = subst (IsLane c.args.setting.now.problem.now
     (c.args.setting.now.problem.now.faults + 1) c.self.inside.courses.items lane.count lane.each
 
 -- the item at this place of the queue is one of the graph
-pub send-requires-clause-item : goal.send-requires-clause-item
-send-requires-clause-item c =
+pub send_item-requires-clause-item : goal.send_item-requires-clause-item
+send_item-requires-clause-item c =
     let g = c.args.setting.now.problem.now in
     let x = get_or c.queue.result.now c.args.at 0 in
     (in_queue g c.args.process x (subst (λ xs. Contains xs x) c.queue.ensures (Contains-get_or c.queue.result.now
     c.args.at 0 (omega (arith, c.requires.at, ap length c.queue.ensures))))).within
 
 -- the node of the process has a slot, as it sends something
-pub send-requires-clause-slot : goal.send-requires-clause-slot
-send-requires-clause-slot c =
+pub send_item-requires-clause-slot : goal.send_item-requires-clause-slot
+send_item-requires-clause-slot c =
     let g = c.args.setting.now.problem.now in
     queued_slot g c.requires.setting.admitted.1.slots c.args.process (queued g c.args.process c.args.at)
     (Contains-get_or (queue_of g c.args.process) c.args.at 0 c.requires.at)
 
 -- the course has a time for each item
-pub send-requires-clause-times : goal.send-requires-clause-times
-send-requires-clause-times c =
+pub send_item-requires-clause-times : goal.send_item-requires-clause-times
+send_item-requires-clause-times c =
     let few : c.loop-faults.faults < c.args.setting.now.problem.now.faults + 1 =
     omega (arith, c.loop-faults-test.true, c.requires.lane.count, ap length c.self.view_is) in
     let s = subst (HasSentTo c.args.setting.now c.args.frozen.now c.args.process
@@ -75,8 +75,8 @@ send-requires-clause-times c =
     s.places.times
 
 -- the course has free slots for each node
-pub send-requires-clause-free : goal.send-requires-clause-free
-send-requires-clause-free c =
+pub send_item-requires-clause-free : goal.send_item-requires-clause-free
+send_item-requires-clause-free c =
     let few : c.loop-faults.faults < c.args.setting.now.problem.now.faults + 1 =
     omega (arith, c.loop-faults-test.true, c.requires.lane.count, ap length c.self.view_is) in
     let s = subst (HasSentTo c.args.setting.now c.args.frozen.now c.args.process
@@ -86,8 +86,8 @@ send-requires-clause-free c =
     s.places.free_count
 
 -- the end of the process in this course is small
-pub send-requires-clause-early : goal.send-requires-clause-early
-send-requires-clause-early c =
+pub send_item-requires-clause-early : goal.send_item-requires-clause-early
+send_item-requires-clause-early c =
     let g = c.args.setting.now.problem.now in
     let order = c.args.setting.now.order.now in
     let p = c.args.process in
@@ -108,8 +108,8 @@ send-requires-clause-early c =
     c.requires.setting.admitted.1.limits c.requires.asked.long c.requires.early).0
 
 -- the time of the send in this course is small
-pub send-requires-clause-time : goal.send-requires-clause-time
-send-requires-clause-time c =
+pub send_item-requires-clause-time : goal.send_item-requires-clause-time
+send_item-requires-clause-time c =
     let g = c.args.setting.now.problem.now in
     let order = c.args.setting.now.order.now in
     let p = c.args.process in
@@ -149,11 +149,11 @@ loop-faults-preserved c =
     let sent = c.is_sent.ensures.sent c.if-not-is_sent.false in
     half_more (HasSentTo c.args.setting.now c.args.frozen.now p (c.args.at + 1) c.args.at values)
     (HasSentTo c.args.setting.now c.args.frozen.now p (c.args.at + 1) (c.args.at + 1) values)
-    (g.faults + 1) c.loop-faults.faults c.loop-faults.self-inside.courses.items _ c.send.new.course
+    (g.faults + 1) c.loop-faults.faults c.loop-faults.self-inside.courses.items _ c.send_item.new.course
     c.loop-faults.invariant few
     (subst
     (HasSentTo c.args.setting.now c.args.frozen.now p (c.args.at + 1) (c.args.at + 1) values c.loop-faults.faults)
-    (sym (c.send.ensures ∙ ap (λ y. course_sent g c.args.frozen.now p y course) here))
+    (sym (c.send_item.ensures ∙ ap (λ y. course_sent g c.args.frozen.now p y course) here))
     (item_sent g order c.requires.setting.topological c.args.frozen.now values p c.requires.process
     (on_graph g c.requires.setting.admitted.1.limits p c.requires.process) c.args.at c.requires.at
     c.loop-faults.faults few

@@ -50,7 +50,7 @@ returns-in-Some-clause-along g c start name past a =
     let out = (g.O.Sink.state c.tell.new.out).taken in
     let k = fed_on name past shelf rest c.in-Ok.fed.count start now f n a c.in-Ok.ensures.piece in
     let told_all : is_err c.tell.result ≡ false = search rules in
-    let bad : n.live.bad ≡ Some c.in-Some.bad = search rules in
+    let lawless : n.live.lawless ≡ Some c.in-Some.lawless = search rules in
     record {
       fetch = k.fetch;
       named = k.named;
@@ -58,7 +58,7 @@ returns-in-Some-clause-along g c start name past a =
       is = (
         act_lines f.head n.live.progress.acts,
         fed_lawless name past rest.history start now out f.head f.table f.live.progress.acts f.told n.read n.live k
-            c.in-Some.bad bad,
+            c.in-Some.lawless lawless,
         record {
           faultless = on_ok c.tell.result told_all c.tell.ensures.cause.kept;
           taken =
@@ -80,7 +80,7 @@ returns-then-self-gt-STREAM_LIMIT-clause-along g c start name past a =
     let out = (g.O.Sink.state c.tell.new.out).taken in
     let k = fed_on name past shelf rest c.in-Ok.fed.count start now f n a c.in-Ok.ensures.piece in
     let told_all : is_err c.tell.result ≡ false = search rules in
-    let none : n.live.bad ≡ None = search rules in
+    let none : n.live.lawless ≡ None = search rules in
     let read : c.self.inside.read ≡ n.read = ap (λ (f : Follower). f.read) (c.self.view_is ∙ c.tell.ensures.state) in
     let over : STREAM_LIMIT < n.read = omega (arith, c.if-self-gt-STREAM_LIMIT.true, read) in
     record {
@@ -111,7 +111,7 @@ returns-clause-along g c start name past a =
     let now = (g.O.Sink.state c.args.out.now).taken in
     let out = (g.O.Sink.state c.tell.new.out).taken in
     let told_all : is_err c.tell.result ≡ false = search rules in
-    let none : n.live.bad ≡ None = search rules in
+    let none : n.live.lawless ≡ None = search rules in
     let read : c.self.inside.read ≡ n.read = ap (λ (f : Follower). f.read) (c.self.view_is ∙ c.tell.ensures.state) in
     let within : n.read ≤ STREAM_LIMIT = omega (arith, c.if-self-gt-STREAM_LIMIT.false, read) in
     along_at name past shelf rest c.in-Ok.fed.count start now out f n c.tell.new.self a

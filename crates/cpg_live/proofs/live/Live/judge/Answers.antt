@@ -8,6 +8,6 @@ use Rattle.cpg_live.proofs.live.Live.judge.Goals as goal
 pub take-requires : goal.take-requires
 take-requires c = subst (λ (s : LiveState). is_after s.progress.dispatcher.last c.args.told.time ≡ true) c.self.view_is
     (after_later c.self.inside.progress.dispatcher.last c.self.inside.time c.args.told.time
-    (c.self.invariant.later (ap (λ (s : LiveState). s.bad) c.self.view_is ∙ c.requires.lawful)
+    (c.self.invariant.later (ap (λ (s : LiveState). s.lawless) c.self.view_is ∙ c.requires.lawful)
     (ap (λ (s : LiveState). s.closed) c.self.view_is ∙ c.requires.open))
     (omega (arith, c.if-told-self.false)))

@@ -1,0 +1,57 @@
+-- The rows of all items, one after another.
+use Rattle.std.proofs.Common.{ℕ, zero, suc, ◌+◌, ◌<◌, ◌≡◌, List, [], ◌∷◌, ◌++◌, get_or, length, Some, arith, refl, sym}
+use Rattle.std.proofs.Common.{ap, ◌∙◌, subst, inl, inr, length-append}
+use Rattle.std.specs.Prelude.{slice_get}
+use Rattle.std.proofs.lemmas.Bool.{cases_lt}
+use Rattle.std.proofs.lemmas.Option.{same_Some, slice_get-get_or, slice_get_within}
+use Rattle.cpg_base.specs.Graph.{Graph}
+use Rattle.cpg_table.specs.Table.{NodeTable}
+use Rattle.cpg_check_heard.specs.declared.telling_rows.TellingRow.{TellingRow}
+use Rattle.cpg_check_heard.specs.TellingRows.{IsTellingRow, AreTellingRows}
+
+get_before : {X : Type 0} (xs ys : List X) (i : ℕ) → i < length xs → slice_get (xs ++ ys) i ≡ slice_get xs i
+get_before [] ys i h = absurd (omega arith)
+get_before (x ∷ xs) ys zero h = refl
+get_before (x ∷ xs) ys (suc i) h = get_before xs ys i (omega arith)
+
+get_last : {X : Type 0} (xs : List X) (y : X) → slice_get (xs ++ y ∷ []) (length xs) ≡ Some y
+get_last [] y = refl
+get_last (x ∷ xs) y = get_last xs y
+
+module _ (g : Graph) (tables : List NodeTable) where
+  -- without items there are no rows
+  pub rows_none : AreTellingRows g tables 0 []
+  rows_none = record { count = refl; each = λ x t e. absurd (omega (arith, slice_get_within [] x t e)) }
+
+  -- a place below the count has an earlier row, and the last place the new one
+  rows_push : (items : ℕ) (ts : List TellingRow) (t : TellingRow) → AreTellingRows g tables items ts →
+      IsTellingRow g tables items t →
+      AreTellingRows g tables (items + 1) (ts ++ t ∷ [])
+  rows_push items ts t are is = record {
+    count = omega (arith, are.count, length-append ts (t ∷ []));
+    each = λ x u e. elim (cases_lt x (length ts)) [
+      | inl l ↦ are.each x u (sym (get_before ts (t ∷ []) x l) ∙ e)
+      | inr l ↦
+          let within = slice_get_within (ts ++ t ∷ []) x u e in
+          let last : length ts ≡ x = omega (arith, within, length-append ts (t ∷ [])) in
+          let same : t ≡ u =
+          same_Some t u (sym (get_last ts t) ∙ subst (λ i. slice_get (ts ++ t ∷ []) i ≡ Some u) (sym last) e) in
+          subst (IsTellingRow g tables x) same
+          (subst (λ y. IsTellingRow g tables y t) (let n : items ≡ x = omega (arith, are.count, last) in n) is)
+    ];
+  }
+
+  -- the row of the next item, put last, makes the rows of one item more
+  pub rows_more : (items : ℕ) (ts more : List TellingRow) (t : TellingRow) → more ≡ ts ++ t ∷ [] →
+      AreTellingRows g tables items ts → IsTellingRow g tables items t →
+      AreTellingRows g tables (items + 1) more
+  rows_more items ts more t e are is =
+      subst (AreTellingRows g tables (items + 1)) (sym e) (rows_push items ts t are is)
+
+  -- the row found at an item's place is the item's
+  pub row_at : (items : ℕ) (ts : List TellingRow) (x : ℕ) (t : TellingRow) → AreTellingRows g tables items ts →
+      x < items →
+      t ≡ get_or ts x t →
+      IsTellingRow g tables x t
+  row_at items ts x t are l is =
+      are.each x t (slice_get-get_or ts x t (omega (arith, l, are.count)) ∙ ap Some (sym is))

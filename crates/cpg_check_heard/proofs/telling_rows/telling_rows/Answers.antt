@@ -1,0 +1,37 @@
+use Rattle.std.proofs.Common.{◌≡◌, ◌<◌, arith, ap, sym, subst}
+use Rattle.cpg_base.specs.Graph.{item_count}
+use Rattle.cpg_table.specs.Table.{columns_of}
+use Rattle.cpg_violation.specs.Lines.{IsLine}
+use Rattle.cpg_check_heard.specs.TellingRows.{AreTellingRows}
+use Rattle.cpg_check_heard.proofs.TellingRowLists.{rows_more}
+use Rattle.cpg_check_heard.proofs.telling_rows.telling_rows.Goals as goal
+
+-- the row of the next item is added after those before
+pub loop-item-preserved : goal.loop-item-preserved
+loop-item-preserved c = λ tables are.
+    let g = c.args.admitted.now.graph in
+    let x = c.loop-item.item in
+    let below : x < item_count g = omega (
+      arith,
+      c.loop-item-test.true,
+      c.item_count-item-end.ensures,
+      ap item_count c.problem-problem.ensures.problem,
+    ) in
+    let line : IsLine (columns_of tables x) c.index-lines-item.result =
+    subst (IsLine (columns_of tables x)) (sym c.index-lines-item.is) (are.each x c.index-lines-item.result below) in
+    rows_more g tables x c.loop-item.telling_rows.items c.push.new.self.items _ c.in_ok-push.ensures.items
+    (c.loop-item.invariant tables are)
+    (record { line = line; means = rw (← c.problem-problem.ensures.problem) c.means_of-means.ensures })
+
+-- the loop has seen all items
+pub returns : goal.returns
+returns c = λ tables are.
+    let g = c.args.admitted.now.graph in
+    let last : c.loop-item.item ≡ item_count g = omega (
+      arith,
+      c.loop-item-test.false,
+      c.loop-item.auto.item-end,
+      c.item_count-item-end.ensures,
+      ap item_count c.problem-problem.ensures.problem,
+    ) in
+    subst (λ n. AreTellingRows g tables n c.loop-item.telling_rows.items) last (c.loop-item.invariant tables are)

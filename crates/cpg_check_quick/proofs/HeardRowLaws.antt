@@ -1,0 +1,158 @@
+-- What frames that reach a node tell it.
+use Rattle.std.proofs.Common.{ℕ, ◌+◌, ◌<◌, ◌≤◌, ◌≡◌, ◌⊎◌, true, List, Option, None, Some, All, Contains, IfSome, get_or}
+use Rattle.std.proofs.Common.{length, take, drop, ◌++◌, refl, sym, ap, ◌∙◌, subst, arith, inl, inr, leb-true}
+use Rattle.std.proofs.lemmas.Bool.{and_parts}
+use Rattle.std.proofs.lemmas.List.{get_or_default, take-append-drop}
+use Rattle.std.proofs.lemmas.List.Elements.{All-contains, Contains-append_cases, Contains-append_left}
+use Rattle.std.proofs.lemmas.List.Elements.{Contains-append_right, Contains-get_or}
+use Rattle.std.proofs.lemmas.List.Folds.{list_all-append}
+use Rattle.cpg_base.specs.Bus.{slot_length}
+use Rattle.cpg_base.specs.Graph.{Graph, home, item_at}
+use Rattle.cpg_base.proofs.Lists.{from_all}
+use Rattle.cpg_base.specs.Scenario.{Scenario, IsScenario, number_of}
+use Rattle.cpg_cube.specs.Cube.{holds, matches}
+use Rattle.cpg_cube.specs.declared.literal.Literal.{Literal}
+use Rattle.cpg_table.specs.Heard.{exactly, facts, frame_value, is_heard}
+use Rattle.cpg_table.specs.Table.{NodeTable, columns_of}
+use Rattle.cpg_cube.specs.declared.column.Column.{Column}
+use Rattle.cpg_cube.specs.Column.{column_at}
+use Rattle.cpg_row_trees.specs.Places.{IsAmong, place_at}
+use Rattle.cpg_row_trees.proofs.TreeLaws.{place_matches, place_there}
+use Rattle.cpg_check_quick.specs.Hearing.{AreLeft, IsAllHeard, IsHeardIn}
+use Rattle.cpg_check_quick.specs.HeardRows.{AreToldIn, HasCome, IsHeardRow, IsTold, IsToldIn}
+use Rattle.cpg_check_quick.specs.declared.heard_rows.HeardRow.{HeardRow}
+use Rattle.cpg_check_quick.proofs.HeardLaws.{heard_frame}
+
+-- an item that a node hears, and a literal whose variable a literal of a column bounds at least as closely
+module _ {g : Graph} {tables : List NodeTable} {node : ℕ} {row : HeardRow} (is : IsHeardRow g tables node row)
+    (places : List ℕ) (c : Column) (l : Literal) (h : IsToldIn c.cube l) where
+  -- if a frame of the row has come by the column's time, and the row implies the literal at the place found,
+  -- the node has heard the literal; by cases on whether the frame carries the value, or its column's cube bounds it
+  told_by : (s : Scenario) → IsScenario g s → matches c.cube s ≡ true →
+      IsTold row.value row.columns.now places l → (o : Option ℕ) →
+      place_at row.tree.now s ≡ o
+      → HasCome row.columns.now row.delay c.time o → IsAmong places o →
+      is_heard g.faults (facts g tables node s c.time) l ≡ true
+  -- no place is found, which the list of places excludes
+  told_by s law m told None e come among = absurd among
+  told_by s law m told (Some i) e come among =
+      let d : Column = column_at (columns_of tables row.item) i in
+      let there : i < length (columns_of tables row.item) = place_there is.tree s law i e in
+      let match : matches d.cube s ≡ true = place_matches is.tree s law i e in
+      let same : column_at row.columns.now i ≡ d = ap (λ columns. column_at columns i) is.columns in
+      let by : d.time + slot_length g (home g row.item) ≤ c.time =
+      omega (arith, come, ap (λ (d : Column). d.time) same, is.delay) in
+      let inside = and_parts _ _ (from_all (holds s) c.cube h.by m h.there) in
+      let from : h.by.low ≤ number_of s l.variable =
+      subst (λ v. h.by.low ≤ number_of s v) h.variable (leb-true _ _ inside.0) in
+      let to : number_of s l.variable ≤ h.by.high =
+      subst (λ v. number_of s v ≤ h.by.high) h.variable (leb-true _ _ inside.1) in
+      elim told as (λ _. is_heard g.faults (facts g tables node s c.time) l ≡ true) [
+        -- the frame carries the value of the variable
+        | inl value ↦
+            let carried : Contains (frame_value s (item_at g row.item))
+            (exactly l.variable (number_of s l.variable)) =
+            subst (λ o. IfSome o
+            (λ v. (s : Scenario) → Contains (frame_value s (item_at g row.item)) (exactly v (number_of s v))))
+            value is.value s in
+            heard_frame g tables node c.time s l row.item d (exactly l.variable (number_of s l.variable)) is.item
+            is.heard (Contains-get_or (columns_of tables row.item) i _ there) match by
+            (Contains-append_right d.cube (frame_value s (item_at g row.item)) _ carried) refl
+            (omega (arith, h.low, from)) (omega (arith, to, h.high))
+        -- the column at the place bounds the variable as closely
+        | inr all ↦
+            let at : IsToldIn d.cube l = subst (λ (d : Column). IsToldIn d.cube l) same
+            (All-contains (λ i. IsToldIn (column_at row.columns.now i).cube l) places i all among) in
+            heard_frame g tables node c.time s l row.item d at.by is.item is.heard
+            (Contains-get_or (columns_of tables row.item) i _ there) match by
+            (Contains-append_left d.cube (frame_value s (item_at g row.item)) at.by at.there)
+            at.variable at.low at.high
+      ]
+
+  -- a literal is heard that the frames tell which have come wherever a column matches
+  pub told_literal_heard : ((s : Scenario) → IsScenario g s → matches c.cube s ≡ true →
+      HasCome row.columns.now row.delay c.time (place_at row.tree.now s) ×
+      IsAmong places (place_at row.tree.now s))
+      → IsTold row.value row.columns.now places l → IsHeardIn g tables node c l
+  told_literal_heard found told s law m = let r = found s law m in
+      told_by s law m told (place_at row.tree.now s) refl r.0 r.1
+
+-- the wanted literals that the frames don't tell
+module _ {g : Graph} {tables : List NodeTable} {node : ℕ} {row : HeardRow} (is : IsHeardRow g tables node row)
+    (places : List ℕ) (c : Column) (wanted left : List Literal)
+    (wider : AreToldIn c.cube wanted) where
+  -- if the frames have come wherever the column matches, the literals that they don't tell are those left
+  pub left_untold : ((l : Literal) → Contains left l → Contains wanted l) →
+      ((l : Literal) → Contains wanted l → Contains left l ⊎ IsTold row.value row.columns.now places l)
+      → ((s : Scenario) → IsScenario g s → matches c.cube s ≡ true → HasCome row.columns.now row.delay c.time
+      (place_at row.tree.now s) × IsAmong places (place_at row.tree.now s))
+      → AreLeft g tables node c wanted left
+  left_untold among told found = record {
+    among = among;
+    heard = λ l h.
+        elim (told l h) [ inl kept ↦ inl kept | inr by ↦ inr (told_literal_heard is places c l (wider l h) found by) ];
+  }
+
+module _ (g : Graph) (tables : List NodeTable) (node : ℕ) (c : Column) where
+  -- at first all wanted literals are left
+  pub left_first : (wanted : List Literal) → AreLeft g tables node c wanted wanted
+  left_first wanted = record { among = λ l h. h; heard = λ l h. inl h }
+
+  -- the literals left of those left are those left of all
+  pub left_more : (wanted left next : List Literal) → AreLeft g tables node c wanted left →
+      AreLeft g tables node c left next →
+      AreLeft g tables node c wanted next
+  left_more wanted left next before here = record {
+    among = λ l h. before.among l (here.among l h);
+    heard = λ l h. elim (before.heard l h) [ inl kept ↦ here.heard l kept | inr heard ↦ inr heard ];
+  }
+
+-- the row that a look-up finds
+pub heard_row_at : {g : Graph} {tables : List NodeTable} {node : ℕ} {all : List HeardRow} →
+    All (IsHeardRow g tables node) all
+    → (i : ℕ) (row : HeardRow) (list : List HeardRow) → list ≡ all → i < length list → row ≡ get_or list i row
+    → IsHeardRow g tables node row
+heard_row_at {g = g} {tables = tables} {node = node} each i row list same l is =
+    subst (IsHeardRow g tables node) (sym (is ∙ ap (λ (ys : List HeardRow). get_or ys i row) same))
+    (each i row (omega (arith, l, ap length same)))
+
+-- a column that begins with the literals of one whose frame has come by its time
+module _ {g : Graph} {tables : List NodeTable}
+    {node : ℕ} {row : HeardRow} (is : IsHeardRow g tables node row) (c d : Column)
+    (there : Contains (columns_of tables row.item) d) (come : d.time + row.delay ≤ c.time)
+    (begins : take (length d.cube) c.cube ≡ d.cube) where
+  both_parts : d.cube ++ drop (length d.cube) c.cube ≡ c.cube
+  both_parts = ap (λ front. front ++ drop (length d.cube) c.cube) (sym begins) ∙ take-append-drop (length d.cube) c.cube
+
+  first_matches : (s : Scenario) → matches c.cube s ≡ true → matches d.cube s ≡ true
+  first_matches s m = (and_parts _ _ (sym (list_all-append (holds s) d.cube (drop (length d.cube) c.cube))
+      ∙ ap (λ cube. matches cube s) both_parts ∙ m)).0
+
+  -- if the literals behind these are heard, all are
+  pub begun_heard : ((l : Literal) → Contains (drop (length d.cube) c.cube) l → IsHeardIn g tables node c l) →
+      IsAllHeard g tables node c
+  begun_heard behind l h = elim (Contains-append_cases d.cube (drop (length d.cube) c.cube) l
+      (subst (λ cube. Contains cube l) (sym both_parts) h)) as (λ _. IsHeardIn g tables node c l) [
+        | inl first ↦
+            λ s law m. heard_frame g tables node c.time s l row.item d l is.item is.heard there (first_matches s m)
+            (omega (arith, come, is.delay))
+            (Contains-append_left d.cube (frame_value s (item_at g row.item)) l first) refl
+            (omega arith) (omega arith)
+        | inr rest ↦ behind l rest
+      ]
+
+-- the column at the only place is that at all
+pub only_place : (columns : List Column) (places : List ℕ) (c : Column) → length places ≡ 1 →
+    column_at columns (get_or places 0 0) ≡ c →
+    All (λ i. column_at columns i ≡ c) places
+only_place columns places c one is k d l = subst (λ i. column_at columns i ≡ c)
+    (get_or_default places 0 0 d (omega (arith, one)) ∙ ap (λ j. get_or places j d) (omega (arith, l, one))) is
+
+-- what the frames of the column at all places tell
+pub told_alone : {value : Option ℕ} (columns : List Column) (places : List ℕ) (c : Column) (l : Literal) →
+    All (λ i. column_at columns i ≡ c) places
+    → (value ≡ Some l.variable) ⊎ IsToldIn c.cube l → IsTold value columns places l
+told_alone columns places c l all h = elim h [
+  | inl value ↦ inl value
+  | inr by ↦ inr (λ k d r. subst (λ (c : Column). IsToldIn c.cube l) (sym (all k d r)) by)
+]

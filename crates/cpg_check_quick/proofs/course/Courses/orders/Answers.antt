@@ -1,8 +1,0 @@
-use Rattle.cpg_check_quick.proofs.OrderLaws.{orders_more}
-use Rattle.cpg_check_quick.proofs.course.Courses.orders.Goals as goal
-
--- one more order is pushed, whose items are in turn
-pub loop-group-preserved : goal.loop-group-preserved
-loop-group-preserved c = λ g tables lasts are present. rw c.in_ok-push.ensures.items
-    (orders_more lasts g tables c.loop-group.orders.items c.in_ok-order.order
-    (c.loop-group.invariant g tables lasts are present) (c.in_ok-order.ensures g tables lasts are present))

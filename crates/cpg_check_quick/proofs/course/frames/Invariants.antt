@@ -1,7 +1,0 @@
-use Rattle.cpg_check_quick.specs.Order.{frame}
-use Rattle.cpg_check_quick.proofs.OrderLaws.{AreSoFar}
-use Rattle.cpg_check_quick.proofs.course.frames.Given as goal
-
--- after each item, the list has the course of the frame of each item so far
-abbrev pub invariant-loop-item : goal.invariant-loop-item
-invariant-loop-item l = AreSoFar (frame l.admitted.graph) l.admitted.graph l.tables.nodes l.item l.list.items

@@ -1,0 +1,7 @@
+use Rattle.cpg_check_quick.specs.Order.{execution}
+use Rattle.cpg_check_quick.proofs.sequences.execution_sequences.Goals as goal
+
+-- the rows of the executions are given and the rule Present holds, so the orders are in sequence
+pub returns-clause-sequences : goal.returns-clause-sequences
+returns-clause-sequences c = c.in_ok-sequences.ensures.sequences c.args.admitted.now.graph c.args.tables.now.nodes
+    (execution c.args.admitted.now.graph) c.in_ok-rows.ensures.rows c.requires.rules.1.1.0

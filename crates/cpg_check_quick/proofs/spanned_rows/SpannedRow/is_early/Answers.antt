@@ -1,0 +1,8 @@
+use Rattle.cpg_tree.proofs.Passes.{of_true}
+use Rattle.cpg_check_quick.proofs.OrderLaws.{early_over}
+use Rattle.cpg_check_quick.proofs.spanned_rows.SpannedRow.is_early.Goals as goal
+
+-- the latest end of the item has come by the time
+pub returns : goal.returns
+returns c = of_true c.has_come.result c.has_come.ensures.come
+    (λ h g tables lasts x s row law. early_over row law c.args.time h)

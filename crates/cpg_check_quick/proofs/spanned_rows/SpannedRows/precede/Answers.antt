@@ -1,0 +1,12 @@
+use Rattle.cpg_tree.proofs.Passes.{of_true}
+use Rattle.cpg_check_quick.proofs.spanned_rows.SpannedRows.precede.Goals as goal
+
+-- the other item has no tree, so its columns are gone over
+pub returns-in_default : goal.returns-in_default
+returns-in_default c = of_true c.come_before.result c.come_before.ensures
+    (λ all g tables lasts long x are is. all g tables lasts x are is.columns)
+
+-- the other item has a tree, along which each item ends before it
+pub returns : goal.returns
+returns c = of_true c.end_before.result c.end_before.ensures
+    (λ all g tables lasts long x are is. all g tables lasts long x are is c.in-Some.is)

@@ -1,0 +1,7 @@
+use Rattle.cpg_check_quick.specs.Order.{frame}
+use Rattle.cpg_check_quick.proofs.OrderLaws.{AreSoFar}
+use Rattle.cpg_check_quick.proofs.spanned_rows.frames.Given as goal
+
+-- after each item, the list has the row of the frame of each item so far
+abbrev pub invariant-loop-item : goal.invariant-loop-item
+invariant-loop-item l = AreSoFar (frame l.admitted.graph) l.admitted.graph l.tables.nodes l.item l.list.items

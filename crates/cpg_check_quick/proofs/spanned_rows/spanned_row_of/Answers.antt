@@ -1,0 +1,28 @@
+use Rattle.std.proofs.Common.{◌≡◌, ◌∙◌, ◌≤◌, All, List, ap, subst}
+use Rattle.std.proofs.lemmas.Bool.{OnTrue_at}
+use Rattle.cpg_base.specs.Graph.{Graph}
+use Rattle.cpg_cube.specs.declared.column.Column.{Column}
+use Rattle.cpg_violation.proofs.SpaceLaws.{few_of}
+use Rattle.cpg_row_trees.proofs.TreeLaws.{tree_of_row}
+use Rattle.cpg_check_quick.proofs.spanned_rows.spanned_row_of.Goals as goal
+
+-- the columns are those of the item's row, the first and last times bound theirs, and the span is as given
+pub returns : goal.returns
+returns c =
+    let g = c.args.admitted.now.graph in
+    let same = c.columns_of-columns.ensures.columns in
+    let faults : c.faults.result ≡ g.faults =
+    c.faults.ensures.faults ∙ ap (λ (h : Graph). h.faults) c.problem.ensures.problem in
+    λ lasts span. record {
+      item = c.requires.item;
+      columns = same;
+      tree = tree_of_row g c.args.tables.now.nodes c.args.trees.now c.args.item c.requires.trees c.requires.item
+          c.index-trees-item.result c.index-trees-item.is;
+      first = subst (λ (columns : List Column). All (λ (d : Column). c.first_time.result ≤ d.time) columns) same
+          c.first_time.ensures.all;
+      last = subst (λ (columns : List Column). All (λ (d : Column). d.time ≤ c.last_time.result) columns) same
+          c.last_time.ensures.all;
+      span = span;
+      always = λ e s law. OnTrue_at e c.is_item_running.ensures s law
+          (c.whole-everywhere.ensures.lies s (few_of g c.faults.result faults s law));
+    }

@@ -1,9 +1,0 @@
-use Rattle.cpg_tree.proofs.Passes.{of_true}
-use Rattle.cpg_check_quick.proofs.WaitingLaws.{input_over}
-use Rattle.cpg_check_quick.proofs.waiting.Waiting.is_early.Goals as goal
-
--- the course of the input is over by the time in each scenario
-pub returns-in-Some : goal.returns-in-Some
-returns-in-Some c = of_true c.is_early.result c.is_early.ensures
-    (λ early tables s w law. input_over (c.in-Some.ensures tables w) c.args.time s
-    (λ lasts x is. early c.args.self.now.admitted.now.graph tables lasts x s is law))

@@ -1,0 +1,14 @@
+-- Items of each node that follow one another.
+use Rattle.std.specs.Prelude.{ℕ, List, All}
+use Rattle.cpg_base.specs.Graph.{Graph}
+use Rattle.cpg_base.specs.Scenario.{Scenario}
+use Rattle.cpg_table.specs.Table.{NodeTable}
+use Rattle.cpg_check_quick.specs.SpannedRows.{AreSpannedRows}
+use Rattle.cpg_check_quick.specs.Order.{IsInSequence}
+use Rattle.cpg_check_quick.specs.declared.sequences.Sequences.{Sequences}
+
+-- the rows of the first items, and orders in which each item is over before each later one
+pub record AreSequences (lasts : ℕ → Scenario → ℕ) (g : Graph) (tables : List NodeTable)
+    (sequences : Sequences) : Type 0 where
+  pub rows : AreSpannedRows lasts g tables sequences.rows
+  pub orders : All (λ order. IsInSequence lasts g tables order.items) sequences.orders.items

@@ -1,0 +1,12 @@
+use Rattle.std.proofs.Common.{◌≡◌, ◌∙◌, max, ap₂, arith}
+use Rattle.cpg_base.proofs.Bounds.{round-le}
+use Rattle.cpg_latest.specs.Lanes.{send_at}
+use Rattle.cpg_latest.proofs.stepping.send_item.Goals as goal
+
+-- the time of the send is small, so a round more has room
+pub overflow_add-free : goal.overflow_add-free
+overflow_add-free c =
+    let g = c.args.setting.now.problem.now in
+    let is : c.max-time.result ≡ send_at g c.args.frozen.now c.args.process c.args.item c.args.course.now =
+    c.max-time.ensures ∙ ap₂ max c.unfrozen_send.ensures c.frozen_time.ensures in
+    omega (arith, is, c.requires.time, c.round.ensures, round-le g c.requires.setting.admitted.1.limits)
