@@ -38,6 +38,7 @@ pub record AreActiveAlike (g : Graph) (s u : Scenario) : Type 0 where
       get_or s.values c false ≡ get_or u.values c false
   pub faults : (p : ℕ) → p < process_count g → active g s.values p ≡ true → fault_of s p ≡ fault_of u p
 
+-- equal numbers of two things, of which the first is active, have the same count
 one_more : (a b : Bool) (m n : ℕ) → (if a then m + 1 else 0) ≡ (if b then n + 1 else 0) → a ≡ true → m ≡ n
 one_more true true m n e t = omega arith
 one_more true false m n e t = absurd (omega arith)
@@ -51,6 +52,7 @@ module _ (g : Graph) (s u : Scenario) (same : active_numbers g s ≡ active_numb
       (omega (arith, length-map-range_with_len (active_fault g r) 0 (process_count g)))
       ∙ get_or-map-below (active_fault g r) (process_count g) p 0 l
 
+  -- the numbers of the conditions stand behind those of the processes
   values_at : (r : Scenario) (c : ℕ) → c < condition_count g →
       get_or (active_numbers g r) (process_count g + c) 0 ≡ active_value g r c
   values_at r c l =
@@ -79,18 +81,22 @@ module _ (g : Graph) (urgency : List ℕ) (urgent : IsUrgencyOrder g urgency) (l
   activation_is_same : (p : ℕ) → p < process_count g → activation g s.values p ≡ activation g u.values p
   activation_is_same p l = same_everywhere g urgency lawful s.values u.values p (omega arith) alike.values
 
+  -- the same processes are active
   active_is_same : (p : ℕ) → p < process_count g → active g s.values p ≡ active g u.values p
   active_is_same p l = ap is_active (activation_is_same p l)
 
+  -- the same edges are live
   live_is_same : (e : ℕ) → e < edge_count g → live g s.values e ≡ live g u.values e
   live_is_same e l = live_same g urgency lawful s.values u.values e l
       (activation_is_same (source g e) (source_in_order g urgency lawful e l))
       (λ c k at acts. alike.values c k (subst (λ q. active g s.values q ≡ true) (sym at) acts))
 
+  -- the same conditions decide a process
   deciding_is_same : (p : ℕ) → deciding g s.values p ≡ deciding g u.values p
   deciding_is_same p = deciding_same g urgency urgent p s.values u.values
       (λ c l d. alike.values c l (deciding_is_active g urgency urgent lawful s.values p c l d))
 
+  -- the same items are active
   item_is_same : (x : ℕ) → ItemCases g x → item_active g s.values (item_at g x) ≡ item_active g u.values (item_at g x)
   item_is_same x (inl c) =
       ap (item_active g s.values) c.1 ∙ active_is_same x c.0 ∙ sym (ap (item_active g u.values) c.1)
@@ -101,6 +107,7 @@ module _ (g : Graph) (urgency : List ℕ) (urgent : IsUrgencyOrder g urgency) (l
       sym (ap (item_active g u.values) c.3)
 
   module _ (order : List ℕ) (topological : IsTopological g order) (frozen : List (Option ℕ)) (t : Times) where
+    -- a start waits for the same in both scenarios
     start_same : (p : ℕ) → start_bounds g order s t p ≡ start_bounds g order u t p
     start_same p = ap (λ xs. (process_at g p).release ∷ xs) (ap₂ ◌++◌
         (ap₂ ◌++◌
@@ -112,6 +119,7 @@ module _ (g : Graph) (urgency : List ℕ) (urgent : IsUrgencyOrder g urgency) (l
         (ap (map (heard_there g t (node_of g p))) (same_flat_map (deciding g s.values) (deciding g u.values)
         (before_on_node g order p ++ p ∷ []) (λ q c. deciding_is_same q))))
 
+    -- so does a send
     send_same : (x : ℕ) → send_bounds g order s t x ≡ send_bounds g order u t x
     send_same x = ap (λ ys. next_slot g (home g x) (end_in t (producer g x)) ∷ map (λ y. time_in t y + round g) ys)
         (same_filter (λ y. item_active g s.values (item_at g y)) (λ y. item_active g u.values (item_at g y))
@@ -129,12 +137,14 @@ module _ (g : Graph) (urgency : List ℕ) (urgent : IsUrgencyOrder g urgency) (l
     bounds_same x (inr (inr c)) =
         ap (bounds_of_item g order s t x) c.3 ∙ send_same x ∙ sym (ap (bounds_of_item g order u t x) c.3)
 
+    -- so each item has the same time
     time_same : (x : ℕ) → x < item_count g → time_by g order frozen s t x ≡ time_by g order frozen u t x
     time_same x l =
         ap₂ (λ b xs. if b then Some (greatest (greatest xs ∷ option_to_list (get_or frozen x None))) else None)
         (item_is_same x (item_cases g x l)) (bounds_same x (item_cases g x l))
 
     module _ (run : IsRun g order frozen s t) where
+      -- and each execution the same end
       end_same : (p : ℕ) → p < process_count g → end_by g s t p ≡ end_by g u t p
       end_same p l = elim (cases_Bool (active g s.values p)) [
         | inl acts ↦

@@ -69,6 +69,7 @@ module _ (g : Graph) (order : List ℕ) (top : IsTopological g order) where
       (numbers : List ℕ) (at : ℕ) (f : IsFirstGreatest g urgency (length list) list numbers at) (s : Scenario)
       (t : Times) (scenario_at : (d : Scenario) → s ≡ get_or list at d)
       (run_at : (d : Times) → t ≡ get_or runs at d) (by : Option ℕ) where
+    -- the scenario that is shown has the run that is shown
     its_run : IsRun g order frozen s t
     its_run = subst (λ z. IsRun g order frozen z t) (sym (scenario_at s))
         (subst (IsRun g order frozen (get_or list at s)) (sym (run_at t)) (are.each at s t f.there))

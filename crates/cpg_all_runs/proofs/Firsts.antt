@@ -23,10 +23,12 @@ module _ (g : Graph) (urgency : List ℕ) (n : ℕ) (list : List Scenario) (numb
       IsFirstGreatest g urgency (n + 1) list numbers n
   takes_it much earlier = record {
     there = omega arith;
+    -- its number is the greatest of the first n + 1
     most = λ i l. elim (cases_eq i n) [
       | inl e ↦ omega (arith, ap (λ j. get_or numbers j 0) e)
       | inr ne ↦ omega (arith, f.most i (omega arith))
     ];
+    -- of those with this number, none comes before its scenario
     first = λ i d l e. elim (cases_eq i n) [
       | inl same ↦ ap (λ j. is_before g urgency (get_or list j d) (get_or list n d)) same
           ∙ before_irreflexive g urgency (get_or list n d)

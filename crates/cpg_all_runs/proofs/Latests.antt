@@ -58,6 +58,7 @@ later_first (Some m) (Some n) time u = record {
   few = let e : m ≡ u.most = same_some m u.most u.is in let f = u.few in omega arith;
 }
   where
+    -- two numbers that are there are equal if they are so as options
     same_some : (a b : ℕ) → Some a ≡ Some b → a ≡ b
     same_some a b e = cc
 
@@ -82,10 +83,12 @@ module _ (g : Graph) (order : List ℕ) (top : IsTopological g order) (frozen : 
       IsLatest g order frozen x n list latest →
       IsLatest g order frozen x (n + 1) list (later latest (get_or t.times x None))
   latest_more n latest s t within at run before = record {
+    -- the old greatest is reached as before, or the new run reaches the time
     reached = λ time e. elim (later_cases latest (get_or t.times x None) time e) [
       | inl is ↦ before.reached time is
       | inr is ↦ record { scenario = s; listed = (n, within, at); times = t; run = run; has = is }
     ];
+    -- the new run is no later than the later of the two, and neither is an old one
     above = λ i z u time l here other e. elim (cases_eq i n) [
       | inl same ↦
           let is : z ≡ s = sym here ∙ ap (λ j. get_or list j z) same ∙ get_or_default list n z s within ∙ at in
@@ -103,6 +106,7 @@ module _ (g : Graph) (order : List ℕ) (top : IsTopological g order) (frozen : 
     time_unset s t run = ap (λ o. greatest (unfrozen_time g order s t x ∷ option_to_list o)) unset
         ∙ (let e = greatest-cons (unfrozen_time g order s t x) [] in omega arith)
 
+    -- the item would have this time in the scenario whose run has it
     would_have : (time : ℕ) → HasTime g order frozen x list time → WouldHave g order frozen x time
     would_have time h =
         let p = time_parts g order frozen h.scenario h.times h.run x time h.has in
@@ -138,5 +142,6 @@ module _ (g : Graph) (order : List ℕ) (top : IsTopological g order) (frozen : 
       none = λ e time w. let u = would_be_up_to n latest time long is w in none-some u.most (sym e ∙ u.is);
     }
       where
+        -- two numbers that are there are equal if they are so as options
         same_some : (a b : ℕ) → Some a ≡ Some b → a ≡ b
         same_some a b e = cc

@@ -28,12 +28,14 @@ appended_push f before xs ys y n e h is =
     is ∙ ap₂ (λ zs z. zs ++ z ∷ []) e h ∙ append_assoc before (map f (numbers_below n)) (f n ∷ [])
     ∙ ap (λ zs. before ++ zs) (sym (ap (map f) (below_push n) ∙ map-append f (numbers_below n) (n ∷ [])))
 
+-- of two elements set at one place the second stays
 set_twice : {X : Type 0} (xs : List X) (i : ℕ) (y z d : X) → set (set xs i y) i z ≡ set xs i z
 set_twice [] zero y z d = refl
 set_twice [] (suc i) y z d = refl
 set_twice (x ∷ xs) zero y z d = refl
 set_twice (x ∷ xs) (suc i) y z d = ap (λ ys. x ∷ ys) (set_twice xs i y z d)
 
+-- scenarios with the same values and counts are the same
 same : (s t : Scenario) → s.values ≡ t.values → s.faults ≡ t.faults → s ≡ t
 same s t e f = ap₂ (λ vs fs. let r : Scenario = record { values = vs; faults = fs } in r) e f
 
@@ -44,6 +46,7 @@ module _ (g : Graph) where
     pub later : (q : ℕ) → p ≤ q → fault_of s q ≡ 0
     pub quiet : s.values ≡ replicate (condition_count g) false
 
+  -- in the scenario without faults no process has one
   no_fault : (q : ℕ) → fault_of (zero_scenario g) q ≡ 0
   no_fault q = elim (cases_lt q (process_count g)) [
     | inl h ↦ get_or-replicate (process_count g) q 0 0 h
@@ -71,6 +74,7 @@ module _ (g : Graph) where
     | inr n ↦ absurd (Contains-nil s n)
   ]
   faults_listed (suc p) within s c =
+      -- the scenario r without a fault of p from which it comes, and the count that p gets
       let r = Contains-flat_map_parts (with_each_fault g p) (with_faults_below g p) s c in
       let m = Contains-map_parts (with_fault p r.0) (numbers_below (g.faults - sum r.0.faults + 1)) s r.2 in
       let i = faults_listed p (omega arith) r.0 r.1 in
@@ -88,6 +92,7 @@ module _ (g : Graph) where
       Contains (with_faults_below g p) s
   unfolding with_faults_below
   lists_faults zero within s h =
+      -- the first list has only the scenario without faults
       let long = h.lawful.faults in
       subst (Contains (zero_scenario g ∷ [])) (same (zero_scenario g) s (sym h.quiet)
       (ext_get_or 0 (replicate (process_count g) 0) s.faults (length-replicate {A = ℕ} (process_count g) 0 ∙ sym long)
@@ -97,9 +102,11 @@ module _ (g : Graph) where
       let long = h.lawful.faults in
       let b = h.lawful.budget in
       let e = sum_by-set (λ (x : ℕ). x) s.faults p 0 0 (omega arith) in
+      -- without the faults of p, and with them again
       let without = with_fault p s 0 in
       let back : with_fault p without (fault_of s p) ≡ s = same (with_fault p without (fault_of s p)) s refl
       (set_twice s.faults p 0 (fault_of s p) 0 ∙ set-get_or s.faults p 0) in
+      -- the former is in the list before
       Contains-flat_map (with_each_fault g p) (with_faults_below g p) without s
       (lists_faults p (omega arith) without (record {
         lawful = faults_changed p 0 s (omega arith) h.lawful (omega arith);
@@ -109,6 +116,7 @@ module _ (g : Graph) where
         ];
         quiet = h.quiet;
       }))
+      -- so the scenario is among those that the list makes of it
       (subst (Contains (with_each_fault g p without)) back
       (Contains-map (with_fault p without) (numbers_below (g.faults - sum without.faults + 1)) (fault_of s p)
       (Contains-numbers _ (fault_of s p) (omega arith))))
@@ -140,6 +148,7 @@ module _ (g : Graph) where
       let h = faults_listed (process_count g) (omega arith) s k in
       record { lawful = h.lawful; later = λ d l. ap (λ vs. get_or vs d false) h.quiet ∙ all_quiet d }
   values_listed (suc c) s k =
+      -- the scenario r with false from c on from which it comes
       let r = Contains-flat_map_parts (with_both c) (with_values_below g c) s k in
       let i = values_listed c r.0 r.1 in
       elim (Contains-cases r.0 (with_true c r.0 ∷ []) s r.2) [
@@ -159,6 +168,7 @@ module _ (g : Graph) where
   pub lists_values : (c : ℕ) → c ≤ condition_count g → (s : Scenario) → HasValuesBelow c s →
       Contains (with_values_below g c) s
   unfolding with_values_below
+  -- without true values it is one of the lists of faults
   lists_values zero within s h = lists_faults (process_count g) (omega arith) s (record {
     lawful = h.lawful;
     later = λ q l. get_or_past s.faults q 0 (omega (arith, h.lawful.faults));
@@ -167,6 +177,7 @@ module _ (g : Graph) where
   })
   lists_values (suc c) within s h =
       let long = h.lawful.values in
+      -- with the value of c false, which is in the list before
       let without : Scenario = record s { values = set s.values c false } in
       let there = lists_values c (omega arith) without (record {
         lawful = value_changed c false s h.lawful;
@@ -176,15 +187,18 @@ module _ (g : Graph) where
           | inr apart ↦ get_or-set_other s.values c d false false apart ∙ h.later d (omega arith)
         ];
       }) in
+      -- and with its own value again
       let again : Scenario = record s { values = set (set s.values c false) c (get_or s.values c false) } in
       let back : again ≡ s = same again s
       (set_twice s.values c false (get_or s.values c false) false ∙ set-get_or s.values c false) refl in
       Contains-flat_map (with_both c) (with_values_below g c) without s there
       (elim (cases_Bool (get_or s.values c false)) [
+        -- c is true: the scenario is the second one that the list makes
         | inl on ↦ subst (Contains (with_both c without))
             (sym (ap (λ v. let r : Scenario = record s { values = set (set s.values c false) c v } in r) on) ∙ back)
             (Contains-rest without (with_true c without ∷ []) (with_true c without)
             (Contains-first (with_true c without) []))
+        -- c is false: it is the first one
         | inr off ↦ subst (Contains (with_both c without))
             (same without s (ap (set s.values c) (sym off) ∙ set-get_or s.values c false) refl)
             (Contains-first without (with_true c without ∷ []))
@@ -202,12 +216,14 @@ module _ (g : Graph) where
       (AllPairs-nil (λ s t. s ≢ t))
   faults_apart (suc p) within =
       AllPairs-flat_map_in (λ s t. s ≢ t) (λ s t. s ≢ t) (with_each_fault g p) (with_faults_below g p)
+      -- two that come from one scenario differ in the count of p
       (λ s c.
       let long = (faults_listed p (omega arith) s c).lawful.faults in
       AllPairs-map (λ f h. f ≢ h) (λ u v. u ≢ v) (with_fault p s) (numbers_below (g.faults - sum s.faults + 1))
       (λ f h d e. d (sym (get_or-set_same s.faults p f 0 (omega arith)) ∙ ap (λ u. fault_of u p) e
       ∙ get_or-set_same s.faults p h 0 (omega arith)))
       (numbers_apart (g.faults - sum s.faults + 1)))
+      -- two that come from different scenarios differ without the count of p
       (λ s t u v c k d m n e.
       let a = faults_listed p (omega arith) s c in
       let b = faults_listed p (omega arith) t k in
@@ -242,6 +258,7 @@ module _ (g : Graph) where
   unfolding with_values_below
   values_apart zero within = faults_apart (process_count g) (omega arith)
   values_apart (suc c) within = AllPairs-flat_map_in (λ s t. s ≢ t) (λ s t. s ≢ t) (with_both c) (with_values_below g c)
+      -- the two that come from one scenario differ in the value of c
       (λ s k.
       let h = values_listed c s k in
       let long = h.lawful.values in
@@ -253,6 +270,7 @@ module _ (g : Graph) where
       ])
       (AllPairs-cons_by (λ u v. u ≢ v) (with_true c s) [] (λ v m. absurd (Contains-nil v m))
       (AllPairs-nil (λ u v. u ≢ v))))
+      -- two that come from different scenarios differ without the value of c
       (λ s t u v k m d i j e.
       let x = value_cleared c s u ((values_listed c s k).later c (omega arith)) i in
       let y = value_cleared c t v ((values_listed c t m).later c (omega arith)) j in

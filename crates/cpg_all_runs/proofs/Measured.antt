@@ -28,6 +28,7 @@ module _ (g : Graph) (order : List ℕ) (frozen : List (Option ℕ)) where
       more ≡ runs ++ t ∷ [] → AreFirstRuns g order frozen (n + 1) list more
   runs_more n list runs more t a new is = record {
     count = ap length is ∙ length-append runs (t ∷ []) ∙ ap (λ m. m + 1) a.count;
+    -- the runs so far stay where they are, and the new one is at n
     each = λ i s d l. elim (cases_lt i n) [
       | inl h ↦ subst (IsRun g order frozen (get_or list i s))
           (sym (ap (λ ts. get_or ts i d) is ∙ get_or_append_left runs (t ∷ []) d i (omega (arith, a.count))))
@@ -55,5 +56,6 @@ module _ (g : Graph) (order : List ℕ) (frozen : List (Option ℕ)) where
     );
   }
     where
+      -- what stands where there is no run
       no_run : Times
       no_run = record { times = []; ends = []; finish = 0 }

@@ -29,6 +29,7 @@ map_below_after f before xs more v n is new pushed =
     ∙ ap (λ ys. before ++ ys)
     (map_below_push f (map f (numbers_below n)) (map f (numbers_below n) ++ v ∷ []) v n refl new refl)
 
+-- two numbers that are there are equal if they are so as options
 same_some : (a b : ℕ) → Some a ≡ Some b → a ≡ b
 same_some a b e = cc
 
@@ -71,16 +72,20 @@ pub record ArePlaced (f : ℕ → List ℕ) (n : ℕ) (entries : List (Vec ℕ �
   pub each : All (IsPlaced f n) entries
   pub all : (i : ℕ) → i < n → place_in entries (f i) ≢ None
 
+-- whether an entry has these numbers as its key
 abbrev is_key : List ℕ → Vec ℕ → Bool
 is_key numbers k = is_at (λ (j : Vec ℕ). slice_cmp nat_cmp numbers j.items) k
 
+-- numbers are their own key
 key_itself : (numbers : List ℕ) → is_eq (slice_cmp nat_cmp numbers numbers) ≡ true
 key_itself numbers = sym (texts_ties numbers numbers) ∙ (bytes_decides numbers numbers).1 refl
 
 module _ (numbers : List ℕ) where
+  -- if the first entry has the numbers, they have a place
   known_head : (e : Vec ℕ × ℕ) (es : List (Vec ℕ × ℕ)) → is_key numbers e.0 ≡ true → place_in (e ∷ es) numbers ≢ None
   known_head e es t none = none-some e.1 (sym none ∙ lookup_head (is_key numbers) e es t)
 
+  -- numbers that have a place in the rest have one in all
   known_tail : (e : Vec ℕ × ℕ) (es : List (Vec ℕ × ℕ)) → place_in es numbers ≢ None → place_in (e ∷ es) numbers ≢ None
   known_tail e es h none = elim (cases_Bool (is_key numbers e.0)) [
     | inl t ↦ known_head e es t none
@@ -158,9 +163,11 @@ module _ (f : ℕ → List ℕ) (n : ℕ) where
       | inr c ↦ (ap f c.1, λ j e. let l = unknown_least c.0 j e in omega (arith, c.1))
     ]
 
+    -- the entries so far are at first places below n + 1, too
     each_still : All (IsPlaced f (n + 1)) old
     each_still = All-weaker (IsPlaced f n) (IsPlaced f (n + 1)) (λ e p. (omega (arith, p.0), p.1, p.2)) old a.each
 
+    -- so are all entries with the new one
     each_more : All (IsPlaced f (n + 1)) new
     each_more = elim gets [
       | inl c ↦ subst (All (IsPlaced f (n + 1))) (sym c.1) each_still
@@ -172,12 +179,14 @@ module _ (f : ℕ → List ℕ) (n : ℕ) where
           old each_still)
     ]
 
+    -- numbers that had a place still have one
     known_still : (numbers : List ℕ) → place_in old numbers ≢ None → place_in new numbers ≢ None
     known_still numbers h = elim gets [
       | inl c ↦ subst (λ es. place_in es numbers ≢ None) (sym c.1) h
       | inr c ↦ subst (λ es. place_in es numbers ≢ None) (sym c.2) (known_kept numbers k n old h)
     ]
 
+    -- the numbers of the place itself have one
     known_now : place_in new k.items ≢ None
     known_now = elim gets [
       | inl c ↦ subst (λ es. place_in es k.items ≢ None) (sym c.1) (λ none. none-some place (sym none ∙ c.0))
@@ -204,10 +213,12 @@ module _ (f : ℕ → List ℕ) (n : ℕ) where
         ∙ ap (λ i. get_or (firsts ++ place ∷ []) i 0) (sym b.count) ∙ get_or-append_seam firsts place [] 0 in
         record {
           count = ap length pushed ∙ length-append firsts (place ∷ []) ∙ ap (λ m. m + 1) b.count;
+          -- the new place has the key of scenario n, and those before stay
           same = λ i l. elim (cases_eq i n) [
             | inl e ↦ ap (λ j. f (get_or more j 0)) e ∙ ap f now ∙ first_place.0 ∙ ap f (sym e)
             | inr apart ↦ ap f (before i (omega arith)) ∙ b.same i (omega arith)
           ];
+          -- no earlier place has its key
           least = λ i j l h. elim (cases_eq i n) [
             | inl e ↦ let k = first_place.1 j (h ∙ ap f e) in omega (arith, ap (λ j. get_or more j 0) e, now)
             | inr apart ↦ let k = b.least i j (omega arith) h in omega (arith, before i (omega arith))

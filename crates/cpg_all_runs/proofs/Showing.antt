@@ -80,6 +80,7 @@ module _ (g : Graph) where
     examples_kept firsts alike other = record {
       lawful = a.lawful;
       shown = λ i k. elim (cases_eq i n) [
+        -- what is shown of the first scenario with the active numbers of scenario n shows scenario n too
         | inl e ↦
             let first = get_or firsts n 0 in
             let up = alike.places.least n n within refl in

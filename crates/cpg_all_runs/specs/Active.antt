@@ -33,7 +33,7 @@ pub record HaveSameRuns (g : Graph) (s u : Scenario) : Type 0 where
 abbrev pub IsShown : Graph → List Scenario → Scenario → Type 0
 IsShown g list s = (i : ℕ) × (i < length list) × ((d : Scenario) → HaveSameRuns g (get_or list i d) s)
 
--- scenarios of the graph that show what can be active
+-- scenarios of a graph among which each scenario of it finds one with its runs
 pub record AreExamples (g : Graph) (list : List Scenario) : Type 0 where
   pub lawful : (s : Scenario) → Contains list s → IsScenario g s
   pub all : (s : Scenario) → IsScenario g s → IsShown g list s

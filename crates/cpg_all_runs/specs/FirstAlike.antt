@@ -14,6 +14,7 @@ numbers_at g list i = active_numbers g (scenario_at g list i)
 
 -- for each of the first n places the first place where f has the same value
 pub record AreFirstPlaces (f : ℕ → List ℕ) (n : ℕ) (firsts : List ℕ) : Type 0 where
+  -- one for each place, with the same value there, and none earlier has it
   pub count : length firsts ≡ n
   pub same : (i : ℕ) → i < n → f (get_or firsts i 0) ≡ f i
   pub least : (i j : ℕ) → i < n → f j ≡ f i → get_or firsts i 0 ≤ j

@@ -10,6 +10,7 @@ use Rattle.cpg_base.specs.Scenario.{Scenario, IsScenario, zero_scenario}
 pub record AreScenarios (g : Graph) (list : List Scenario) : Type 0 where
   pub lawful : (s : Scenario) → Contains list s → IsScenario g s
   pub all : (s : Scenario) → IsScenario g s → Contains list s
+  -- no two of them are the same
   pub apart : AllPairs (λ s t. s ≢ t) list
 
 -- whether a scenario has a value of the condition

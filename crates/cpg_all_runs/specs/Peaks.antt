@@ -11,7 +11,9 @@ use Rattle.cpg_all_runs.specs.Runs.{AreRuns}
 pub record IsFirstGreatest (g : Graph) (urgency : List ℕ) (n : ℕ) (list : List Scenario) (numbers : List ℕ)
     (at : ℕ) : Type 0 where
   pub there : at < n
+  -- no number is greater
   pub most : (i : ℕ) → i < n → get_or numbers i 0 ≤ get_or numbers at 0
+  -- no scenario with the same number comes before
   pub first : (i : ℕ) (d : Scenario) → i < n → get_or numbers i 0 ≡ get_or numbers at 0 →
       is_before g urgency (get_or list i d) (get_or list at d) ≡ false
 

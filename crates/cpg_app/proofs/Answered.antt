@@ -47,12 +47,14 @@ may_follow may c vs f path live files =
 module _ (r : Ran) (c : Command) (vs : List Value) (f : Follower) (path : Text) (mid : List Fetch)
     (words : command_of r.words ≡ Some c) (reads : Reads None (files_of c) r.shelf.old.history mid vs)
     (live : IsLive c vs f path) where
+  -- the values of the one file were read from the pack
   one : (ws : List Value) → ws ≡ tables_value live.tables ∷ [] →
       Reads None (file PackFile live.pack ∷ []) r.shelf.old.history mid ws →
       (read : Fetch) ×
       IsRead None (file PackFile live.pack) read (tables_value live.tables) × (mid ≡ read ∷ r.shelf.old.history)
   one ws is reads = subst (Reads None (file PackFile live.pack ∷ []) r.shelf.old.history mid) is reads
 
+  -- the pack was read first
   pack_read : (read : Fetch) × IsRead None (file PackFile live.pack) read (tables_value live.tables) ×
       (mid ≡ read ∷ r.shelf.old.history)
   pack_read =
@@ -76,12 +78,15 @@ module _ (r : Ran) (c : Command) (vs : List Value) (f : Follower) (path : Text) 
       history = at.history ∙ ap (λ past. at.fetch ∷ past) pack_read.2;
     }
 
+    -- the follower has the head of the pack
     head_is : f.head ≡ live.tables.head
     head_is = ap (λ (g : Follower). g.head) live.follower.opened
 
+    -- the follower has the table of the node
     table_is : f.table ≡ table_at live.tables.nodes live.follower.node
     table_is = ap (λ (g : Follower). g.table) live.follower.opened
 
+    -- what was put out is what the stream says to the node
     told : IsToldTo live.tables.head (table_at live.tables.nodes live.follower.node)
         (streamed at.fetch r.out) r.err r.status
     told =

@@ -71,12 +71,15 @@ on_logged a t l values F alike (b, u, m, is, fact) =
     subst (AllAlike (graph_value a ∷ tables_value t ∷ log_value l ∷ [])) is alike in
     (b, k.0, (m, subst (λ v. F b v m) k.1.0 fact))
 
+-- a period and a graph as a part
 abbrev part_of : ℕ → Graph → Part
 part_of period problem = record { period = period; problem = problem }
 
+-- parts with one period and one graph are equal
 same_part : (p q : Part) → p.period ≡ q.period → p.problem ≡ q.problem → p ≡ q
 same_part p q e k = ap₂ part_of e k
 
+-- if the files say the parts of pairs alike, they are the same parts
 same_parts : (pairs : List Pair) (parts others : List Part) → AllAlike (part_values parts) (part_values others) →
     HavePeriods pairs parts → HavePeriods pairs others → others ≡ parts
 same_parts [] [] [] alike x y = refl
@@ -96,9 +99,11 @@ on_parts pairs parts values F alike periods (others, is, also, fact) =
 -- ---- of a run
 
 module _ (r : Ran) (c : Command) (vs : List Value) (has : Has r c vs) where
+  -- the words of a run say one command
   same_command : (d : Command) → command_of r.words ≡ Some d → d ≡ c
   same_command d e = same_Some d c (sym e ∙ has.words)
 
+  -- whatever values the same files say, they are alike
   alike : (d : Command) (ws : List Value) → Has r d ws → AllAlike vs ws
   alike d ws also = reads_alike None (files_of c) r.shelf.old.history r.shelf.new.history vs ws has.reads
       (subst (λ (k : Command). Reads None (files_of k) r.shelf.old.history r.shelf.new.history ws)

@@ -63,7 +63,7 @@ pub compiled_valid : (g : Graph) (urgency : List ℕ) (c : Compiled) → IsCompi
     IsHeadFor g c.built.tables.head × IsValid g c.built.tables.nodes
 compiled_valid g urgency c is = (subst (IsHeadFor g) (sym is.built.head) (own_head g), is.valid)
 
--- which is what the check says yes to
+-- whether a verdict is yes
 abbrev pub is_yes : Verdict → Bool
 is_yes Verdict.Yes = true
 is_yes (Verdict.Other part) = false

@@ -23,6 +23,7 @@ use Rattle.cpg_app.proofs.Written.{stopped}
 
 -- ---- memory may run out wherever a run stops, but for a fault of the shelf
 
+-- a fetch of a whole file is one of the file
 of_whole : (f : File) (fetch : Fetch) → IsWhole f fetch → IsFetchOf f fetch
 of_whole f fetch w = record { named = w.named }
 
@@ -42,6 +43,7 @@ wants_too g f fetch h other (inr (inr (inl refused))) =
 wants_too g f fetch h other (inr (inr (inr wanting))) =
     record { of = wanting.of; sound = wanting.sound; few = wanting.few; halt_is = refl }
 
+-- where reading stops over anything but a fetch, lack of memory may stop it too
 files_memory : (g : Option Graph) (files : List File) (past now : List Fetch) (h : Halt) → h ≢ Read →
     StopsReading g files past now h →
     StopsReading g files past now Memory
@@ -52,6 +54,7 @@ files_memory g (f ∷ fs) past now h other (fetch, inr (v, read, there)) =
     (fetch, inr (v, read, files_memory (graph_after g v) fs (fetch ∷ past) now h other there))
 
 module _ (r : Ran) where
+  -- where a run stops over anything but a fetch, lack of memory may stop it too
   memory_too : (h : Halt) → h ≢ Read → Stops r h → Stops r Memory
   memory_too h other (inl words) = inl (record { unread = words.unread; cause = inr refl })
   memory_too h other (inr (inl files)) = inr (inl

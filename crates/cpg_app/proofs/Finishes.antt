@@ -29,15 +29,19 @@ module _ (g : Graph) (formed : WellFormed g) (tables : List NodeTable) (order : 
     (exact : HasRunTimes g order frozen tables) (w : World)
     (lawful : IsScenario g w.scenario)
     (t : Times) (run : IsRun g order frozen w.scenario t) (c : Cluster) (whole : IsWholePlay g tables w c) where
+  -- the tables give a process the start of the run
   starts_of : (p : ℕ) → at tables p w.scenario ≡ option_to_list (get_or t.times p None)
   starts_of p = exact w.scenario t p lawful run
 
+  -- the end of a process that starts at a time
   abbrev end_at : ℕ → ℕ → ℕ
   end_at p start = start + duration g p (fault_of w.scenario p)
 
+  -- the planned end, as a play notes it
   abbrev planned_end : ℕ → ℕ → ℕ × Ended
   planned_end p start = (end_at p start, ended_in g w.scenario p)
 
+  -- a process with a start has that end
   ended_at : (p : ℕ) (o : Option ℕ) (start : ℕ) → Contains (option_to_list o) start →
       option_map (end_at p) o ≡ Some (end_at p start)
   ended_at p None start m = absurd (Contains-nil start m)
@@ -46,19 +50,23 @@ module _ (g : Graph) (formed : WellFormed g) (tables : List NodeTable) (order : 
     | inr k ↦ absurd (Contains-nil start k)
   ]
 
+  -- a value, or a default
   abbrev value_or : ℕ → Option ℕ → ℕ
   value_or d (Some n) = n
   value_or d None = d
 
+  -- a process with an end has a start that it comes from
   started_at : (p : ℕ) (o : Option ℕ) (x : ℕ) → option_map (end_at p) o ≡ Some x →
       (start : ℕ) × Contains (option_to_list o) start × (end_at p start ≡ x)
   started_at p None x e = absurd (none-some x e)
   started_at p (Some start) x e = (start, Contains-first start [], ap (value_or 0) e)
 
+  -- what is in the list of an option is its value
   some_of : (o : Option ℕ) (x : ℕ) → Contains (option_to_list o) x → o ≡ Some x
   some_of None x k = absurd (Contains-nil x k)
   some_of (Some y) x k = elim (Contains-cases y [] x k) [ inl e ↦ ap Some e | inr m ↦ absurd (Contains-nil x m) ]
 
+  -- the times of all ends of the play
   abbrev times : List ℕ
   times = flat_map (end_times c.ends) (numbers_below (length g.nodes))
 

@@ -21,20 +21,25 @@ use Rattle.cpg_app.specs.Joined.{GaveAll, FrontsAreRefused}
 use Rattle.cpg_app.proofs.Joined.{IsOutputFor, pack_of}
 
 module _ (g : Graph) (pack : Text) (is : IsOutputFor packed_of g pack) (n : ℕ) (l : n < length pack) where
+  -- the tables that were packed
   abbrev tables : Tables
   tables = is.made_of.compiled.built.tables
 
+  -- the front has n bytes
   front : length (take n pack) ≡ n
   front = omega (arith, length-take n pack, l)
 
+  -- the front of the pack is no pack from its end on
   bad : IsBadPack (take n pack) n
   bad = subst (λ (bytes : Text). IsBadPack (take n bytes) n) (sym is.made_of.spelled)
       (fronts_of_packs tables n is.made_of.pack.lawful
       (subst (λ (bytes : Text). n < length bytes) is.made_of.spelled l))
 
+  -- what a fetch gave of the front is no pack from its end on
   of_fetch : (fetch : Fetch) → GaveAll fetch (take n pack) → IsBadPack fetch.given n
   of_fetch fetch gave = subst (λ bytes. IsBadPack bytes n) (sym gave.given) bad
 
+  -- what was given is within the limit of packs
   short : (fetch : Fetch) → GaveAll fetch (take n pack) → length fetch.given ≤ limit_of PackFile
   short fetch gave = omega (
     arith,
@@ -44,15 +49,18 @@ module _ (g : Graph) (pack : Text) (is : IsOutputFor packed_of g pack) (n : ℕ)
     subst (λ (bytes : Text). length bytes ≤ limit_of PackFile) (sym is.made_of.spelled) is.made_of.pack.short,
   )
 
+  -- it is no pack from this place alone
   one_place : (fetch : Fetch) (m : ℕ) → GaveAll fetch (take n pack) → IsBadPack fetch.given m → m ≡ length (take n pack)
   one_place fetch m gave other =
       (packs_are_refused_at_one_place fetch.given).one m n other (of_fetch fetch gave) ∙ sym front
 
+  -- no reading of a file takes the front as a pack
   unread : (o : Option Graph) (fetch : Fetch) (value : Value) → GaveAll fetch (take n pack) →
       IsRead o (file PackFile fetch.name) fetch value → ⊥
   unread o fetch value gave is_read =
       (of_fetch fetch gave).no_pack is_read.says.0 is_read.says.2.lawful is_read.says.2.spelled
 
+  -- reading the front stops as a bad pack at its end, or over memory
   stops : (o : Option Graph) (fetch : Fetch) (halt : Halt) → GaveAll fetch (take n pack) →
       StopsAt o (file PackFile fetch.name) fetch halt →
       (halt ≡ Refused (BadPack (length (take n pack)))) ⊎

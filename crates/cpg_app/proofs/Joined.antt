@@ -94,6 +94,7 @@ output_of asked spell puts dead files r g made has = elim (has.lawful.done has.d
   | inr closed ↦ absurd (other_words r closed.follows (Some (asked has.graph)) (dead has.graph) has.has.words)
 ]
 
+-- what was printed for a graph is the output of `show` for it
 shown_of : (r : Ran) (g : Graph) (text : Text) → HasShown r g text → IsOutputFor shown g text
 shown_of = output_of Show shown (λ graph text vs puts. puts) (λ graph. refl) (λ graph. refl)
 
@@ -111,9 +112,11 @@ found p xs i d l passes = elim (cases_lt (position_or_len p xs) (length xs)) [
   | inr ge ↦ absurd (true≢false (sym passes ∙ fails_before_first p xs i d (omega (arith, ge, l))))
 ]
 
+-- a text is found equal to itself
 same_text : (text : Text) → bytes_eq text text ≡ true
 same_text text = (bytes_eq-Decides text text).1 refl
 
+-- some node is the first with a node's name
 node_named : (h : Head) (node : ℕ) → node < length h.nodes →
     (first : ℕ) × (first_named h (get_or h.nodes node []) ≡ Some first)
 node_named h node l =
@@ -122,6 +125,7 @@ node_named h node l =
 -- ---- the pack is taken
 
 module _ (g : Graph) (pack : Text) (is : IsOutputFor packed_of g pack) where
+  -- the tables that were packed
   abbrev tables : Tables
   tables = is.made_of.compiled.built.tables
 
@@ -130,9 +134,11 @@ module _ (g : Graph) (pack : Text) (is : IsOutputFor packed_of g pack) where
   same_tables t lawful e = (one_spelling tables t [] is.made_of.pack.lawful lawful
       (sym is.made_of.spelled ∙ (e ∙ sym (append-nil (spelling t))))).0
 
+  -- the tables have the head of the graph
   head_is : IsHeadFor is.admission.graph tables.head
   head_is = subst (IsHeadFor is.admission.graph) (sym is.made_of.pack.head) (own_head is.admission.graph)
 
+  -- a run that asks for a verdict on the pack ends well
   judged : (r : Ran) (a : Admission) (t : Tables) → IsLawful r → a.graph ≡ g → pack ≡ spelling t → AsksVerdict r a t →
       EndsWell r
   judged r a t lawful of e asks =
@@ -171,6 +177,7 @@ module _ (g : Graph) (pack : Text) (is : IsOutputFor packed_of g pack) where
         is.made_of.spelled,
       )
 
+  -- only lack of memory stops the reading of the pack
   unstopped : (o : Option Graph) (fetch : Fetch) (halt : Halt) → GaveAll fetch pack →
       StopsAt o (file PackFile fetch.name) fetch halt → halt ≡ Memory
   unstopped o fetch halt gave stops =

@@ -32,6 +32,7 @@ CompileLeft a h = (status_of h ≡ 8) ⊎ (((status_of h ≡ 5) × IsLate a.grap
     ((status_of h ≡ 6) × ((x : ℕ) × IsWide a.graph (first_order a.graph a.order) x)))
 
 module _ (a b : Admission) (same : AreAlike a b) (h : Halt) where
+  -- what a compile fault leaves of a graph
   of_fault : (fault : CompileFault) → h ≡ halt_of_compile b fault → ShowsCompileFault b.graph b.order fault →
       CompileLeft a h
   of_fault (CompileFault.TooWide x) e shows =

@@ -43,7 +43,7 @@ pub shown_of_rows : (a : Admission) → WellFormed a.graph → IsPackHead (head_
 shown_of_rows a formed head r are = made_of_rows a formed head r are shown (shown_by a.graph r)
     (sym (tables_have_text a.graph r.order r.rows.items r.worst.time are.tables.nodes are.written.columns))
 
--- and so is their pack
+-- the pack of the rows of a compile is what `compile` makes of the graph
 pub packed_of_rows : (a : Admission) → IsWithinLimits a.graph → WellFormed a.graph → IsPackHead (head_of a.graph) →
     (r : BuiltRows) →
     AreCompiledRows a.graph a.order r →

@@ -34,9 +34,11 @@ use Rattle.cpg_inputs.specs.Reading.{StopsAt, StopsReading}
 use Rattle.cpg_app.specs.Halts.{halt_of_compile}
 use Rattle.cpg_app.specs.Causes.{IsUncompiled, StopsVerdict, StopsWork}
 
+-- a scenario of a graph has as many values and counts as the graph
 room_of : (g : Graph) (s : Scenario) → IsScenario g s → HasRoom g s
 room_of g s is = record { values = is.values; faults = is.faults }
 
+-- a fault of a graph file names nothing of a graph
 of_reading : (fault : ReadFault) → IsNamed (halt_of_reading fault)
 of_reading ReadFault.NotToml = tt
 of_reading (ReadFault.BadField place) = tt
@@ -45,6 +47,7 @@ of_reading (ReadFault.UnknownName place) = tt
 of_reading (ReadFault.OverLimit what) = tt
 of_reading ReadFault.OutOfMemory = tt
 
+-- what a broken rule names is there
 of_rules : (g : Graph) (fault : RuleFault) → ShowsFault g fault → IsNamed (halt_of_rules g fault)
 of_rules g (RuleFault.Cycle walk) shows = tt
 of_rules g RuleFault.TooManyTracks shows = tt
@@ -54,15 +57,18 @@ of_rules g (RuleFault.TooBig e) shows = tt
 of_rules g (RuleFault.BadOrder p) shows = tt
 of_rules g RuleFault.OutOfMemory shows = tt
 
+-- what a compile fault names is there
 of_compile : (a : Admission) (fault : CompileFault) → ShowsCompileFault a.graph a.order fault →
     IsNamed (halt_of_compile a fault)
 of_compile a (CompileFault.TooWide x) shows = shows.0.wide.within
 of_compile a (CompileFault.Late s p time) shows = room_of a.graph s shows.1.is_excess.least.lawful
 of_compile a CompileFault.OutOfMemory shows = tt
 
+-- equal halts name the same
 named_as : (h k : Halt) → h ≡ k → IsNamed k → IsNamed h
 named_as h k e n = subst IsNamed (sym e) n
 
+-- a file that is too long names nothing of a graph
 long_named : (k : FileKind) → IsNamed (Refused (long_of k))
 long_named GraphFile = tt
 long_named PartFile = tt
@@ -70,10 +76,12 @@ long_named PackFile = tt
 long_named ScenarioFile = tt
 long_named LogFile = tt
 
+-- a fault of a scenario file names nothing of a graph
 of_scenario : (fault : ScenarioFault) → IsNamed (halt_of_scenario fault)
 of_scenario (ScenarioFault.Bad cause) = tt
 of_scenario ScenarioFault.OutOfMemory = tt
 
+-- a refusal of a file's bytes names only things that are there
 bytes_named : (g : Option Graph) (k : FileKind) (bytes : Text) (h : Halt) → Refuses g k bytes h → IsNamed h
 bytes_named g GraphFile bytes h (inl faulty) = named_as h _ faulty.halt_is (of_reading faulty.fault)
 bytes_named g GraphFile bytes h (inr none) = let b = none.breaks in
@@ -85,6 +93,7 @@ bytes_named (Some g) LogFile bytes h none = named_as h _ none.halt_is tt
 bytes_named None ScenarioFile bytes h none = absurd none
 bytes_named None LogFile bytes h none = absurd none
 
+-- whatever stops the reading of a file names only things that are there
 file_named : (g : Option Graph) (f : File) (fetch : Fetch) (h : Halt) → StopsAt g f fetch h → IsNamed h
 file_named g f fetch h (inl unread) = named_as h Read unread.halt_is tt
 file_named g f fetch h (inr (inl long)) = named_as h _ long.halt_is (long_named f.kind)
@@ -99,9 +108,11 @@ files_named g (f ∷ fs) past now h (fetch, inl here) = file_named g f fetch h h
 files_named g (f ∷ fs) past now h (fetch, inr (v, read, there)) =
     files_named (graph_after g v) fs (fetch ∷ past) now h there
 
+-- what leaves a graph without tables names only things that are there
 compile_named : (a : Admission) (h : Halt) → IsUncompiled a h → IsNamed h
 compile_named a h wrong = named_as h _ wrong.halt_is (of_compile a wrong.fault wrong.shows)
 
+-- the first rule that tables break names only things that are there
 fault_named : (a : Admission) (t : Tables) (f : Fault) → IsFirstFault a.graph a.order t.nodes f → IsNamed (Unsafe a f)
 fault_named a t f (inl broken) =
     let shown = first_broken a.graph a.order t.nodes f column_rules broken in
@@ -112,10 +123,12 @@ fault_named a t f (inr heard) = (
   subst (HasRoom a.graph) (sym heard.1.scenario) (room_of a.graph (zero_scenario a.graph) (zero_lawful a.graph)),
 )
 
+-- what stops a verdict names only things that are there
 verdict_named : (a : Admission) (t : Tables) (h : Halt) → StopsVerdict a t h → IsNamed h
 verdict_named a t h (inl other) = named_as h _ other.halt_is tt
 verdict_named a t h (inr broken) = named_as h _ broken.halt_is (fault_named a t broken.fault broken.first)
 
+-- a fault of parts names nothing of a graph
 of_parts : (fault : HyperFault) → IsNamed (halt_of_parts fault)
 of_parts (HyperFault.Range p) = tt
 of_parts (HyperFault.Differ p) = tt

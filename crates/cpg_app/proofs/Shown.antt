@@ -58,12 +58,14 @@ use Rattle.cpg_app.proofs.Unrolled.{not_both}
 one_is_two : (f e d : Fetch) (past : List Fetch) → f ∷ past ≡ e ∷ d ∷ past → ⊥
 one_is_two f e d past is = let l = ap length is in omega (arith, l)
 
+-- a history isn't itself with two fetches more
 none_is_two : (e d : Fetch) (past : List Fetch) → past ≡ e ∷ d ∷ past → ⊥
 none_is_two e d past is = let l = ap length is in omega (arith, l)
 
 module _ (r : Ran) where
   -- ---- what is told of an admitted graph, and of tables
 
+  -- what a run that asks for tables prints is made of the graph
   made_here : (a : Admission) → AsksForTables r a → (text : Text) → Prints r text →
       (spell : Graph → Compiled → Text) × (b : Admission) × AreAlike a b × IsMadeOf b spell text
   made_here a (graph, inl asks) text p = let q = printed r _ _ asks.has text p in
@@ -80,16 +82,20 @@ module _ (r : Ran) where
   admitted_here a (graph, inr asks) = (values_lawful None
       (files_of (Compile graph)) r.shelf.old.history r.shelf.new.history (graph_value a ∷ []) asks.has.reads).0
 
+  -- the graph that is asked for is well formed
   formed : (a : Admission) → AsksForTables r a → WellFormed a.graph
   formed a asks = (admitted_here a asks).well_formed
 
+  -- its urgency order is topological
   topological : (a : Admission) → AsksForTables r a → IsTopological a.graph a.order
   topological a asks = (admitted_here a asks).topological
 
+  -- the order that the tables are made in is topological
   first_is_topological : (a : Admission) → AsksForTables r a → IsTopological a.graph (first_order a.graph a.order)
   first_is_topological a asks = let is = admitted_here a asks in
       first_topological a.graph a.order is.topological is.given
 
+  -- a run that asks for tables is one whose shelf and sinks meet no fault
   tables_faultless : (a : Admission) → AsksForTables r a → IsFaultless r
   tables_faultless a (graph, inl asks) = asks.faultless
   tables_faultless a (graph, inr asks) = asks.faultless
@@ -105,6 +111,7 @@ module _ (r : Ran) where
     | inr q ↦ let k = on_graph a q.0 (λ b. IsUncompiled b h) q.1 q.2 in compile_left a k.0 k.1 h k.2
   ]
 
+  -- a run that asks for a verdict is one whose shelf and sinks meet no fault
   check_faultless : (a : Admission) (t : Tables) → AsksVerdict r a t → IsFaultless r
   check_faultless a t (graph, pack, inl asks) = asks.faultless
   check_faultless a t (graph, pack, inr (inl play)) = play.asks.faultless
@@ -163,10 +170,12 @@ module _ (r : Ran) where
 
   -- ---- a run that follows a stream has no output, and doesn't stop before it
 
+  -- a run that follows a stream prints no output
   no_output : (f : Follows r) (text : Text) → Prints r text → ⊥
   no_output f text p = subst (λ (k : Command). PutsOut k p.values text)
       (same_Some p.command (Live f.pack f.name f.stream) (sym p.has.words ∙ f.words)) p.puts
 
+  -- it doesn't read its pack alone
   read_one : (f : Follows r) (name : Text) (vs : List Value) →
       Reads None (file PackFile name ∷ []) r.shelf.old.history r.shelf.new.history vs → ⊥
   read_one f name [] reads = reads
@@ -177,11 +186,13 @@ module _ (r : Ran) where
   pub one_file : (f : Follows r) {pack name stream : Text} (vs : List Value) → Has r (Live pack name stream) vs → ⊥
   one_file f {pack = pack} vs has = read_one f pack vs has.reads
 
+  -- a run that follows a stream doesn't stop over its pack
   one_stop : (f : Follows r) (h : Halt) →
       StopsReading None (files_of (Live f.pack f.name f.stream)) r.shelf.old.history r.shelf.new.history h → ⊥
   one_stop f h (fetch, inl here) = one_is_two fetch f.fetch f.read r.shelf.old.history (sym here.1 ∙ f.history)
   one_stop f h (fetch, inr there) = there.2
 
+  -- a run that follows a stream has no reason to stop before that
   no_stop : (f : Follows r) (h : Halt) → Stops r h → ⊥
   no_stop f h (inl words) = none_is_two f.fetch f.read r.shelf.old.history (sym words.unread ∙ f.history)
   no_stop f h (inr (inl files)) = one_stop f h
@@ -194,25 +205,32 @@ module _ (r : Ran) where
   -- ---- with an output
 
   module _ (text : Text) (with : EndsWith r text) where
+    -- a run with an output has status 0 or 3
     with_status : (r.status ≡ 0) ⊎ (r.status ≡ 3)
     with_status = elim with.ending [ inl p ↦ inl p.status | inr c ↦ inr c.status ]
 
+    -- a run that prints has status 0 or 3
     other_status : (n : ℕ) → r.status ≡ n → n ≢ 0 → n ≢ 3 → ⊥
     other_status n e a b = elim with_status [ inl z ↦ a (sym e ∙ z) | inr t ↦ b (sym e ∙ t) ]
 
+    -- with status 0 the output was printed
     with_done : r.status ≡ 0 → ((t : Text) × Prints r t × IsPrinted r t) ⊎ IsClosedStream r
     with_done zero =
         elim with.ending [ inl p ↦ inl (text, with.prints, p) | inr c ↦ absurd (let e = c.status in omega arith) ]
 
+    -- with status 3 a sink counted a fault
     with_write : r.status ≡ 3 → Rose r.out.before r.out.now ⊎ Rose r.err.before r.err.now
     with_write three = elim with.ending [ inl p ↦ absurd (let e = p.status in omega arith) | inr c ↦ inl c.out.rose ]
 
+    -- with another status none did
     with_unmet : r.status ≢ 3 → (r.out.now ≡ r.out.before) × (r.err.now ≡ r.err.before)
     with_unmet other = elim with.ending [ inl p ↦ (p.out.faultless, p.err.faultless) | inr c ↦ absurd (other c.status) ]
 
+    -- without faults the status is 0
     with_safe : IsFaultless r → (r.status ≡ 0) ⊎ (r.status ≡ 8)
     with_safe faultless = elim with.ending [ inl p ↦ inl p.status | inr c ↦ absurd (faultless.out c.out.rose) ]
 
+    -- a run that prints tables isn't over a graph that is too wide
     with_wide : (a : Admission) (x : ℕ) → AsksForTables r a → a.graph.order ≡ None →
         IsWide a.graph (first_order a.graph a.order) x →
         (r.status ≡ 6) ⊎ (r.status ≡ 8)
@@ -220,6 +238,7 @@ module _ (r : Ran) where
         absurd (moved a made.1 made.2
         (λ g o. g.order ≡ None → IsNarrow g (first_order g o)) made.3.compilation.compiled.narrow ungiven x wide)
 
+    -- a run that prints tables isn't over a graph that is late
     with_late : (a : Admission) → AsksForTables r a → IsLate a.graph a.order →
         ((r.status ≡ 5) ⊎ (r.status ≡ 8)) ⊎ IsRefusedAsWide r a
     with_late a asks late = let made = made_here a asks text with.prints in
@@ -227,6 +246,7 @@ module _ (r : Ran) where
         (first_is_topological a asks) made.3.compiled.order late
         (moved a made.1 made.2 (λ g o. IsCompiled g o made.3.compiled.order) made.3.compilation.compiled))
 
+    -- a run with an output isn't over a node that no name has
     with_nameless : (pack name : Text) (t : Tables) → Asks r (Node pack name) (tables_value t ∷ []) →
         first_named t.head name ≡ None →
         (r.status ≡ 4) ⊎ (r.status ≡ 8)
@@ -234,6 +254,7 @@ module _ (r : Ran) where
         let k = on_tables t q.0 _ q.1 q.2 in
         absurd (none-some k.node (sym none ∙ k.named))
 
+    -- a run with an output isn't over parts that have no graph
     with_apart : (pairs : List Pair) (parts : List Part) (fault : HyperFault) →
         Asks r (Hyper pairs) (part_values parts) → HavePeriods pairs parts →
         ShowsUnrolled parts (Err fault) →
@@ -242,6 +263,7 @@ module _ (r : Ran) where
         let k = on_parts pairs parts q.0 _ q.1 periods q.2 in
         absurd (not_both parts k.0 fault k.1 shows other)
 
+    -- a run of `live` has no output by text
     with_unfollowed : (pack name stream : Text) (t : Tables) → Asks r (Live pack name stream) (tables_value t ∷ []) →
         (r.status ≡ 4) ⊎ (r.status ≡ 8)
     with_unfollowed pack name stream t asks = absurd (printed r _ _ asks.has text with.prints).2
@@ -251,6 +273,7 @@ module _ (r : Ran) where
     lawful_with = record {
       ends = inl (text, with);
       done = with_done;
+      -- statuses other than 0 and 3 don't come with an output
       words = λ one. absurd (other_status 1 one (λ e. omega arith) (λ e. omega arith));
       formless = λ none other. absurd (none-some with.prints.command (sym none ∙ with.prints.has.words));
       read = λ two. absurd (other_status 2 two (λ e. omega arith) (λ e. omega arith));
@@ -262,6 +285,7 @@ module _ (r : Ran) where
       is_wide = λ six. absurd (other_status 6 six (λ e. omega arith) (λ e. omega arith));
       is_unsafe = λ seven. absurd (other_status 7 seven (λ e. omega arith) (λ e. omega arith));
       silent = λ zero three. absurd (elim with_status [ inl z ↦ zero z | inr t ↦ three t ]);
+      -- what the files say: tables that were printed were made, and made tables are neither too wide nor late
       wide = with_wide;
       made = λ a asks timely. inl (with_safe (tables_faultless a asks));
       late = with_late;
@@ -274,6 +298,7 @@ module _ (r : Ran) where
       tuned = λ graph a asks. with_safe asks.faultless;
       unrolled = λ pairs parts g asks periods shows. with_safe asks.faultless;
       apart = with_apart;
+      -- a run that follows a stream has no output
       followed = λ f faultless sound. absurd (no_output f text with.prints);
       unfollowed = λ pack name stream t asks none. with_unfollowed pack name stream t asks;
     }
@@ -281,12 +306,15 @@ module _ (r : Ran) where
   -- ---- without
 
   module _ (halt : Halt) (by : EndsBy r halt) where
+    -- with a status other than 3 the reason was told
     told_of : r.status ≢ 3 → IsTold r halt
     told_of other = elim by.ending [ inl t ↦ t | inr m ↦ absurd (other m.status) ]
 
+    -- with a status other than 3 the reason was told
     told_at : (n : ℕ) → r.status ≡ n → n ≢ 3 → IsTold r halt
     told_at n e other = told_of (λ three. other (sym e ∙ three))
 
+    -- with a status other than 3 the status is that of the reason
     status_at : (n : ℕ) → r.status ≡ n → n ≢ 3 → status_of halt ≡ n
     status_at n e other = sym (told_at n e other).status ∙ e
 
@@ -294,6 +322,7 @@ module _ (r : Ran) where
     told_here : IsFaultless r → r.status ≡ status_of halt
     told_here faultless = elim by.ending [ inl t ↦ t.status | inr m ↦ absurd (faultless.err m.err.rose) ]
 
+    -- status 1 says that the words are no command
     words_at : status_of halt ≡ 1 → Stops r halt → command_of r.words ≡ None
     words_at one (inl words) = elim words.cause [
       | inl formless ↦ formless.1
@@ -308,12 +337,14 @@ module _ (r : Ran) where
       | inr memory ↦ absurd (let e = ap status_of memory in omega (arith, one, e))
     ]
 
+    -- words that are no command give status 1, or memory ran out
     formless_at : command_of r.words ≡ None → Stops r halt → (status_of halt ≡ 1) ⊎ (status_of halt ≡ 8)
     formless_at none (inl words) =
         elim words.cause [ inl formless ↦ inl (ap status_of formless.0) | inr memory ↦ inr (ap status_of memory) ]
     formless_at none (inr (inl files)) = absurd (none-some files.command (sym none ∙ files.words))
     formless_at none (inr (inr work)) = absurd (none-some work.command (sym none ∙ work.has.words))
 
+    -- status 2 says that a fetch failed
     failed_at : status_of halt ≡ 2 → Stops r halt → IsFailed r
     failed_at two (inl words) = elim words.cause [
       | inl formless ↦ absurd (let e = ap status_of formless.0 in omega (arith, two, e))
@@ -329,10 +360,12 @@ module _ (r : Ran) where
       | inr memory ↦ absurd (let e = ap status_of memory in omega (arith, two, e))
     ]
 
+    -- a run on words that are no command has status 1 or 8, unless its line was cut off
     by_formless : command_of r.words ≡ None → r.status ≢ 3 → (r.status ≡ 1) ⊎ (r.status ≡ 8)
     by_formless none other = let t = (told_of other).status in
         elim (formless_at none by.stops) [ inl e ↦ inl (t ∙ e) | inr e ↦ inr (t ∙ e) ]
 
+    -- status 2 says that a fetch failed, and that this was told
     by_read : r.status ≡ 2 → IsFailed r × ((Stops r Read × IsTold r Read) ⊎ IsUnreadStream r)
     by_read two =
         let at = status_at 2 two (λ e. omega arith) in
@@ -341,11 +374,13 @@ module _ (r : Ran) where
           inl (subst (Stops r) is by.stops, subst (IsTold r) is (told_at 2 two (λ e. omega arith))),
         )
 
+    -- a run that stops over anything but a fetch has only sound fetches
     sound_at : Stops r halt → AreSound r.shelf.old.history r.shelf.new.history ⊎ (halt ≡ Read)
     sound_at (inl words) = inl (sound_none r.shelf.old.history r.shelf.new.history words.unread)
     sound_at (inr (inl files)) = stops_sound None (files_of files.command) _ _ halt files.stops
     sound_at (inr (inr work)) = inl (reads_sound None (files_of work.command) _ _ work.values work.has.reads)
 
+    -- the fetches are sound, or the status says that one failed
     by_unread : AreSound r.shelf.old.history r.shelf.new.history ⊎
         ((r.status ≡ 2) ⊎ ((r.status ≡ 3) × TookPart r.err (line_of Read)))
     by_unread = elim (sound_at by.stops) [
@@ -356,12 +391,15 @@ module _ (r : Ran) where
       ]
     ]
 
+    -- with status 3 a sink counted a fault
     by_write : r.status ≡ 3 → Rose r.out.before r.out.now ⊎ Rose r.err.before r.err.now
     by_write three = elim by.ending [ inl t ↦ absurd (not_three halt (sym t.status ∙ three)) | inr m ↦ inr m.err.rose ]
 
+    -- with another status none did
     by_unmet : r.status ≢ 3 → (r.out.now ≡ r.out.before) × (r.err.now ≡ r.err.before)
     by_unmet other = let told = told_of other in (told.out.faultless, told.err.faultless)
 
+    -- status 4 says that something is refused, and what
     by_refused : r.status ≡ 4 → (refusal : Refusal) × Stops r (Refused refusal) × IsTold r (Refused refusal)
     by_refused four =
         let is = refused_of halt (status_at 4 four (λ e. omega arith)) in
@@ -381,23 +419,28 @@ module _ (r : Ran) where
           subst (IsTold r) is.4 (told_at 5 five (λ e. omega arith)),
         )
 
+    -- status 6 says that an item is too wide, and which
     by_width : r.status ≡ 6 → (a : Admission) × (x : ℕ) × Stops r (TooWide a x) × IsTold r (TooWide a x)
     by_width six =
         let is = wide_of halt (status_at 6 six (λ e. omega arith)) in
         (is.0, is.1, subst (Stops r) is.2 by.stops, subst (IsTold r) is.2 (told_at 6 six (λ e. omega arith)))
 
+    -- status 7 says that tables are unsafe, and by which fault
     by_fault : r.status ≡ 7 → (a : Admission) × (fault : Fault) × Stops r (Unsafe a fault) × IsTold r (Unsafe a fault)
     by_fault seven =
         let is = unsafe_of halt (status_at 7 seven (λ e. omega arith)) in
         (is.0, is.1, subst (Stops r) is.2 by.stops, subst (IsTold r) is.2 (told_at 7 seven (λ e. omega arith)))
 
+    -- nothing goes to the first sink
     by_silent : Untouched r.out
     by_silent = elim by.ending [ inl t ↦ t.out | inr m ↦ m.out ]
 
     module _ (a : Admission) (asks : AsksForTables r a) where
+      -- the status is that of the reason
       here : r.status ≡ status_of halt
       here = told_here (tables_faultless a asks)
 
+      -- a graph that is too wide gives status 6 or 8
       by_wide : (x : ℕ) → a.graph.order ≡ None → IsWide a.graph (first_order a.graph a.order) x →
           (r.status ≡ 6) ⊎ (r.status ≡ 8)
       by_wide x ungiven wide = elim (tables_left a asks halt by.stops) [
@@ -406,10 +449,12 @@ module _ (r : Ran) where
         | inr (inr shows) ↦ inl (here ∙ shows.0)
       ]
 
+      -- the refusal for width
       refused_as_wide : (status_of halt ≡ 6) × ((x : ℕ) × IsWide a.graph (first_order a.graph a.order) x) →
           IsRefusedAsWide r a
       refused_as_wide w = record { status = here ∙ w.0; item = w.1.0; wide = w.1.1 }
 
+      -- a graph that is timely gives status 0 or 8, or is refused as too wide
       by_made : IsTimely a.graph a.order → ((r.status ≡ 0) ⊎ (r.status ≡ 8)) ⊎ IsRefusedAsWide r a
       by_made timely = elim (tables_left a asks halt by.stops) [
         | inl e ↦ inl (inr (here ∙ e))
@@ -418,6 +463,7 @@ module _ (r : Ran) where
         | inr (inr wide) ↦ inr (refused_as_wide wide)
       ]
 
+      -- one that is late gives status 5 or 8, or is refused as too wide
       by_late : IsLate a.graph a.order → ((r.status ≡ 5) ⊎ (r.status ≡ 8)) ⊎ IsRefusedAsWide r a
       by_late is_late = elim (tables_left a asks halt by.stops) [
         | inl e ↦ inl (inr (here ∙ e))
@@ -426,9 +472,11 @@ module _ (r : Ran) where
       ]
 
     module _ (a : Admission) (t : Tables) (asks : AsksVerdict r a t) where
+      -- the status is that of the reason
       here_too : r.status ≡ status_of halt
       here_too = told_here (check_faultless a t asks)
 
+      -- tables of another graph give status 4 or 8
       by_other : (IsHeadFor a.graph t.head → ⊥) → (r.status ≡ 4) ⊎ (r.status ≡ 8)
       by_other differs = elim (verdict_left a t asks halt by.stops) [
         | inl memory ↦ inr (here_too ∙ ap status_of memory)
@@ -436,6 +484,7 @@ module _ (r : Ran) where
         | inr (inr broken) ↦ absurd (differs broken.1)
       ]
 
+      -- valid tables give status 0 or 8
       by_safe : IsHeadFor a.graph t.head → IsValid a.graph t.nodes → (r.status ≡ 0) ⊎ (r.status ≡ 8)
       by_safe head valid = elim (verdict_left a t asks halt by.stops) [
         | inl memory ↦ inr (here_too ∙ ap status_of memory)
@@ -443,6 +492,7 @@ module _ (r : Ran) where
         | inr (inr broken) ↦ absurd (broken.2 valid)
       ]
 
+      -- tables that aren't valid give status 7 or 8
       by_broken : IsHeadFor a.graph t.head → (IsValid a.graph t.nodes → ⊥) → (r.status ≡ 7) ⊎ (r.status ≡ 8)
       by_broken head invalid = elim (verdict_left a t asks halt by.stops) [
         | inl memory ↦ inr (here_too ∙ ap status_of memory)
@@ -450,6 +500,7 @@ module _ (r : Ran) where
         | inr (inr broken) ↦ inl (here_too ∙ broken.0)
       ]
 
+    -- a node that a name has gives status 0 or 8
     by_named : (pack name : Text) (t : Tables) (node : ℕ) → Asks r (Node pack name) (tables_value t ∷ []) →
         first_named t.head name ≡ Some node →
         (r.status ≡ 0) ⊎ (r.status ≡ 8)
@@ -458,6 +509,7 @@ module _ (r : Ran) where
       | inr q ↦ let k = on_tables t q.0 _ q.1 q.2 in absurd (none-some node (sym k.none ∙ named))
     ]
 
+    -- one that no name has gives status 4 or 8
     by_nameless : (pack name : Text) (t : Tables) → Asks r (Node pack name) (tables_value t ∷ []) →
         first_named t.head name ≡ None →
         (r.status ≡ 4) ⊎ (r.status ≡ 8)
@@ -466,6 +518,7 @@ module _ (r : Ran) where
       | inr q ↦ let k = on_tables t q.0 _ q.1 q.2 in inl (told_here asks.faultless ∙ ap status_of k.halt_is)
     ]
 
+    -- a node that no name has gives status 4 or 8 for `live` too
     by_unfollowed : (pack name stream : Text) (t : Tables) → Asks r (Live pack name stream) (tables_value t ∷ []) →
         first_named t.head name ≡ None →
         (r.status ≡ 4) ⊎ (r.status ≡ 8)
@@ -474,6 +527,7 @@ module _ (r : Ran) where
       | inr q ↦ let k = on_tables t q.0 _ q.1 q.2 in inl (told_here asks.faultless ∙ ap status_of k.halt_is)
     ]
 
+    -- `trial` gives status 0, 3 or 8
     by_tried : (number : ℕ) → command_of r.words ≡ Some (Trial number) →
         (r.status ≡ 0) ⊎ ((r.status ≡ 3) ⊎ (r.status ≡ 8))
     by_tried number asks = elim by.ending [
@@ -495,6 +549,7 @@ module _ (r : Ran) where
           | inr memory ↦ memory
         ]
 
+    -- `tune` gives status 0 or 8
     by_tuned : (graph : Text) (a : Admission) → Asks r (Tune graph) (graph_value a ∷ []) →
         (r.status ≡ 0) ⊎ (r.status ≡ 8)
     by_tuned graph a asks = elim (stopped_by r _ _ asks.has halt by.stops) [
@@ -502,6 +557,7 @@ module _ (r : Ran) where
       | inr q ↦ absurd q.2
     ]
 
+    -- what may stop `hyper` with its parts read
     left_parts : (pairs : List Pair) (parts : List Part) → Asks r (Hyper pairs) (part_values parts) →
         HavePeriods pairs parts →
         PartsLeft parts halt
@@ -510,6 +566,7 @@ module _ (r : Ran) where
       | inr q ↦ parts_left parts halt (on_parts pairs parts q.0 (λ ps. IsNotUnrolled ps halt) q.1 periods q.2)
     ]
 
+    -- parts that have a graph give its text, or status 8
     by_unrolled : (pairs : List Pair) (parts : List Part) (g : Graph) → Asks r (Hyper pairs) (part_values parts) →
         HavePeriods pairs parts → ShowsUnrolled parts (Ok g) →
         (r.status ≡ 0) ⊎
@@ -519,6 +576,7 @@ module _ (r : Ran) where
       | inr refused ↦ absurd (not_both parts g refused.1.0 made refused.1.1 refused.1.2)
     ]
 
+    -- parts that have none give status 4 or 8
     by_apart : (pairs : List Pair) (parts : List Part) → Asks r (Hyper pairs) (part_values parts) →
         HavePeriods pairs parts →
         (r.status ≡ 4) ⊎ (r.status ≡ 8)
@@ -530,6 +588,7 @@ module _ (r : Ran) where
     -- a run that ends by a reason to stop keeps what each status says
     pub lawful_by : IsLawful r
     lawful_by = record {
+      -- how the run ends, and what each status says of it
       ends = inr (inl (halt, by));
       done = λ zero. absurd (not_zero halt (status_at 0 zero (λ e. omega arith)));
       words = λ one. words_at (status_at 1 one (λ e. omega arith)) by.stops;
@@ -543,6 +602,7 @@ module _ (r : Ran) where
       is_wide = by_width;
       is_unsafe = by_fault;
       silent = λ zero three. inl by_silent;
+      -- what status each graph, each verdict and each name gives
       wide = λ a x asks ungiven wide. by_wide a asks x ungiven wide;
       made = by_made;
       late = by_late;

@@ -114,9 +114,11 @@ not_zero Memory e = omega arith
 
 -- ---- what a file stops a run with
 
+-- equal halts have one status
 as_halt : (h k : Halt) → h ≡ k → 4 ≤ status_of k → 4 ≤ status_of h
 as_halt h k e l = let same = ap status_of e in omega (arith, same, l)
 
+-- a fault of a graph file has a status from 4 on
 of_reading : (fault : ReadFault) → 4 ≤ status_of (halt_of_reading fault)
 of_reading ReadFault.NotToml = omega arith
 of_reading (ReadFault.BadField place) = omega arith
@@ -125,6 +127,7 @@ of_reading (ReadFault.UnknownName place) = omega arith
 of_reading (ReadFault.OverLimit what) = omega arith
 of_reading ReadFault.OutOfMemory = omega arith
 
+-- a broken rule has a status from 4 on
 of_rules : (g : Graph) (fault : RuleFault) → 4 ≤ status_of (halt_of_rules g fault)
 of_rules g (RuleFault.Cycle walk) = omega arith
 of_rules g RuleFault.TooManyTracks = omega arith
@@ -134,10 +137,12 @@ of_rules g (RuleFault.TooBig e) = omega arith
 of_rules g (RuleFault.BadOrder p) = omega arith
 of_rules g RuleFault.OutOfMemory = omega arith
 
+-- a fault of a scenario file has a status from 4 on
 of_scenario : (fault : ScenarioFault) → 4 ≤ status_of (halt_of_scenario fault)
 of_scenario (ScenarioFault.Bad cause) = omega arith
 of_scenario ScenarioFault.OutOfMemory = omega arith
 
+-- a refusal of a file's bytes has a status from 4 on
 of_bytes : (g : Option Graph) (k : FileKind) (bytes : Text) (h : Halt) → Refuses g k bytes h → 4 ≤ status_of h
 of_bytes g GraphFile bytes h (inl faulty) = as_halt h _ faulty.halt_is (of_reading faulty.fault)
 of_bytes g GraphFile bytes h (inr none) = let b = none.breaks in as_halt h _ b.halt_is (of_rules none.graph b.fault)
@@ -176,18 +181,22 @@ of_files g (f ∷ fs) past now h (fetch, inr (v, read, there)) = of_files (graph
 
 -- ---- what the work stops a run with
 
+-- a compile fault has a status from 4 on
 of_compile : (a : Admission) (fault : CompileFault) → 4 ≤ status_of (halt_of_compile a fault)
 of_compile a (CompileFault.TooWide x) = omega arith
 of_compile a (CompileFault.Late s p time) = omega arith
 of_compile a CompileFault.OutOfMemory = omega arith
 
+-- what leaves a graph without tables has a status from 4 on
 of_made : (a : Admission) (h : Halt) → IsUncompiled a h → 4 ≤ status_of h
 of_made a h wrong = as_halt h _ wrong.halt_is (of_compile a wrong.fault)
 
+-- what stops a verdict has a status from 4 on
 of_verdict : (a : Admission) (t : Tables) (h : Halt) → StopsVerdict a t h → 4 ≤ status_of h
 of_verdict a t h (inl other) = as_halt h _ other.halt_is (omega arith)
 of_verdict a t h (inr broken) = as_halt h _ broken.halt_is (omega arith)
 
+-- a fault of parts has a status from 4 on
 of_parts : (fault : HyperFault) → 4 ≤ status_of (halt_of_parts fault)
 of_parts (HyperFault.Range p) = omega arith
 of_parts (HyperFault.Differ p) = omega arith

@@ -35,10 +35,12 @@ use Rattle.cpg_app.proofs.Shown.{one_file}
 
 -- ---- words
 
+-- whether a command is `live`
 abbrev pub is_live : Option Command → Bool
 is_live (Some (Live pack name stream)) = true
 is_live other = false
 
+-- the node that `live` names
 abbrev name_in : Option Command → Text
 name_in (Some (Live pack name stream)) = name
 name_in other = []
@@ -48,10 +50,12 @@ module _ (r : Ran) (f : Follows r) where
   pub other_words : (c : Option Command) → is_live c ≡ false → command_of r.words ≡ c → ⊥
   other_words c off e = true≢false (ap is_live (sym f.words ∙ e) ∙ off)
 
+  -- a run that follows a stream doesn't ask for tables
   not_shown : (a : Admission) → AsksForTables r a → ⊥
   not_shown a (graph, inl asks) = other_words (Some (Show graph)) refl asks.has.words
   not_shown a (graph, inr asks) = other_words (Some (Compile graph)) refl asks.has.words
 
+  -- a run that follows a stream doesn't ask for a verdict
   not_judged : (a : Admission) (t : Tables) → AsksVerdict r a t → ⊥
   not_judged a t (graph, pack, inl asks) = other_words (Some (Check graph pack)) refl asks.has.words
   not_judged a t (graph, pack, inr (inl play)) =
@@ -61,15 +65,18 @@ module _ (r : Ran) (f : Follows r) where
 
 -- ---- one stream
 
+-- the last fetch, or a default
 head_or : Fetch → List Fetch → Fetch
 head_or d [] = d
 head_or d (f ∷ fs) = f
 
+-- the last but one, or a default
 second_or : Fetch → List Fetch → Fetch
 second_or d [] = d
 second_or d (f ∷ fs) = head_or d fs
 
 module _ (r : Ran) (f g : Follows r) where
+  -- two accounts of the run have the same fetches
   histories : f.fetch ∷ f.read ∷ r.shelf.old.history ≡ g.fetch ∷ g.read ∷ r.shelf.old.history
   histories = sym f.history ∙ g.history
 
@@ -78,22 +85,26 @@ module _ (r : Ran) (f g : Follows r) where
   unfolding head_or
   same_fetch = ap (head_or f.fetch) histories
 
+  -- two accounts of the run read the same pack
   same_read : f.read ≡ g.read
   unfolding head_or second_or
   same_read = ap (second_or f.read) histories
 
+  -- two accounts of the run read the same tables
   same_tables : g.tables ≡ f.tables
   same_tables = says_alike None PackFile f.read.given (tables_value f.tables) (tables_value g.tables) f.spelled.says
       (subst (λ (e : Fetch). Says None PackFile e.given (tables_value g.tables)) (sym same_read) g.spelled.says)
 
+  -- they name the same node
   same_name : f.name ≡ g.name
   same_name = ap name_in (sym f.words ∙ g.words)
 
+  -- two accounts of the run follow the same node
   same_node : g.node ≡ f.node
   same_node = same_Some g.node f.node (sym g.named ∙ (ap (λ (t : Tables). first_named t.head g.name) same_tables
       ∙ (ap (first_named f.tables.head) (sym same_name) ∙ f.named)))
 
-  -- and the node has the same table
+  -- two accounts of the run have the same table of the node
   pub same_table : table_of g ≡ table_of f
   same_table = ap (λ (t : Tables). table_at t.nodes g.node) same_tables ∙ ap (table_at f.tables.nodes) same_node
 
@@ -117,18 +128,22 @@ wrote_all r f lines wrote = record { faultless = wrote.faultless; taken = wrote.
 -- ---- followed to its close
 
 module _ (r : Ran) (ends : EndsAtClose r) where
+  -- what the run follows
   abbrev closed_stream : Follows r
   closed_stream = ends.follows
 
+  -- a stream that was followed to its close gives no status but 0
   zero_alone : (n : ℕ) → r.status ≡ n → n ≢ 0 → ⊥
   zero_alone n e other = other (sym e ∙ ends.status)
 
+  -- the status is that of the stream's end
   closes : (g : Follows r) → r.status ≡ status_of_end (stream_end (table_of g) g.fetch.given)
   closes g = ends.status ∙ sym (ap status_of_end (same_end r closed_stream g ∙ ends.completes.1.ends))
 
   -- a run that follows its stream to the close keeps what each status says
   pub lawful_closed : IsLawful r
   lawful_closed = record {
+    -- how the run ends; its status is 0 alone
     ends = inr (inr (inl ends));
     done = λ zero.
         inr (record { follows = ends.follows; lines = ends.completes.0; closed = ends.completes.1; out = wrote_all r closed_stream ends.completes.0 ends.completes.2; err = ends.err });
@@ -144,6 +159,7 @@ module _ (r : Ran) (ends : EndsAtClose r) where
     is_wide = λ six. absurd (zero_alone 6 six (λ e. omega arith));
     is_unsafe = λ seven. absurd (zero_alone 7 seven (λ e. omega arith));
     silent = λ zero three. absurd (zero ends.status);
+    -- the command is `live`, so nothing is asked of a graph, of a verdict, or of another command
     wide = λ a x asks ungiven wide. absurd (not_shown r closed_stream a asks);
     made = λ a asks timely. absurd (not_shown r closed_stream a asks);
     late = λ a asks late. absurd (not_shown r closed_stream a asks);
@@ -160,6 +176,7 @@ module _ (r : Ran) (ends : EndsAtClose r) where
         absurd (other_words r closed_stream (Some (Hyper pairs)) refl asks.has.words);
     apart = λ pairs parts fault asks periods shows other.
         absurd (other_words r closed_stream (Some (Hyper pairs)) refl asks.has.words);
+    -- the status is that of the stream's end
     followed = λ g faultless sound. closes g;
     unfollowed = λ pack name stream t asks none. absurd (one_file r closed_stream (tables_value t ∷ []) asks.has);
   }
@@ -171,6 +188,7 @@ status_sent : (sink : SinkSeen) (status wanted n : ℕ) (bytes : Text) → Sent 
     n ≢ 3 → wanted ≡ n
 status_sent sink status wanted n bytes sent e other = sym (sent.whole (λ three. other (sym e ∙ three))).0 ∙ e
 
+-- a stream that breaks off gives status 2, 3 or 4
 said_status : (r : Ran) (broken : Broken) → IsSaid r.err r.status broken →
     (r.status ≡ 2) ⊎ ((r.status ≡ 3) ⊎ (r.status ≡ 4))
 said_status r Broken.Shelf said =
@@ -180,12 +198,15 @@ said_status r (Broken.Refused fault) said =
     elim (cases_eq r.status 3) [ inl three ↦ inr (inl three) | inr other ↦ inr (inr (said.whole other).0) ]
 
 module _ (r : Ran) (ends : EndsInStream r) where
+  -- what the run follows
   abbrev stream : Follows r
   stream = ends.follows
 
+  -- the head of the tables
   abbrev head : Head
   head = stream.tables.head
 
+  -- the table of the node
   abbrev table : NodeTable
   table = table_of stream
 
@@ -197,6 +218,7 @@ module _ (r : Ran) (ends : EndsInStream r) where
     | inr (inr four) ↦ c (sym e ∙ four)
   ]
 
+  -- with status 3 a sink counted a fault
   write_rose : (broken : Broken) → Breaks head table (stream_of r stream) broken → IsSaid r.err r.status broken →
       r.status ≡ 3 →
       Rose r.out.before r.out.now ⊎ Rose r.err.before r.err.now
@@ -204,6 +226,7 @@ module _ (r : Ran) (ends : EndsInStream r) where
   write_rose Broken.Sink breaks said three = inl breaks.0
   write_rose (Broken.Refused fault) breaks said three = inr (said.part three).rose
 
+  -- with another status none did
   faultless_stream : (broken : Broken) → Breaks head table (stream_of r stream) broken → IsSaid r.err r.status broken →
       r.status ≢ 3 →
       (r.out.now ≡ r.out.before) × (r.err.now ≡ r.err.before)
@@ -211,6 +234,7 @@ module _ (r : Ran) (ends : EndsInStream r) where
   faultless_stream Broken.Sink breaks said other = absurd (other said.0)
   faultless_stream (Broken.Refused fault) breaks said other = (breaks.2.faultless, (said.whole other).1.faultless)
 
+  -- status 4 says that the stream was refused
   refused_stream : (broken : Broken) → Breaks head table (stream_of r stream) broken → IsSaid r.err r.status broken →
       r.status ≡ 4 →
       IsRefusedStream r
@@ -220,6 +244,7 @@ module _ (r : Ran) (ends : EndsInStream r) where
   refused_stream (Broken.Refused fault) breaks said four = record
       { follows = stream; fault = fault; lines = breaks.0; refused = breaks.1; out = wrote_all r stream breaks.0 breaks.2; err = (said.whole (λ three. omega arith)).1 }
 
+  -- status 2 says that the stream couldn't be fetched
   unread_stream : (broken : Broken) → Breaks head table (stream_of r stream) broken → IsSaid r.err r.status broken →
       r.status ≡ 2 →
       IsUnreadStream r
@@ -229,6 +254,7 @@ module _ (r : Ran) (ends : EndsInStream r) where
   unread_stream (Broken.Refused fault) breaks said two =
       absurd (let four = status_sent r.err r.status 4 2 (fault_line fault) said two (λ e. omega arith) in omega arith)
 
+  -- the fetches are sound, or the status says that one failed
   sound_stream : (broken : Broken) → Breaks head table (stream_of r stream) broken → IsSaid r.err r.status broken →
       AreSound r.shelf.old.history r.shelf.new.history ⊎
       ((r.status ≡ 2) ⊎ ((r.status ≡ 3) × Part r.err (line_of Read)))
@@ -239,10 +265,12 @@ module _ (r : Ran) (ends : EndsInStream r) where
   sound_stream Broken.Sink breaks said = inl (sound_all r stream breaks.1.sound)
   sound_stream (Broken.Refused fault) breaks said = inl (sound_all r stream breaks.1.sound)
 
+  -- a stream that couldn't be fetched is a fetch that failed
   failed_stream : IsUnreadStream r → IsFailed r
   failed_stream unread = let f = unread.follows in
       record { fetch = f.fetch; past = f.read ∷ r.shelf.old.history; last = f.history; failed = unread.lawful.failed }
 
+  -- with a status other than 0 and 3 the first sink is untouched, or the stream failed or was refused
   silent : r.status ≢ 0 → r.status ≢ 3 →
       Untouched r.out ⊎ (((r.status ≡ 2) × IsUnreadStream r) ⊎ ((r.status ≡ 4) × IsRefusedStream r))
   silent zero other = elim (said_status r ends.broken ends.said) [
@@ -251,6 +279,7 @@ module _ (r : Ran) (ends : EndsInStream r) where
     | inr (inr four) ↦ inr (inr (four, refused_stream ends.broken ends.breaks ends.said four))
   ]
 
+  -- without faults the status is that of the stream's end
   ended : (g : Follows r) → IsFaultless r → g.fetch.failed ≡ false → (broken : Broken) →
       Breaks head table (stream_of r stream) broken →
       IsSaid r.err r.status broken →
@@ -266,6 +295,7 @@ module _ (r : Ran) (ends : EndsInStream r) where
   -- a run that doesn't follow its stream to the close keeps what each status says
   pub lawful_stream : IsLawful r
   lawful_stream = record {
+    -- how the run ends; its status is 2, 3 or 4
     ends = inr (inr (inr ends));
     done = λ zero. absurd (other_status 0 zero (λ e. omega arith) (λ e. omega arith) (λ e. omega arith));
     words = λ one. absurd (other_status 1 one (λ e. omega arith) (λ e. omega arith) (λ e. omega arith));
@@ -280,6 +310,7 @@ module _ (r : Ran) (ends : EndsInStream r) where
     is_wide = λ six. absurd (other_status 6 six (λ e. omega arith) (λ e. omega arith) (λ e. omega arith));
     is_unsafe = λ seven. absurd (other_status 7 seven (λ e. omega arith) (λ e. omega arith) (λ e. omega arith));
     silent = silent;
+    -- the command is `live`, so nothing is asked of a graph, of a verdict, or of another command
     wide = λ a x asks ungiven wide. absurd (not_shown r stream a asks);
     made = λ a asks timely. absurd (not_shown r stream a asks);
     late = λ a asks late. absurd (not_shown r stream a asks);
@@ -294,6 +325,7 @@ module _ (r : Ran) (ends : EndsInStream r) where
         λ pairs parts g asks periods shows. absurd (other_words r stream (Some (Hyper pairs)) refl asks.has.words);
     apart = λ pairs parts fault asks periods shows other.
         absurd (other_words r stream (Some (Hyper pairs)) refl asks.has.words);
+    -- without faults the status is that of the stream's end
     followed = λ g faultless sound. ended g faultless sound ends.broken ends.breaks ends.said;
     unfollowed = λ pack name path t asks none. absurd (one_file r stream (tables_value t ∷ []) asks.has);
   }

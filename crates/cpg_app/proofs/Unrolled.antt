@@ -12,10 +12,12 @@ use Rattle.cpg_hyper.specs.Refusals.{Exceeds, FailsFirst, HasFewEnough, HasShort
 use Rattle.cpg_hyper.specs.Refusals.{FitsPeriod, GivesNoOrder, ShowsUnrolled}
 use Rattle.cpg_hyper.specs.Unrolled.{first_graph, unrolled}
 
+-- if each part passes a test, none is the first that fails it
 none_fails : (P : ℕ → Part → Type 0) (parts : List Part) (p : ℕ) → HoldsOfEach P parts → FailsFirst P parts p → ⊥
 none_fails P [] p holds fails = let l = fails.within in omega (arith, l)
 none_fails P (d ∷ parts) p holds fails = fails.fails d (holds p d fails.within)
 
+-- a graph that is small enough exceeds no limit
 enough : (what : What) (g : Graph) → Exceeds what g → HasFewEnough g → ⊥
 enough What.Nodes g over few = over
 enough What.Slots g over few = over
@@ -24,6 +26,7 @@ enough What.Edges g over few = let l = few.edges in let m = over.1 in omega (ari
 enough (What.Number place) g over few = over
 enough What.Conditions g over few = let l = few.conditions in let m = over.2 in omega (arith, l, m)
 
+-- parts have one hyperperiod
 one_hyperperiod : (parts : List Part) (n m : ℕ) → IsHyperperiod parts n → IsHyperperiod parts m → n ≡ m
 one_hyperperiod parts n m a b = dvd_antisymm (a.least m b.common) (b.least n a.common)
 

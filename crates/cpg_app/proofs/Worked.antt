@@ -37,6 +37,7 @@ pub if_err : {T E : Type 0} {P Q : E → Type 0} (r : Result T E) → ((e : E) �
 if_err (Ok x) f p = p
 if_err (Err e) f p = f e p
 
+-- what follows from each text that is put out follows of the output
 put_on : {P Q : Text → Type 0} (o : Output) → ((text : Text) → P text → Q text) → Puts o P → Puts o Q
 put_on (Lines text) f p = f (string_bytes text) p
 put_on (Shown made) f p = f (shown_by made.admitted.graph made.rows) p
@@ -49,6 +50,7 @@ module _ (c : Command) (vs : List Value) (r : Result Output Halt) where
   known : (d : Command) → c ≡ d → IfOk r (Answers d vs) → IfOk r (Answers c vs)
   known d e = subst (λ k. IfOk r (Answers k vs)) (sym e)
 
+  -- what follows from each text follows of an answer that puts it out
   puts : {P Q : Text → Type 0} → ((text : Text) → P text → Q text) → IfOk r (λ o. Puts o P) → IfOk r (λ o. Puts o Q)
   puts f = if_ok r (λ o. put_on o f)
 
@@ -115,9 +117,11 @@ module _ (c : Command) (vs : List Value) (r : Result Output Halt) where
 
   -- ---- halts
 
+  -- what stops a command stops the same command named otherwise
   stop_as : (d : Command) → c ≡ d → IfErr r (OrMemory (StopsWork d vs)) → IfErr r (OrMemory (StopsWork c vs))
   stop_as d e = subst (λ k. IfErr r (OrMemory (StopsWork k vs))) (sym e)
 
+  -- what follows from each halt follows of an answer that stops for it
   stops : {P Q : Halt → Type 0} → ((h : Halt) → P h → Q h) → IfErr r (OrMemory P) → IfErr r (OrMemory Q)
   stops {P = P} {Q = Q} f = if_err r (λ h so. go h so)
     where
@@ -179,6 +183,7 @@ module _ (c : Command) (vs : List Value) (r : Result Output Halt) where
 
 -- ---- what an answer is of
 
+-- an output is a text, and no stream
 abbrev pub IsText : Output → Type 0
 IsText (Lines text) = Unit {0}
 IsText (Shown made) = Unit {0}
@@ -186,6 +191,7 @@ IsText (OfNode tables node) = Unit {0}
 IsText (Pack made) = Unit {0}
 IsText (Stream follower path) = ⊥
 
+-- an output that is a text opens no follower
 not_opened : (t : Tables) (name stream : Text) (o : Output) → IsText o → Opens t name stream o → ⊥
 not_opened t name stream (Lines text) is opens = opens
 not_opened t name stream (Shown made) is opens = opens

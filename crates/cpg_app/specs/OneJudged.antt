@@ -47,6 +47,7 @@ module _ (g : Graph) (w : WellFormed g) (urgency : List ℕ) (top : IsTopologica
   one_answer (Wide i) (Late n) x y = absurd (y.0 i x.wide)
   one_answer (Wide i) (Wide j) x y = ap Wide (one_wide g w urgency top first_top i j x y)
 
+-- a graph has one judgement
 pub one_judged : (g : Graph) (a b : Judged) → IsJudged g a → IsJudged g b → a ≡ b
 one_judged g a b x y =
     let same : y.order ≡ x.order = one_urgency_order g y.order x.order y.admitted.urgency x.admitted.urgency in

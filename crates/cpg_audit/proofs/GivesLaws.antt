@@ -37,6 +37,7 @@ use Rattle.cpg_log.proofs.TextLaws.{act_within}
 
 -- ---- when an item is logged
 
+-- an act that is logged is determined by its time and its item
 same_logged : (l : Logged) (time item : ℕ) → l.time ≡ time → l.item ≡ item → l ≡ record { time = time; item = item }
 same_logged l time item p q = λ i. record { time = p i; item = q i }
 
@@ -88,6 +89,7 @@ module _ {g : Graph} {tables : List NodeTable} {s : Scenario} (k : Setting g tab
         refl,
       )
 
+  -- an act that is due is of a column that matches, at the column's time
   match_of : (a : Act) → Contains (all_asked g tables s) a → (c : Column) × Match tables s a.item c × (c.time ≡ a.time)
   match_of a h = let q = all_asked_parts k a h in (q.column, asked_match q, q.time)
 
@@ -109,6 +111,8 @@ module _ {g : Graph} {tables : List NodeTable} {s : Scenario} (k : Setting g tab
     active = λ l c. let m = match_due gives l c in match_active k l.item m.0 m.1;
   }
     where
+      -- by whether x is logged: its column's time is no other than the logged one, and a column that isn't logged is
+      -- late
       times : (x : ℕ) (c : Column) → Match tables s x c → (o : Option ℕ) → logged_time log.acts x ≡ o →
           is_excluded log.until o c.time ≡ false
       times x c m None e = false_from_ne_true (nat_le c.time log.until) (λ early.
@@ -138,6 +142,7 @@ module _ {g : Graph} {tables : List NodeTable} {s : Scenario} (k : Setting g tab
         (a.0, a.1, same_logged (logged a.0) l.time l.item (a.2 ∙ same) a.3);
   }
     where
+      -- an act by the end of the log, whose column's time isn't excluded, is logged
       named : (a : Act) (c : Column) (o : Option ℕ) → logged_time log.acts a.item ≡ o →
           is_excluded log.until (logged_time log.acts a.item) c.time ≡ false → c.time ≡ a.time →
           a.time ≤ log.until →
@@ -167,6 +172,7 @@ module _ {g : Graph} {tables : List NodeTable} {s : Scenario} (k : Setting g tab
           | inr h ↦ of_idle b h
         ])
       where
+        -- no excluded cube of an item matches
         of_column : (b : List Literal) → Contains (flat_map (excluded_of tables log) (numbers_below (item_count g))) b →
             matches b s ≡ false
         of_column b h = false_from_ne_true (matches b s) (λ m.
@@ -179,10 +185,12 @@ module _ {g : Graph} {tables : List NodeTable} {s : Scenario} (k : Setting g tab
             true≢false (sym r.1 ∙ fits.times p.0 q.0
             (record { there = r.0; holds = subst (λ (ls : List Literal). matches ls s ≡ true) (sym q.2) m })))
 
+        -- no logged item is idle
         none_idle : is_some_idle g log.acts s ≡ false
         none_idle = list_any_false (λ (l : Logged). not (item_active g s.values (item_at g l.item))) log.acts
             (λ l c. ap not (fits.active l c))
 
+        -- so no cube of an idle scenario matches
         of_idle : (b : List Literal) → Contains (map (λ (c : Column). c.cube) idle) b → matches b s ≡ false
         of_idle b h = from_any_false (λ b. matches b s) (map (λ (c : Column). c.cube) idle) b
             (any_map (λ b. matches b s) (λ (c : Column). c.cube) idle ∙ told ∙ none_idle) h
@@ -192,6 +200,7 @@ module _ {g : Graph} {tables : List NodeTable} {s : Scenario} (k : Setting g tab
         ++ map (λ (c : Column). c.cube) idle) ≡ false →
         Fits g tables log s
     left_fits none = record {
+      -- if a column that matches had an excluded time, its cube would be one of these
       times = λ x c m. false_from_ne_true (is_excluded log.until (logged_time log.acts x) c.time) (λ e.
           true≢false (sym m.holds ∙ from_any_false (λ b. matches b s) (flat_map (excluded_of tables log)
           (numbers_below (item_count g)) ++ map (λ (c : Column). c.cube) idle) c.cube none
@@ -203,10 +212,12 @@ module _ {g : Graph} {tables : List NodeTable} {s : Scenario} (k : Setting g tab
           (filter (λ (c : Column). is_excluded log.until (logged_time log.acts x) c.time) (columns_of tables x)) c
           (Contains-filter (λ (c : Column). is_excluded log.until (logged_time log.acts x) c.time)
           (columns_of tables x) c e m.there))))));
+      -- none of the idle cubes matches, so every logged item is active
       active = λ l c. not-false (item_active g s.values (item_at g l.item)) (from_any_false
           (λ (l : Logged). not (item_active g s.values (item_at g l.item))) log.acts l (sym told ∙ none_idle) c);
     }
       where
+        -- no column of an idle scenario matches
         none_idle : list_any (λ (c : Column). matches c.cube s) idle ≡ false
         none_idle = sym (any_map (λ b. matches b s) (λ (c : Column). c.cube) idle)
             ∙ list_any_false (λ b. matches b s) (map (λ (c : Column). c.cube) idle) (λ b h.
@@ -217,6 +228,7 @@ module _ {g : Graph} {tables : List NodeTable} {s : Scenario} (k : Setting g tab
 
 -- ---- the least scenario that is left
 
+-- what isn't matched by any cube, by the negation
 left_is : (b : Bool) → not b ≡ true → b ≡ false
 left_is false e = refl
 left_is true e = absurd (true≢false (sym e))
@@ -231,10 +243,12 @@ module _ (g : Graph) (order : List ℕ) (tables : List NodeTable)
     list_any (λ (c : Column). matches c.cube s) idle ≡ is_some_idle g log.acts s)
     (by : List (List Literal)) (are : by ≡ flat_map (excluded_of tables log) (numbers_below (item_count g))
     ++ map (λ (c : Column). c.cube) idle) where
+  -- a scenario that the cubes leave gives the log
   left_gives : (s : Scenario) → IsScenario g s → is_left by [] s ≡ true → Gives g tables log s
   left_gives s law e = fits_gives (setting s law) log is (left_fits (setting s law) log is idle (told s law)
       (ap (list_any (λ b. matches b s)) (sym are) ∙ left_is (list_any (λ b. matches b s) by) e))
 
+  -- a scenario that gives the log is left by the cubes
   gives_left : (s : Scenario) → IsScenario g s → Gives g tables log s → is_left by [] s ≡ true
   gives_left s law gives = ap not (ap (list_any (λ b. matches b s)) are
       ∙ fits_left (setting s law) log is idle (told s law) (gives_fits (setting s law) log is gives))

@@ -32,13 +32,16 @@ column_parts cube (Some n) c j = elim (Contains-cases (record { time = n; cube =
   | inr none ↦ absurd (Contains-nil c none)
 ]
 
+-- only an inactive item has an idle time
 idle_from : (active : Bool) (n : ℕ) → idle_time active ≡ Some n → not active ≡ true
 idle_from true n e = absurd (none-some n e)
 idle_from false n e = refl
 
+-- an inactive item has one, which is 0
 idle_at : (active : Bool) → not active ≡ true → idle_time active ≡ Some 0
 idle_at true e = absurd (true_false (sym e))
   where
+    -- what is excluded: an active item that isn't
     true_false : true ≡ false → ⊥
     true_false e = cc
 idle_at false e = refl
@@ -50,6 +53,7 @@ module _ (g : Graph) (x : ℕ) (a : TreeState Bool) (tree : IsTree g a) (active 
     (t : TreeState (Option ℕ)) (is : IsMap (λ b z. z ≡ idle_time b) a t)
     (each : HasOnePathEach t.faults t.paths) (columns : List Column)
     (all : IsPermutation (columns_of_paths t.paths) columns) (s : Scenario) (law : IsScenario g s) where
+  -- the scenario has at most the graph's faults
   few : HasAtMostFaults g.faults s
   few = scenario_few g s law
 
@@ -60,6 +64,7 @@ module _ (g : Graph) (x : ℕ) (a : TreeState Bool) (tree : IsTree g a) (active 
       is.value s y.0 z (subst (λ k. HasAtMostFaults k s) (sym tree.faults) few) y.1 on
       ∙ ap idle_time (active s y.0 law y.1)
 
+  -- if a column matches, the item isn't active
   from_column : list_any (λ (c : Column). matches c.cube s) columns ≡ true →
       not (item_active g s.values (item_at g x)) ≡ true
   from_column e =
@@ -72,6 +77,7 @@ module _ (g : Graph) (x : ℕ) (a : TreeState Bool) (tree : IsTree g a) (active 
       (record { stands = p.1; matched = subst (λ (ls : List Literal). matches ls s ≡ true) (sym parts.1) r.2 }))
       ∙ parts.0)
 
+  -- if the item isn't active, the column of the scenario's path matches
   to_column : not (item_active g s.values (item_at g x)) ≡ true →
       list_any (λ (c : Column). matches c.cube s) columns ≡ true
   to_column e =

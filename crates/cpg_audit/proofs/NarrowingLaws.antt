@@ -59,6 +59,7 @@ before_place f xs place x held some within is =
     ap (λ k. held || (f (get_or xs (place - 1) x) || list_any f (drop k xs))) (sym next)
     ∙ ap (λ b. held || b) (sym more)
   where
+    -- of three tests joined by `or` the last two may change places
     turn : (a b c : Bool) → ((a || b) || c) ≡ (a || (c || b))
     turn true b c = refl
     turn false true true = refl
@@ -79,12 +80,14 @@ one_before f xs place x some within is off =
 
 -- ---- the cubes of one place on
 
+-- if no element passes, none of the first n does
 any_taken : {X : Type 0} (f : X → Bool) (n : ℕ) (xs : List X) → list_any f xs ≡ false → list_any f (take n xs) ≡ false
 any_taken f zero xs off = refl
 any_taken f (suc n) [] off = off
 any_taken f (suc n) (x ∷ xs) off = let parts = or_parts (f x) (list_any f xs) off in
     ap (λ b. b || list_any f (take n xs)) parts.0 ∙ any_taken f n xs parts.1
 
+-- nor does one of the others
 any_dropped : {X : Type 0} (f : X → Bool) (n : ℕ) (xs : List X) → list_any f xs ≡ false → list_any f (drop n xs) ≡ false
 any_dropped f zero xs off = off
 any_dropped f (suc n) [] off = off
@@ -98,6 +101,7 @@ any_within f n m xs off = any_taken f m (drop n xs) (any_dropped f n xs off)
 -- ---- a list of cubes that one more is added to, or isn't
 
 module _ (kept : List (Bor (List Literal))) (cube : Bor (List Literal)) (s : Scenario) where
+  -- a scenario matches one of these cubes
   abbrev matched : List (Bor (List Literal)) → Bool
   matched bs = list_any (λ (b : Bor (List Literal)). matches b.now s) bs
 
@@ -115,6 +119,7 @@ module _ (kept : List (Bor (List Literal))) (cube : Bor (List Literal)) (s : Sce
 
 -- ---- the cubes of all items, one by one and in another order
 
+-- some result of a flat map passes exactly if some result of some element does
 any_flat : {X Y : Type 0} (p : Y → Bool) (f : X → List Y) (xs : List X) →
     list_any p (flat_map f xs) ≡ list_any (λ x. list_any p (f x)) xs
 any_flat p f [] = refl
@@ -141,6 +146,7 @@ flat_more f g xs i d within =
 module _ (space : Space) (ls : List Literal) (i : ℕ) (d : Literal) (within : i < length ls) where
   -- that holds in the whole space
   module _ (told : (s : Scenario) → IsInSpace space s → holds s (get_or ls i d) ≡ true) where
+    -- a literal that holds in the whole space changes nothing for a scenario in it
     same_with_told : (s : Scenario) → IsInSpace space s → matches (take (i + 1) ls) s ≡ matches (take i ls) s
     same_with_told s lies = list_all_more (holds s) ls i d within ∙ ap (λ b. matches (take i ls) s && b) (told s lies)
         ∙ and-true (matches (take i ls) s)
@@ -193,9 +199,11 @@ module _ (g : Graph) (space : Space) where
 -- a scenario that no cube matches is left of a cube that matches it, and cubes that match alike leave the same
 module _ (kept by : List (Bor (List Literal))) (idle all : List (List Literal)) (cube : List Literal)
     (s : Scenario) where
+  -- the cube that is lent
   abbrev seen : Bor (List Literal) → List Literal
   seen b = b.now
 
+  -- the scenario matches the cube
   abbrev test : List Literal → Bool
   test b = matches b s
 

@@ -11,7 +11,8 @@ use Rattle.cpg_tree.specs.declared.space.Space.{Space}
 use Rattle.cpg_audit.specs.declared.narrowing.Extent.{Extent}
 use Rattle.cpg_audit.specs.declared.narrowing.Extent.TheVariants.{Nowhere, Where, Unknown}
 
--- which scenarios of a space literals match
+-- what an extent says of the scenarios of a space: literals match in none, or just where one literal holds, or it isn't
+-- known
 abbrev pub IsExtent : Space → List Literal → Extent → Type 0
 IsExtent space ls Nowhere = (s : Scenario) → IsInSpace space s → matches ls s ≡ false
 IsExtent space ls (Where l) = (s : Scenario) → IsInSpace space s → matches ls s ≡ holds s l
@@ -25,4 +26,5 @@ Leaves space kept s = list_any (λ b. matches b.now s) kept ≡ false → IsInSp
 pub record IsRange (g : Graph) (space : Space) (bound : ℕ) (l : Literal) : Type 0 where
   pub known : IsVariable g l.variable
   pub below : l.variable < bound
+  -- it holds wherever the space has a scenario
   pub told : (s : Scenario) → IsInSpace space s → holds s l ≡ true

@@ -39,6 +39,7 @@ module _ {X : Type 0} (same : X → X → Bool) (R : X → X → Type 0) (to : (
 names_differ : (x y : List ℕ) → bytes_eq x y ≡ false → x ≢ y
 names_differ x y e is = true≢false (sym ((bytes_eq-Decides x y).1 is) ∙ e)
 
+-- names that aren't the same have different bytes
 differ_names : (x y : List ℕ) → x ≢ y → bytes_eq x y ≡ false
 differ_names x y apart = false_from_ne_true (bytes_eq x y) (λ t. apart ((bytes_eq-Decides x y).0 t))
 

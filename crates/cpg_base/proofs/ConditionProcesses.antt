@@ -29,6 +29,7 @@ place-get_or xs k rises h =
     (λ (l : k ≤ place xs (get_or xs k 0)). omega arith)
     (cases_lt (place xs (get_or xs k 0)) k)
   where
+    -- an element at a place of the list doesn't depend on what stands past its end
     get_or_here : (ys : List ℕ) (i : ℕ) → i < length ys → get_or ys i (get_or ys i 0) ≡ get_or ys i 0
     get_or_here ys i j = get_or_default ys i _ 0 j
 

@@ -15,6 +15,7 @@ use Rattle.cpg_base.proofs.Lists.{same_filter, numbers-Contains, filter_below_pu
 abbrev pub AreMarks : List Bool → List Edge → Type 0
 AreMarks marks edges = (p : ℕ) → p < 128 → get_or marks p false ≡ has_conditional_output edges p
 
+-- `or` with a false test adds nothing
 or_false : (a b : Bool) → b ≡ false → (a || b) ≡ a
 or_false true b h = refl
 or_false false b h = h

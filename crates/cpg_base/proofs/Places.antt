@@ -23,6 +23,7 @@ first_le xs x k e = ⊎_elim
     (λ (l : position_or_len (λ q. q == x) xs ≤ k). l)
     (cases_lt k (position_or_len (λ q. q == x) xs))
 
+-- the place of an element that is there is the first at which it stands
 place_first : (xs : List ℕ) (x : ℕ) → Contains xs x → place xs x ≡ position_or_len (λ q. q == x) xs
 place_first xs x c =
     let l = first_le xs x c.0 c.2 in

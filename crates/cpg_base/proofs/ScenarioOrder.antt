@@ -18,6 +18,7 @@ use Rattle.cpg_base.proofs.Places.{Contains-order}
 use Rattle.cpg_base.proofs.ConditionProcesses.{condition_of_process_of, condition_of_below}
 use Rattle.cpg_base.proofs.NumbersOf.{number_of-fault, number_of-value, one_value}
 
+-- two lists that are equal, with fronts of one length, have equal fronts and rests
 same_parts : {X : Type 0} (us vs xs ys : List X) → length us ≡ length vs → us ++ xs ≡ vs ++ ys → (us ≡ vs) × (xs ≡ ys)
 same_parts [] [] xs ys l e = (refl, e)
 same_parts [] (v ∷ vs) xs ys l e = absurd (omega arith)
@@ -111,23 +112,27 @@ module _ (g : Graph) (s t : Scenario) where
 module _ (g : Graph) (order : List ℕ) (all : IsPermutation (numbers_below (process_count g)) order) (s t : Scenario)
     (i : IsScenario g s) (j : IsScenario g t)
     (same : key g order s ≡ key g order t) where
+  -- each process gives the same piece to both keys
   same_piece : (p : ℕ) → p < process_count g → piece g s p ≡ piece g t p
   unfolding piece
   same_piece p h =
       same_pieces (piece g s) (piece g t) order (λ q. of_one_length (fault_of s q) (fault_of t q) (condition_of g q))
       same p (Contains-order (process_count g) order all p h)
     where
+      -- the pieces of a process are as long in both
       of_one_length : (a b : ℕ) (o : Option ℕ) →
           length (a ∷ value_in_key s.values o) ≡ length (b ∷ value_in_key t.values o)
       of_one_length a b None = refl
       of_one_length a b (Some c) = refl
 
+  -- so each process has the same count
   same_faults : s.faults ≡ t.faults
   unfolding piece
   same_faults = ext_get_or 0 s.faults t.faults (i.faults ∙ sym j.faults) (λ p l.
       let n = i.faults in
       let e = same_piece p (omega arith) in cc)
 
+  -- and each condition the same value
   same_values : s.values ≡ t.values
   unfolding piece
   same_values = ext_get_or false s.values t.values (i.values ∙ sym j.values) (λ c l.
@@ -136,9 +141,11 @@ module _ (g : Graph) (order : List ℕ) (all : IsPermutation (numbers_below (pro
       one_value (get_or s.values c false) (get_or t.values c false)
       (at_condition c (condition_of_process_of g c h) (same_piece (process_of g c) (process_of_below g c h))))
     where
+      -- of two equal lists of two, the second elements are equal
       heads : (a b x y : ℕ) → a ∷ x ∷ [] ≡ b ∷ y ∷ [] → x ≡ y
       heads a b x y e = cc
 
+      -- the value of a condition is the second number of its process's piece
       at_condition : (c : ℕ) → condition_of g (process_of g c) ≡ Some c →
           fault_of s (process_of g c) ∷ value_in_key s.values (condition_of g (process_of g c)) ≡ fault_of t
           (process_of g c) ∷ value_in_key t.values (condition_of g (process_of g c))

@@ -30,4 +30,5 @@ pub record IsOrder (order : List ℕ) : Type 0 where
 pub record ArePlaces (order places : List ℕ) : Type 0 where
   pub lawful : IsOrder order
   pub long : length places ≡ length order
+  -- `place` is where the process stands in the order
   pub there : (p : ℕ) → p < length order → get_or places p 0 ≡ place order p

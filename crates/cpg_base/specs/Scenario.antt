@@ -55,4 +55,5 @@ is_before g order s t = is_below (key g order s) (key g order t)
 pub record IsLeast (g : Graph) (order : List ℕ) (fact : Scenario → Type 0) (s : Scenario) : Type 0 where
   pub lawful : IsScenario g s
   pub holds : fact s
+  -- no scenario with the fact comes before it
   pub least : (t : Scenario) → IsScenario g t → fact t → is_before g order t s ≡ false

@@ -30,15 +30,19 @@ module _ (g : Graph) (within : IsWithinLimits g) (order : List ℕ) (topological
   abbrev cut : ℕ → List (Option ℕ)
   cut m = map (cut_at m) (numbers_below (item_count g))
 
+  -- the cut list has what is cut at each item
   cut_is : (m x : ℕ) → x < item_count g → get_or (cut m) x None ≡ cut_at m x
   cut_is m x l = get_or-map-below (cut_at m) (item_count g) x None l
 
+  -- an item before the moment keeps its frozen time
   cut_before : (m x : ℕ) → x < item_count g → moment g order x < m → get_or (cut m) x None ≡ get_or frozen x None
   cut_before m x l h = cut_is m x l ∙ cond-true (ltb (moment g order x) m) _ _ (lt-ltb (moment g order x) m h)
 
+  -- an item from the moment on has none
   cut_after : (m x : ℕ) → x < item_count g → m ≤ moment g order x → get_or (cut m) x None ≡ None
   cut_after m x l h = cut_is m x l ∙ cond-false (ltb (moment g order x) m) _ _ (le-ltb (moment g order x) m h)
 
+  -- only frozen items have frozen times
   frozen_if : (x time : ℕ) → get_or frozen x None ≡ Some time → is_frozen g x ≡ true
   frozen_if x time e =
       elim (cases_Bool (is_frozen g x)) [ inl f ↦ f | inr f ↦ absurd (none-some time (sym (are.others x f) ∙ e)) ]
@@ -60,6 +64,7 @@ module _ (g : Graph) (within : IsWithinLimits g) (order : List ℕ) (topological
         unfrozen_low 0 g order (cut m) w.scenario r.0 within topological w.lawful low r.1 x l,
       )
 
+  -- the frozen times before each moment are low: moment by moment
   low_cut : (m : ℕ) → AreLow 0 g order (cut m)
   low_cut zero = record { low = λ x time l e. absurd (none-some time (sym (cut_after 0 x l (omega arith)) ∙ e)) }
   low_cut (suc m) = record {

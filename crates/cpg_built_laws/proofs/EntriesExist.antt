@@ -43,6 +43,7 @@ module _ (g : Graph) (urgency order : List ℕ) (frozen : List (Option ℕ)) (ti
     abbrev pub IsOwn : Column → Type 0
     IsOwn e = IsEntryIn g order frozen rows x (lows g e.cube) e
 
+    -- two entries have different least scenarios
     abbrev pub IsApart : Column → Column → Type 0
     IsApart d e = lows g d.cube ≢ lows g e.cube
 
@@ -50,6 +51,7 @@ module _ (g : Graph) (urgency order : List ℕ) (frozen : List (Option ℕ)) (ti
     abbrev pub own_cube : Scenario → List Literal
     own_cube s = cube_of g.faults (carried g order rows s x)
 
+    -- an entry for the scenarios that carry the same as this one
     own_entry : (s : Scenario) → IsScenario g s → item_active g s.values (item_at g x) ≡ true →
         (e : Column) × IsOwn e × (lows g e.cube ≡ lows g (own_cube s))
     own_entry s law on =

@@ -28,13 +28,16 @@ use Rattle.cpg_merging.proofs.MergingSteps.{shorn_columns}
 module _ {X : Type 0} (is_after : X → X → Bool)
     (one_way : (x y : X) → is_after x y ≡ true → is_after y x ≡ false)
     (chain : (x y z : X) → is_after x y ≡ false → is_after y z ≡ false → is_after x z ≡ false) where
+  -- the first doesn't have to go behind the second
   abbrev keeps : X → X → Bool
   keeps x y = not (is_after x y)
 
+  -- a test whose opposite is true is false
   not_false : (b : Bool) → not b ≡ true → b ≡ false
   not_false false h = refl
   not_false true h = sym h
 
+  -- a test that is false has a true opposite
   not_true : (b : Bool) → b ≡ false → not b ≡ true
   not_true b e = ap not e
 
@@ -65,17 +68,21 @@ module _ (v : ℕ) where
   abbrev column_after : Column → Column → Bool
   column_after c d = is_lt (column_cmp v d c)
 
+  -- an order that is less isn't less the other way
   lt_one_way : (o : Ordering) → is_lt o ≡ true → is_lt (ordering_reverse o) ≡ false
   lt_one_way Less h = refl
   lt_one_way Equal h = refl
   lt_one_way Greater h = sym h
 
+  -- a column that is after another at the variable isn't before it, too
   column_one_way : (c d : Column) → column_after c d ≡ true → column_after d c ≡ false
   column_one_way c d h = ap is_lt ((column_total v).antisymm c d) ∙ lt_one_way (column_cmp v d c) h
 
+  -- columns that aren't after one another, one by one, aren't so at the ends of the chain
   column_chain : (c d e : Column) → column_after c d ≡ false → column_after d e ≡ false → column_after c e ≡ false
   column_chain c d e h k = go (column_cmp v e c) refl
     where
+      -- not less: it would be less than the middle one too, or equal to it
       not_less : column_cmp v e c ≡ Less → (o : Ordering) → column_cmp v e d ≡ o → ⊥
       not_less i Less j = both_ways (is_lt (column_cmp v e d)) k (ap is_lt j)
       not_less i Equal j = both_ways (is_lt (column_cmp v d c)) h (ap is_lt (sym ((column_total v).congr e d c j) ∙ i))
@@ -83,6 +90,7 @@ module _ (v : ℕ) where
           let back : column_cmp v d e ≡ Less = (column_total v).antisymm d e ∙ ap ordering_reverse j in
           both_ways (is_lt (column_cmp v d c)) h (ap is_lt ((column_total v).trans d e c back i))
 
+      -- so the first isn't after the last, however they compare
       go : (o : Ordering) → column_cmp v e c ≡ o → is_lt o ≡ false
       go Equal i = refl
       go Greater i = refl
@@ -97,6 +105,7 @@ module _ (g : Graph) (few : process_count g ≤ 128) where
 
   -- ---- joined at one variable, then at some, then at all
 
+  -- columns can be sorted and joined at one variable
   pass_on : (v : ℕ) → IsVariable g v → (xs : List Column) → IsShorn g xs →
       (ys : List Column) × IsPassed g (λ u. u ≡ v) xs ys
   pass_on v known xs h =
@@ -123,9 +132,11 @@ module _ (g : Graph) (few : process_count g ≤ 128) where
             (λ v m. at_end v m.0 m.1) xs a.0 b.0 a.1 b.1,
       )
     where
+      -- a variable among n + 1 is among the first n, or is the last
       at_end : (v : ℕ) → first ≤ v → v < first + suc n → IsBetween first (first + n) v ⊎ (v ≡ first + n)
       at_end v l k = elim (cases_eq v (first + n)) [ inl e ↦ inr e | inr ne ↦ inl (l, omega (arith, k, ne)) ]
 
+  -- columns can be joined at each variable of a graph: at all counts, and then at all values
   pass_all : (xs : List Column) → IsShorn g xs → (ys : List Column) × IsPassed g (IsVariable g) xs ys
   pass_all xs h =
       let a = pass_over 0 (process_count g) (λ v l k. inl (omega (arith, k))) xs h in
@@ -135,15 +146,18 @@ module _ (g : Graph) (few : process_count g ≤ 128) where
             (IsVariable g) sides xs a.0 b.0 a.1 b.1,
       )
     where
+      -- a variable is a count or a value
       sides : (v : ℕ) → IsVariable g v → IsBetween 0 (0 + process_count g) v ⊎ IsBetween 128 (128 + condition_count g) v
       sides v (inl l) = inl (omega arith, omega (arith, l))
       sides v (inr l) = inr (l.0, omega (arith, l.1))
 
   -- ---- joined until they are as many as before
 
+  -- columns that are as many as before, have none left to join
   settled_at : (xs ys : List Column) → IsPassed g (IsVariable g) xs ys → length ys ≡ length xs → AreSettled g xs ys
   settled_at xs ys p e = record { joins = p.joins; good = p.good; settled = settled_same g (IsVariable g) xs ys p e }
 
+  -- after at most as many rounds as there are columns, none is left to join
   settle : (n : ℕ) (xs : List Column) → length xs ≤ n → IsShorn g xs → (ys : List Column) × AreSettled g xs ys
   settle zero xs l h =
       let a = pass_all xs h in
@@ -165,12 +179,15 @@ module _ (g : Graph) (few : process_count g ≤ 128) where
   -- ---- in order by their least scenarios
 
   module _ (urgency : List ℕ) (all : IsPermutation (numbers_below (process_count g)) urgency) where
+    -- a column has to go behind another if its least scenario comes later
     abbrev lows_after : Column → Column → Bool
     lows_after c d = is_below (lows_along g urgency (low_in d.cube)) (lows_along g urgency (low_in c.cube))
 
+    -- not both ways
     lows_one_way : (c d : Column) → lows_after c d ≡ true → lows_after d c ≡ false
     lows_one_way c d h = below_one_way (lows_along g urgency (low_in d.cube)) (lows_along g urgency (low_in c.cube)) h
 
+    -- and one by one along a chain
     lows_chain : (c d e : Column) → lows_after c d ≡ false → lows_after d e ≡ false → lows_after c e ≡ false
     lows_chain c d e h k = not_below_transitive (lows_along g urgency (low_in c.cube))
         (lows_along g urgency (low_in d.cube)) (lows_along g urgency (low_in e.cube)) h k

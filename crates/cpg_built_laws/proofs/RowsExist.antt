@@ -50,10 +50,12 @@ module _ (g : Graph) (urgency order : List ℕ) (frozen : List (Option ℕ)) (ti
       pub found : place order (producer g x) ≡ i → AreEntriesOf g order frozen rows x entries
       pub merge : place order (producer g x) ≡ i → IsMergeOf g urgency entries columns
 
+    -- the rows so far are those of all places before
     earlier : (bound : ℕ) → bound ≤ i → AreRowsBefore g order frozen bound rows
     earlier bound h =
         rows_before g urgency order frozen timed rows bound (λ y e. are.each y e.0 (omega (arith, e.1, h)))
 
+    -- an item of the process at place i has columns made of these rows, and any other one keeps its own
     next_row : (x : ℕ) → x < item_count g → (columns : List Column) × IsNext x columns
     next_row x l = elim (cases_eq (place order (producer g x)) i) [
       | inl here ↦
@@ -74,12 +76,14 @@ module _ (g : Graph) (urgency order : List ℕ) (frozen : List (Option ℕ)) (ti
     next_rows : (next : List (List Column)) × AreRowsTo (i + 1) next
     next_rows =
         let r = chosen IsNext [] (item_count g) next_row in
+        -- the rows before the place stay the same
         let same : (bound : ℕ) → bound ≤ i → SameRowsBefore g order bound rows r.0 =
         λ bound h y e. sym ((r.2 y e.0).same (omega (arith, e.1, h))) in (
           r.0,
           record {
             count = r.1;
             each = λ x l h. elim (cases_eq (place order (producer g x)) i) [
+              -- an item of the process at this place: its row is made of the rows before
               | inl here ↦
                   let is : IsNext x (row_at r.0 x) = r.2 x l in
                   record {
@@ -88,6 +92,7 @@ module _ (g : Graph) (urgency order : List ℕ) (frozen : List (Option ℕ)) (ti
                         (same (place order (producer g x)) (omega (arith, here))) is.entries (is.found here);
                     merge = is.merge here;
                   }
+              -- an item of an earlier process keeps its row
               | inr there ↦
                   let before : place order (producer g x) < i = omega (arith, h, there) in
                   row_alike g urgency order frozen timed rows r.0 x l (same (place order (producer g x))
@@ -96,6 +101,7 @@ module _ (g : Graph) (urgency order : List ℕ) (frozen : List (Option ℕ)) (ti
           },
         )
 
+  -- there are rows up to each place
   rows_to : (i : ℕ) → (rows : List (List Column)) × AreRowsTo i rows
   rows_to zero =
       let r = chosen (λ x (c : List Column). Unit {0}) [] (item_count g) (λ x l. ([], tt)) in

@@ -30,6 +30,7 @@ use Rattle.cpg_built_laws.specs.Exist.{TablesExist}
 use Rattle.cpg_built_laws.proofs.EarlyFrozen.{frozen_early}
 use Rattle.cpg_built_laws.proofs.RowsExist.{rows_exist}
 
+-- rows that are made for items have these items
 items_same : (row : ℕ → Row) (xs : List ℕ) → ((x : ℕ) → Contains xs x → (row x).item ≡ x) → items_of (map row xs) ≡ xs
 items_same row [] each = refl
 items_same row (x ∷ xs) each =
@@ -71,9 +72,11 @@ module _ (g : Graph) (within : IsWithinLimits g) (formed : WellFormed g) (rows :
         stands = refl;
       }
 
+  -- a table for each node
   abbrev nodes : List NodeTable
   nodes = map table_of (numbers_below (length g.nodes))
 
+  -- these are the nodes' tables of the rows
   are_nodes : AreNodeTables g rows (length g.nodes) nodes
   are_nodes = record {
     long = length-map-range_with_len table_of 0 (length g.nodes);
@@ -81,6 +84,7 @@ module _ (g : Graph) (within : IsWithinLimits g) (formed : WellFormed g) (rows :
         (sym (get_or-map-below table_of (length g.nodes) node empty_table l)) (table_with node l);
   }
 
+  -- the tables of all nodes, with the graph's head
   abbrev pub written : Tables
   written = record { head = head_of g; nodes = nodes }
 
@@ -98,9 +102,11 @@ numbered_row columns x = record { item = x; columns = row_at columns x }
 abbrev numbered : List (List Column) → List Row
 numbered columns = map (numbered_row columns) (numbers_below (length columns))
 
+-- rows that are numbered have their numbers as items
 numbered_items : (columns : List (List Column)) → items_of (numbered columns) ≡ numbers_below (length columns)
 numbered_items columns = items_same (numbered_row columns) (numbers_below (length columns)) (λ x c. refl)
 
+-- and the columns that they were made of
 numbered_columns : (columns : List (List Column)) → columns_of_rows (numbered columns) ≡ columns
 numbered_columns columns =
     let blank : Row = record { item = 0; columns = [] } in
@@ -118,16 +124,19 @@ pub tables_exist : TablesExist
 tables_exist g urgency order guards frozen admitted topological narrow times =
     let timed : IsTimed g urgency order frozen =
     record { admitted = admitted_under g urgency order guards admitted topological; frozen_times = times } in
+    -- the rows of all items, by number
     let r = rows_exist g urgency order frozen timed in
     let rows = numbered r.0 in
     let are : AreRows g urgency order frozen (columns_of_rows rows) =
     subst (AreRows g urgency order frozen) (sym (numbered_columns r.0)) r.1 in
+    -- they are rows as a builder finds them, with these frozen times
     let found : AreRowsFound g urgency order frozen rows = record {
       frozen_times = times;
       early = frozen_early g admitted.limits order topological frozen times;
       items = numbered_items r.0 ∙ ap numbers_below r.1.count;
       found = listed_rows_carry g urgency order frozen (columns_of_rows rows) timed are;
     } in
+    -- within the limits, so they can be written
     let fit : DoRowsFit g rows = found_rows_fit g urgency order frozen rows admitted.limits timed.admitted found
     (none_too_wide g order narrow) in
     let writable : AreWritable g rows =

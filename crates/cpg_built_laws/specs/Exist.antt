@@ -13,9 +13,11 @@ use Rattle.cpg_run.specs.Frozen.{AreFrozenTimes}
 
 -- rows with the times of the runs under an order, which are within the limits, and tables with these rows
 pub record HasTables (g : Graph) (urgency order : List ℕ) (frozen : List (Option ℕ)) : Type 0 where
+  -- the rows, found from the runs, with no more columns than a row and all rows may have
   pub rows : List Row
   pub found : AreRowsFound g urgency order frozen rows
   pub fit : DoRowsFit g rows
+  -- the tables in which they are written
   pub tables : Tables
   pub written : AreTablesWith g rows tables
 

@@ -162,10 +162,12 @@ module _ (g : Graph) where
       (IsStrictlyIncreasing-filter (λ e. source g e == p) (numbers_below (edge_count g))
       (numbers_rise (edge_count g)))))))
 
+  -- a process has one broadcast at most
   broadcasts_rise : (o : Option ℕ) → Rises (λ a b. rank_at a < rank_at b) (broadcasts_of g o)
   broadcasts_rise None = tt
   broadcasts_rise (Some c) = go (ltb 1 (length g.nodes))
     where
+      -- which goes only if there is another node
       go : (b : Bool) → Rises (λ a b. rank_at a < rank_at b) (if b then broadcast_item g c ∷ [] else [])
       go true = (λ y k. absurd (Contains-nil y k), tt)
       go false = tt

@@ -31,6 +31,7 @@ is_share g node within has =
 module _ (g : Graph) (node place : ℕ) (found : Option ℕ) (slots : List Slot) (same : slots ≡ g.slots)
     (is : found ≡ position (λ (s : Slot). s.node == node) slots)
     (at : place ≡ unwrap_or found 0) where
+  -- the place that was found is that of the node's slot
   place_is : place ≡ slot_place g node
   place_is = at ∙ ap (λ o. unwrap_or o 0) (is ∙ ap (position (λ (s : Slot). s.node == node)) same)
 

@@ -24,8 +24,10 @@ share_if g node = if list_any (λ s. s.node == node) g.slots then Some (share_of
 
 -- the edges of each process, what each process sends, the shares of the nodes, and the length of the round
 pub record PlanState : Type 0 where
+  -- the edges of each process, and what each process sends
   pub links : EdgeLists
   pub queues : List (List ℕ)
+  -- the share of each node that has a slot, and the length of the round
   pub shares : List (Option ShareState)
   pub turn : ℕ
 

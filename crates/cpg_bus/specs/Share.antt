@@ -17,6 +17,7 @@ pub record ShareState : Type 0 where
 
 -- the slot takes time, and lies in the round
 pub record IsShare (s : ShareState) : Type 0 where
+  -- its length, its place, and the longest that a round can be
   pub lasts : 1 ≤ s.length
   pub inside : s.offset + s.length ≤ s.round
   pub short : s.round ≤ 16000000000

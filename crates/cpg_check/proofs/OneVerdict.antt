@@ -31,6 +31,7 @@ use Rattle.cpg_check.proofs.Verdicts.{other_head, faulty_tables}
 
 -- ---- heads
 
+-- a head first differs from the graph's in one part: of two such parts the earlier would be equal
 one_part : (g : Graph) (h : Head) (p q : HeadPart) → IsFirstDifference g h p → IsFirstDifference g h q → p ≡ q
 one_part g h HeadPart.Faults HeadPart.Faults d e = refl
 one_part g h HeadPart.Faults HeadPart.Nodes d e = absurd (d e.faults)
@@ -51,9 +52,11 @@ one_part g h HeadPart.Edges HeadPart.Edges d e = refl
 
 -- ---- faults by their parts
 
+-- a violation by its parts
 fault_of : ℕ → ℕ → Option ℕ → Scenario → Fault
 fault_of rule item column scenario = record { rule = rule; item = item; column = column; scenario = scenario }
 
+-- violations with the same rule, item, column and scenario are the same
 same_fault : (e f : Fault) → e.rule ≡ f.rule → e.item ≡ f.item → e.column ≡ f.column → e.scenario ≡ f.scenario → e ≡ f
 unfolding fault_of
 same_fault e f rule item column scenario =
@@ -73,6 +76,7 @@ same_number n m below above = elim (cases_lt n m) [
 -- ---- V1 to V9
 
 module _ (g : Graph) (tables : List NodeTable) where
+  -- a test that is joined to false adds nothing to the other one
   off : (b r : Bool) → r ≡ false → ((b && false) || r) ≡ false
   off true r e = e
   off false r e = e
@@ -100,10 +104,12 @@ module _ (g : Graph) (tables : List NodeTable) where
   none_or_some Rule.Hears s t x i e k = true≢false (sym e)
 
   module _ (rule : Rule) (x : ℕ) where
+    -- no column before this one breaks the rule in any scenario
     abbrev Before : Option ℕ → Type 0
     Before column =
         IfSome column (λ j. (i : ℕ) (s : Scenario) → i < j → IsScenario g s → breaks rule g tables s x (Some i) ≡ false)
 
+    -- two first columns that break the rule are one
     one_column : (c d : Option ℕ) (s t : Scenario) → IsScenario g s → IsScenario g t →
         breaks rule g tables s x c ≡ true → breaks rule g tables t x d ≡ true → Before c → Before d → c ≡ d
     one_column None None s t is it h k before earlier = refl
@@ -114,9 +120,11 @@ module _ (g : Graph) (tables : List NodeTable) where
         (λ l. both_ways (breaks rule g tables t x (Some j)) (before j t l it) k))
 
   module _ (order : List ℕ) (all : IsPermutation (numbers_below (process_count g)) order) where
+    -- the scenario is the least in which the rule is broken there
     abbrev LeastAt : Rule → ℕ → Option ℕ → Scenario → Type 0
     LeastAt rule x column s = IsLeast g order (λ t. IsTrue (breaks rule g tables t x column)) s
 
+    -- a rule has one first violation: one item, one column and one scenario
     one_violation : (rule : Rule) (e f : Fault) → IsFirstViolation g order tables rule e →
         IsFirstViolation g order tables rule f → e ≡ f
     one_violation rule e f a b =
@@ -135,15 +143,18 @@ module _ (g : Graph) (tables : List NodeTable) where
         same_fault e f (a.number ∙ sym b.number) item column (one_least g order all
         (λ t. IsTrue (breaks rule g tables t f.item f.column)) e.scenario f.scenario here b.least)
 
+    -- a rule that holds has no violation
     broken : (rule : Rule) (e : Fault) → IsFirstViolation g order tables rule e → Holds g tables rule → ⊥
     broken rule e a holds = both_ways (breaks rule g tables e.scenario e.item e.column)
         (holds e.item e.column e.scenario a.least.lawful a.item) a.least.holds
 
+    -- if all of some rules hold, none has a violation
     some_broken : (rules : List Rule) (e : Fault) → IsFirstOf g order tables rules e → AllHold g tables rules → ⊥
     some_broken [] e h all = h
     some_broken (rule ∷ rules) e (inl a) all = broken rule e a all.0
     some_broken (rule ∷ rules) e (inr a) all = some_broken rules e a.1 all.1
 
+    -- some rules, one after another, have one first violation
     one_of : (rules : List Rule) (e f : Fault) → IsFirstOf g order tables rules e → IsFirstOf g order tables rules f →
         e ≡ f
     one_of [] e f a b = absurd a
@@ -160,15 +171,18 @@ differ : (columns : List Column) (place : ℕ) (r : Option (List Column)) → If
 differ columns place None e d = d
 differ columns place (Some cs) e d = d.here (ap (λ xs. slice_get xs place) e)
 
+-- the first j columns have the same column at an earlier place
 slice_get-take : (xs : List Column) (i j : ℕ) → i < j → slice_get (take j xs) i ≡ slice_get xs i
 slice_get-take xs i zero l = absurd (omega arith)
 slice_get-take [] i (suc j) l = refl
 slice_get-take (x ∷ xs) zero (suc j) l = refl
 slice_get-take (x ∷ xs) (suc i) (suc j) l = slice_get-take xs i j (omega arith)
 
+-- lists that agree on the first j columns have the same column at an earlier place
 taken : (xs ys : List Column) (i j : ℕ) → i < j → take j xs ≡ take j ys → slice_get xs i ≡ slice_get ys i
 taken xs ys i j l e = sym (slice_get-take xs i j l) ∙ ap (λ zs. slice_get zs i) e ∙ slice_get-take ys i j l
 
+-- two lists first differ at one place
 one_place : (columns : List Column) (i j : ℕ) (r : Option (List Column)) →
     IsSomeAnd r (λ cs. DifferFirstAt cs columns i) → IsSomeAnd r (λ cs. DifferFirstAt cs columns j) → i ≡ j
 one_place columns i j None d e = absurd d
@@ -176,14 +190,17 @@ one_place columns i j (Some cs) d e =
     same_number i j (λ l. d.here (taken cs columns i j l e.before)) (λ l. e.here (taken cs columns j i l d.before))
 
 module _ (g : Graph) (tables : List NodeTable) where
+  -- the least node that hears x otherwise than it is due does so first at this place
   abbrev FirstAt : ℕ → Option ℕ → Type 0
   FirstAt x o = IsSomeAnd o (IsFirstHear tables (length g.nodes) x (due_columns g tables x))
 
+  -- an item that is heard well is heard otherwise by no node
   heard_badly : (x : ℕ) (o : Option ℕ) → FirstAt x o → IsHeardWell g tables x → ⊥
   heard_badly x None h well = h
   heard_badly x (Some place) h well = differ (due_columns g tables x) place
       (row_columns (table_at tables h.node).hears x) (well h.node h.within) h.differ
 
+  -- an item is first heard so at one place
   one_hear_place : (x : ℕ) (o p : Option ℕ) → FirstAt x o → FirstAt x p → o ≡ p
   one_hear_place x None p h k = absurd h
   one_hear_place x (Some i) None h k = absurd k
@@ -196,6 +213,7 @@ module _ (g : Graph) (tables : List NodeTable) where
       (subst (λ n. IsSomeAnd (row_columns (table_at tables n).hears x) (λ cs. DifferFirstAt cs columns i)) node
       h.differ) k.differ)
 
+  -- there is one first violation of V10: one item, and its place
   one_hear : (e f : Fault) → IsFirstHearFault g tables e → IsFirstHearFault g tables f → e ≡ f
   one_hear e f a b =
       let item : e.item ≡ f.item = same_number e.item f.item
@@ -205,6 +223,7 @@ module _ (g : Graph) (tables : List NodeTable) where
       (one_hear_place f.item e.column f.column (subst (λ x. FirstAt x e.column) item a.column) b.column)
       (a.scenario ∙ sym b.scenario)
 
+  -- tables have one first violation of all ten rules
   one_fault : (order : List ℕ) (e f : Fault) → IsTopological g order → IsFirstFault g order tables e →
       IsFirstFault g order tables f → e ≡ f
   one_fault order e f along (inl a) (inl b) = one_of g tables order along.all column_rules e f a b
@@ -214,6 +233,7 @@ module _ (g : Graph) (tables : List NodeTable) where
 
 -- ---- verdicts
 
+-- a verdict of each kind excludes those of the others, and each kind has one
 one_verdict : (g : Graph) (order : List ℕ) (t : Tables) (v w : Verdict) → IsTopological g order →
     length t.nodes ≡ length g.nodes → ShowsVerdict g order t v → ShowsVerdict g order t w → v ≡ w
 one_verdict g order t Yes Yes along count a b = refl

@@ -36,6 +36,7 @@ module _ (g : Graph) (tables : List NodeTable) where
     | inr there ↦ heard_due x items cs (sym (cond-false (y == x) _ _ there) ∙ e)
   ]
 
+  -- in valid tables no node hears an item at other columns than are due
   not_heard : IsValid g tables → (x place node : ℕ) → node < length tables → (o : Option (List Column)) →
       row_columns (table_at tables node).hears x ≡ o →
       IsSomeAnd o (λ cs. DifferFirstAt cs (due_columns g tables x) place) → ⊥
@@ -44,6 +45,7 @@ module _ (g : Graph) (tables : List NodeTable) where
       let hears = valid.hears node (table_at tables node) (slice_get-get_or tables node empty_table l) in
       differ.here (ap (λ ds. slice_get ds place) (heard_due x _ cs (sym (ap (λ rows. row_columns rows x) hears) ∙ e)))
 
+  -- so none is the first that does
   first_hear : IsValid g tables → length tables ≡ length g.nodes → (x : ℕ) (o : Option ℕ) →
       IsSomeAnd o (IsFirstHear tables (length g.nodes) x (due_columns g tables x)) → ⊥
   first_hear valid count x None shown = shown

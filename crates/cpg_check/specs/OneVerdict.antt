@@ -11,7 +11,7 @@ use Rattle.cpg_check.specs.Verdict.{IsFirstFault, ShowsVerdict}
 use Rattle.cpg_violation.specs.declared.heads.HeadPart.{HeadPart}
 use Rattle.cpg_check.specs.declared.verdict.Verdict.{Verdict}
 
--- by a graph, an order of all its processes, and a table for each of its nodes
+-- a check has one answer, for each graph, each order of all its processes, and tables with one for each of its nodes
 pub record HaveOneVerdict : Type 0 where
   -- a head differs first in one part
   pub parts : (g : Graph) (h : Head) (p q : HeadPart) → IsFirstDifference g h p → IsFirstDifference g h q → p ≡ q

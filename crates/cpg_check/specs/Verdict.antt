@@ -16,7 +16,7 @@ abbrev pub IsFirstFault : Graph → List ℕ → List NodeTable → Fault → Ty
 IsFirstFault g order tables f =
     IsFirstOf g order tables column_rules f ⊎ (AllHold g tables column_rules × IsFirstHearFault g tables f)
 
--- None if the tables are valid
+-- what a check finds: nothing exactly if the tables are valid, and else the first violation
 abbrev pub ShowsFault : Graph → List ℕ → List NodeTable → Option Fault → Type 0
 ShowsFault g order tables None = IsValid g tables
 ShowsFault g order tables (Some f) = IsFirstFault g order tables f

@@ -57,6 +57,7 @@ module _ (g : Graph) where
       All (IsArrival g) (xs ++ a ∷ [])
   each_push xs a h is = All-append (IsArrival g) xs (a ∷ []) h one
     where
+      -- the one column that is added is as all of them have to be
       one : (j : ℕ) (d : Arrival) → j < 1 → IsArrival g (get_or (a ∷ []) j d)
       one zero d l = is
       one (suc j) d l = absurd (omega arith)

@@ -10,13 +10,16 @@ use Rattle.cpg_cube.specs.declared.literal.Literal.{Literal}
 use Rattle.cpg_table.specs.Heard.{kept_high, is_heard}
 use Rattle.cpg_check_heard.specs.Bounds.{tells, is_free, low_of, high_of}
 
+-- a number is at most a maximum if it is at most one of the two
 below_max : (n a b : ℕ) → nat_le n (max a b) ≡ (nat_le n a || nat_le n b)
 below_max n a b = grind (arith, nat_tests)
 
+-- a number is at least a minimum if it is at least one of the two
 above_min : (n a b : ℕ) → nat_le (min a b) n ≡ (nat_le a n || nat_le b n)
 above_min n a b = grind (arith, nat_tests)
 
 module _ {X : Type 0} (p : X → Bool) (f : X → ℕ) (n : ℕ) where
+  -- one element more: the greatest is n or more by it, or by the others
   max_step : (b : Bool) (x : X) (xs : List X) (a : ℕ) →
       ((c : ℕ) → nat_le n (fold max c (map f (filter p xs))) ≡ (nat_le n c || list_any (λ x. p x && nat_le n (f x)) xs))
       → nat_le n (fold max a (map f (cond b (x ∷ filter p xs) (filter p xs))))
@@ -26,11 +29,13 @@ module _ {X : Type 0} (p : X → Bool) (f : X → ℕ) (n : ℕ) where
       or_assoc (nat_le n a) (nat_le n (f x)) (list_any (λ x. p x && nat_le n (f x)) xs)
   max_step false x xs a ih = ih a
 
+  -- the greatest of what passes is n or more if a or some of it is
   any_max : (xs : List X) (a : ℕ) →
       nat_le n (fold max a (map f (filter p xs))) ≡ (nat_le n a || list_any (λ x. p x && nat_le n (f x)) xs)
   any_max [] a = sym (or-false (nat_le n a))
   any_max (x ∷ xs) a = max_step (p x) x xs a (any_max xs)
 
+  -- one element more: the least is n or less by it, or by the others
   min_step : (b : Bool) (x : X) (xs : List X) (a : ℕ) →
       ((c : ℕ) → nat_le (fold min c (map f (filter p xs))) n ≡ (nat_le c n || list_any (λ x. p x && nat_le (f x) n) xs))
       → nat_le (fold min a (map f (cond b (x ∷ filter p xs) (filter p xs)))) n
@@ -40,11 +45,13 @@ module _ {X : Type 0} (p : X → Bool) (f : X → ℕ) (n : ℕ) where
       or_assoc (nat_le a n) (nat_le (f x) n) (list_any (λ x. p x && nat_le (f x) n) xs)
   min_step false x xs a ih = ih a
 
+  -- the least of what passes is n or less if a or some of it is
   any_min : (xs : List X) (a : ℕ) →
       nat_le (fold min a (map f (filter p xs))) n ≡ (nat_le a n || list_any (λ x. p x && nat_le (f x) n) xs)
   any_min [] a = sym (or-false (nat_le a n))
   any_min (x ∷ xs) a = min_step (p x) x xs a (any_min xs)
 
+-- 0 alone is at most 0
 none_below : (n : ℕ) → nat_le n 0 ≡ (n == 0)
 none_below n = grind (arith, nat_tests)
 

@@ -55,6 +55,7 @@ module _ (g : Graph) (tables : List NodeTable) (few : process_count g ≤ 128) (
       (ap (λ i. row_tells g (means_of_item g p i) time b (columns_of tables p) s) (item_at-start g p l)
       ∙ list_any_true (is_telling g (End p) time b s) (columns_of tables p) d.0 d.1 told)
 
+  -- a bound that holds is told by the end of its process, which has come by the time
   told_bound : (b : LiteralBound) → IsVariable g (variable_of b) → HasEnded g tables node (variable_of b) time →
       active g s.values (process_of_variable g (variable_of b)) ≡ true
       → side b (number_of s (variable_of b)) ≡ true → is_told g tables node time b s ≡ true

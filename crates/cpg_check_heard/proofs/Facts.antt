@@ -36,21 +36,25 @@ use Rattle.cpg_check_heard.proofs.Sides.{side, tells_exactly, value_side}
 
 -- ---- tests of lists that are made of others
 
+-- some result of a flat map passes exactly if some result of some element does
 any_flat_map : {X Y : Type 0} (test : Y → Bool) (f : X → List Y) (xs : List X) →
     list_any test (flat_map f xs) ≡ list_any (λ x. list_any test (f x)) xs
 any_flat_map test f [] = refl
 any_flat_map test f (x ∷ xs) =
     list_any-append test (f x) (flat_map f xs) ∙ ap (λ t. list_any test (f x) || t) (any_flat_map test f xs)
 
+-- a test of a list that stands only if b holds
 any_cond : {X : Type 0} (test : X → Bool) (b : Bool) (xs : List X) →
     list_any test (cond b xs []) ≡ (b && list_any test xs)
 any_cond test true xs = refl
 any_cond test false xs = refl
 
+-- tests that agree everywhere pass for some element alike
 any_ext : {X : Type 0} (p q : X → Bool) (xs : List X) → ((x : X) → p x ≡ q x) → list_any p xs ≡ list_any q xs
 any_ext p q [] h = refl
 any_ext p q (x ∷ xs) h = ap (λ t. t || list_any p xs) (h x) ∙ ap (λ t. q x || t) (any_ext p q xs h)
 
+-- tests that agree on the elements of a list pass for some of them alike
 any_within : {X : Type 0} (p q : X → Bool) (xs : List X) → ((x : X) → Contains xs x → p x ≡ q x) →
     list_any p xs ≡ list_any q xs
 any_within p q [] h = refl
@@ -73,6 +77,7 @@ any_one f t n one l off = same_truth (list_any f (filter t (numbers_below n))) (
     list_any_true f (filter t (numbers_below n)) one
     (Contains-filter t (numbers_below n) one parts.0 (Contains-numbers n one l)) parts.1)
 
+-- a frame tells the value of the condition that it carries, and no value if it carries none
 frame_carried : (s : Scenario) (i : Item) → frame_value s i ≡ value_fact s (carried i)
 frame_carried s (Start p) = refl
 frame_carried s (Message e) = refl
@@ -96,6 +101,7 @@ module _ (g : Graph) (tables : List NodeTable) (time : ℕ) (b : LiteralBound) (
       ap (λ t. matches c.cube s && t) (any_cond (tells b) (nat_le (c.time + duration g p (number_of s p)) time)
       (exactly p (number_of s p) ∷ value_fact s (condition_of g p))))
 
+  -- what the end of a process tells, by the row of its start
   start_row : (p : ℕ) → p < process_count g →
       list_any (tells b) (facts_of_end g tables s time p) ≡ item_tells g tables time b s p
   start_row p l =
@@ -121,6 +127,7 @@ module _ (g : Graph) (tables : List NodeTable) (time : ℕ) (b : LiteralBound) (
       n (sym (cond-false _ _ _ (le-ltb v 128 (omega (arith, e))) ∙ ap (process_of g) back
       ∙ process_of_condition_of g q c has))))
 
+  -- so the end of any other process doesn't tell the bound
   other_row : process_count g ≤ 128 → (q : ℕ) → q < process_count g → q ≢ process_of_variable g (variable_of b) →
       list_any (tells b) (facts_of_end g tables s time q) ≡ false
   other_row few q l n = end_row q ∙ list_any_false (is_telling g (End q) time b s) (columns_of tables q)
@@ -130,10 +137,12 @@ module _ (g : Graph) (tables : List NodeTable) (time : ℕ) (b : LiteralBound) (
 
   -- ---- what a node hears
 
+  -- an item that a node hears comes by a frame, a slot later, and carries its condition's value
   framed : (x node : ℕ) → is_heard_by g node (item_at g x) ≡ true →
       means_of g x ≡ Frame (slot_length g (home g x)) (carried (item_at g x))
   framed x node h = go (item_at g x) h
     where
+      -- as a message or a broadcast
       go : (i : Item) → is_heard_by g node i ≡ true → means_of_item g x i ≡ Frame (slot_length g (home g x)) (carried i)
       go (Start p) e = absurd (true≢false (sym e))
       go (Message e) h = refl

@@ -61,12 +61,14 @@ range_variable k (High v most) = refl
 
 -- ---- of ends
 
+-- three tests joined by `and` in another order
 turned : (h r m : Bool) → (r && (h && m)) ≡ (m && (h && r))
 turned true true m = with_true m true refl
 turned true false m = sym (and_right m false refl)
 turned false true m = sym (and_right m false refl)
 turned false false m = sym (and_right m false refl)
 
+-- if two of three tests never hold together, the three don't
 off_both : (m h r : Bool) → (h && m) ≡ false → (m && (h && r)) ≡ false
 off_both true true r e = absurd (true≢false e)
 off_both true false r e = refl
@@ -93,6 +95,7 @@ module _ (g : Graph) (few : process_count g ≤ 128) (p : ℕ) (c : Column) (tim
       ∙ ap (λ t. t && holds s (range_of g.faults b)) (le-ltb (number_of s p) 0 (omega arith)))
 
   module _ (some : 0 < counts) where
+    -- the count is below `counts` exactly if it is in the range from 0 to `counts` less 1
     come_is : (s : Scenario) →
         holds s (record { variable = p; low = 0; high = counts - 1 }) ≡ nat_lt (number_of s p) counts
     come_is s = come_holds (number_of s p) counts some
@@ -124,6 +127,7 @@ module _ (g : Graph) (few : process_count g ≤ 128) (p : ℕ) (c : Column) (tim
 -- `o`: the condition whose value the frame carries, if it is a broadcast. `known`: b is of a variable of the graph.
 module _ (g : Graph) (few : process_count g ≤ 128) (delay : ℕ) (o : Option ℕ) (c : Column) (time : ℕ) (b : LiteralBound)
     (known : IsVariable g (variable_of b)) where
+  -- a frame that has come by the time tells the bound if a literal of its column does, or the value that it carries
   frame_is : (s : Scenario) → nat_le (c.time + delay) time ≡ true → column_tells g (Frame delay o) time b s c ≡
       (list_any (tells b) c.cube || (is_value o (variable_of b) && side b (number_of s (variable_of b))))
   frame_is s e = ap (λ t. t && list_any (tells b) (c.cube ++ value_fact s o)) e
@@ -183,6 +187,7 @@ pub known_add : (g : Graph) (told : List (List Literal)) (o : Option (List Liter
 known_add g told None h k = All-append (IsKnown g) told [] h (λ j d l. absurd (omega arith))
 known_add g told (Some cube) h k = All-append (IsKnown g) told (cube ∷ []) h (λ j d l. one j d l)
   where
+    -- the one cube that is added has known variables
     one : (j : ℕ) (d : List Literal) → j < 1 → IsKnown g (get_or (cube ∷ []) j d)
     one zero d l = k
     one (suc j) d l = absurd (omega arith)

@@ -30,6 +30,7 @@ pub tells_exactly : (b : LiteralBound) (w n : ℕ) → tells b (exactly w n) ≡
 tells_exactly (Low v least) w n = refl
 tells_exactly (High v most) w n = refl
 
+-- a count isn't the value of any condition
 is_value_off : (o : Option ℕ) (v : ℕ) → v < 128 → is_value o v ≡ false
 is_value_off None v h = refl
 is_value_off (Some c) v h = ne_eqb (value_variable c) v (λ e. omega (arith, e, h))
@@ -97,6 +98,7 @@ module _ (g : Graph) (few : process_count g ≤ 128) (s : Scenario) (i : IsScena
       (λ _. (((p == variable_of b) && side b (number_of s p))
       || (is_value (condition_of g p) (variable_of b) && side b (number_of s (variable_of b))))
       ≡ side b (number_of s (variable_of b))) [
+        -- the bound is of p's count, so no value has to do with it
         | inl m ↦
             let same : p ≡ variable_of b = sym is ∙ cond-true _ _ _ (lt-ltb (variable_of b) 128 (omega arith)) in
             ap (λ t. (t && side b (number_of s p)) || (is_value (condition_of g p) (variable_of b)
@@ -104,6 +106,7 @@ module _ (g : Graph) (few : process_count g ≤ 128) (s : Scenario) (i : IsScena
             ∙ ap (λ t. side b (number_of s p) || (t && side b (number_of s (variable_of b))))
             (is_value_off (condition_of g p) (variable_of b) (omega arith))
             ∙ or-false (side b (number_of s p)) ∙ ap (λ v. side b (number_of s v)) same
+        -- the bound is of the value of p's condition
         | inr m ↦
             let c : ℕ = variable_of b - 128 in
             let at : process_of g c ≡ p = sym (cond-false _ _ _ (le-ltb (variable_of b) 128 m.0)) ∙ is in

@@ -9,11 +9,13 @@ use Rattle.cpg_table.specs.Table.{NodeTable}
 use Rattle.cpg_check_heard.specs.declared.telling_rows.TellingRow.{TellingRow}
 use Rattle.cpg_check_heard.specs.TellingRows.{IsTellingRow, AreTellingRows}
 
+-- an element of the first list stands at the same place in both
 get_before : {X : Type 0} (xs ys : List X) (i : ℕ) → i < length xs → slice_get (xs ++ ys) i ≡ slice_get xs i
 get_before [] ys i h = absurd (omega arith)
 get_before (x ∷ xs) ys zero h = refl
 get_before (x ∷ xs) ys (suc i) h = get_before xs ys i (omega arith)
 
+-- the element that is added stands behind the others
 get_last : {X : Type 0} (xs : List X) (y : X) → slice_get (xs ++ y ∷ []) (length xs) ≡ Some y
 get_last [] y = refl
 get_last (x ∷ xs) y = get_last xs y

@@ -25,7 +25,7 @@ use cpg_cube::{Column, Cube};
 use cpg_violation::has_come;
 use std::alloc::Global;
 
-/// A column, and how it tells.
+/// A column, and by what means it tells.
 #[derive(Clone, Copy)]
 pub(crate) struct Arrival<'a> {
     pub(crate) column: &'a Column,

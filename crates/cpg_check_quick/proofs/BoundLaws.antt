@@ -21,6 +21,7 @@ one_of : {X : Type 0} (b : Bool) (x y : X) → Contains (cond b [] (x ∷ [])) y
 one_of true x y h = absurd (Contains-nil y h)
 one_of false x y h = elim (Contains-cases x [] y h) [ inl e ↦ e | inr k ↦ absurd (Contains-nil y k) ]
 
+-- that element is in the list if the test fails
 one_there : {X : Type 0} (b : Bool) (x : X) → b ≡ false → Contains (cond b [] (x ∷ [])) x
 one_there b x e = subst (λ xs. Contains xs x) (sym (cond-false b [] (x ∷ []) e)) (Contains-first x [])
 
@@ -40,10 +41,12 @@ bound_wider k literals l w there h = elim (Contains-append_cases (low_of k l) (h
 unknown_there : {X : Type 0} (b : Bool) (xs : List X) (x : X) → b ≡ false → Contains xs x → Contains (cond b [] xs) x
 unknown_there b xs x e h = subst (λ ys. Contains ys x) (sym (cond-false b [] xs e)) h
 
+-- what is in the list, if a literal isn't known, is in the list without that test
 unknown_parts : {X : Type 0} (b : Bool) (xs : List X) (x : X) → Contains (cond b [] xs) x → Contains xs x
 unknown_parts true xs x h = absurd (Contains-nil x h)
 unknown_parts false xs x h = h
 
+-- each bound of an unknown literal is as wide as the literal
 bounds_wider : (k : ℕ) (known : List Bool) (literals : List Literal) (w : Literal) →
     Contains (flat_map (unknown_bounds k known) literals) w →
     IsToldIn literals w
@@ -54,6 +57,7 @@ bounds_wider k known literals w h =
 -- the bounds of a literal are all implied by what a node has kept
 module _ (k : ℕ) (known : List Literal) (l : Literal)
     (heard : (w : Literal) → Contains (bounds_of k l) w → is_heard k known w ≡ true) where
+  -- what is kept has at least the literal's low: the low is 0, or its bound is implied
   low_heard : nat_le l.low (kept_low known l.variable) ≡ true
   low_heard = elim (cases_eq l.low 0) [
     | inl none ↦ le-leb l.low (kept_low known l.variable) (omega (arith, none))
@@ -63,6 +67,7 @@ module _ (k : ℕ) (known : List Literal) (l : Literal)
         (Contains-append_left (low_of k l) (high_of k l) w (one_there (l.low == 0) w (ne_eqb l.low 0 some))))).0
   ]
 
+  -- what is kept has at most the literal's high: the high is the top, or its bound is implied
   high_heard : nat_le (kept_high k known l.variable) l.high ≡ true
   high_heard = elim (cases_lt l.high (top k l.variable)) [
     | inl below ↦
@@ -97,6 +102,7 @@ module _ (g : Graph) (tables : List NodeTable) (node : ℕ) (c : Column) (known 
       IsAllHeard g tables node c
   column_heard own heard l h s law m = go (get_or known l.variable false) refl
     where
+      -- by whether the literal's variable is known: it is heard by that, or by its bounds
       go : (b : Bool) → get_or known l.variable false ≡ b → is_heard g.faults (facts g tables node s c.time) l ≡ true
       go true e = own l h e s law m
       go false e =

@@ -39,6 +39,7 @@ none_at tables x s test none = list_any_false test (at tables x s)
 
 -- ---- V6
 
+-- executions of which one ends before the other starts don't overlap
 no_overlap : (a b c d : ℕ) → (c + d ≤ a) ⊎ (a + b ≤ c) → overlap a (a + b) c (c + d) ≡ false
 no_overlap a b c d (inl h) = ap (λ t. t && nat_lt c (a + b)) (le-ltb a (c + d) h)
 no_overlap a b c d (inr h) = and_right (nat_lt a (c + d)) (nat_lt c (a + b)) (le-ltb c (a + b) h)
@@ -79,10 +80,12 @@ module _ (g : Graph) (tables : List NodeTable) (x : ℕ) where
   pub sure_not_sent : is_sent g x ≡ false → IsSure g tables Rule.Slot x
   sure_not_sent e = sure_of g tables Rule.Slot x refl (λ s c earlier law there m. and_left (is_sent g x) _ e)
 
+  -- sends of which one is over before the other begins are at different times
   other_time : (a c : ℕ) → (a + 1 ≤ c) ⊎ (c + 1 ≤ a) → (a == c) ≡ false
   other_time a c (inl h) = ne_eqb a c (λ e. omega (arith, h, e))
   other_time a c (inr h) = ne_eqb a c (λ e. omega (arith, h, e))
 
+  -- if the columns start slots and the sends of lower items are apart, the item keeps V7
   lower_apart : All (λ (c : Column). (s : Scenario) → IsScenario g s → matches c.cube s ≡ true →
       next_slot g (home g x) c.time ≡ c.time) (columns_of tables x)
       → All (λ y. IsApart sending g tables y x)

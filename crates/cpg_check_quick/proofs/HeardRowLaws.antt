@@ -121,9 +121,11 @@ module _ {g : Graph} {tables : List NodeTable}
     {node : ℕ} {row : HeardRow} (is : IsHeardRow g tables node row) (c d : Column)
     (there : Contains (columns_of tables row.item) d) (come : d.time + row.delay ≤ c.time)
     (begins : take (length d.cube) c.cube ≡ d.cube) where
+  -- the longer cube is the shorter one and its own last literals
   both_parts : d.cube ++ drop (length d.cube) c.cube ≡ c.cube
   both_parts = ap (λ front. front ++ drop (length d.cube) c.cube) (sym begins) ∙ take-append-drop (length d.cube) c.cube
 
+  -- where the longer cube matches, the shorter one does
   first_matches : (s : Scenario) → matches c.cube s ≡ true → matches d.cube s ≡ true
   first_matches s m = (and_parts _ _ (sym (list_all-append (holds s) d.cube (drop (length d.cube) c.cube))
       ∙ ap (λ cube. matches cube s) both_parts ∙ m)).0

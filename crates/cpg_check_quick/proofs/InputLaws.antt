@@ -53,6 +53,7 @@ module _ (g : Graph) (tables : List NodeTable) where
         (made g s x l send (active_where g tables s law x l rules c k m)) (before s c law k m)))
 
     module _ (c : Column) (e : ℕ) where
+      -- what is by the column's time, by the kind of the input, is an input that is there
       there_if : (s : Scenario) (b : Bool) → is_message g e ≡ b →
           is_by c.time (cond b (arrivals_of g tables s (message_item g e)) (ends_of g tables s (source g e))) ≡ true →
           input_is_there g tables s c.time e ≡ true
@@ -82,6 +83,7 @@ module _ (g : Graph) (tables : List NodeTable) where
           IsInputThere g tables c e
       input_there l from over = go (is_message g e) refl
         where
+          -- by whether the input is a message
           go : (b : Bool) → is_message g e ≡ b → IsInputThere g tables c e
           go true m = message_there l m (λ s law h a. (over s law h a).message m)
           go false m = source_there m from (λ s law h a. (over s law h a).source m)
@@ -116,6 +118,7 @@ module _ (g : Graph) (tables : List NodeTable) where
 
 -- elements for which a fact holds, or that are kept
 module _ {T : Type 0} (fact : T → Type 0) (edges kept : List T) (k : ℕ) (any : T) (within : k < length edges) where
+  -- one of the first k + 1 elements is one of the first k, or the next one
   one_of : (d : T) → Contains (take (k + 1) edges) d → Contains (take k edges) d ⊎ (get_or edges k any ≡ d)
   one_of d c = Contains-push_cases (take k edges) (get_or edges k any) d
       (subst (λ xs. Contains xs d) (take_more edges k any within) c)

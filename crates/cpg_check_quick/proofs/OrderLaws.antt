@@ -90,6 +90,7 @@ rows_more lasts g tables n list row before here = record {
 -- what holds for the column at the tree's place holds for each that matches
 module _ {g : Graph} {columns : List Column} {tree : PlacesState} (is : IsRowTree g columns tree) (s : Scenario)
     (law : IsScenario g s) (fact : Column → Type 0) where
+  -- by the column at the scenario's place: no column matches without a place, and this one alone with it
   by_place : (o : Option ℕ) → place_at tree s ≡ o → IfSome o (λ i. fact (column_at columns i)) → (d : Column) →
       Contains columns d → matches d.cube s ≡ true → fact d
   by_place None e h d c m = absurd (none_matches is s law e d c m)
@@ -130,6 +131,7 @@ module _ {g : Graph} {tables : List NodeTable} {lasts : Scenario → ℕ} {x : �
       omega (arith, l, h, first)
 
   module _ (tree : PlacesState) (there : row.tree.now ≡ Some tree) where
+    -- the tree is one of the item's columns
     row_tree : IsRowTree g (columns_of tables x) tree
     row_tree = subst (λ (o : Option PlacesState). IfSome o (λ (t : PlacesState). IsRowTree g (columns_of tables x) t))
         there is.tree
@@ -159,6 +161,7 @@ module _ {g : Graph} {tables : List NodeTable} {lasts : Scenario → ℕ} {x : �
 -- the tree of an item's columns
 module _ {g : Graph} {tables : List NodeTable} {last : Scenario → ℕ} {x : ℕ} {row : SpannedRow}
     (is : IsSpannedRow g tables last x row) (tree : PlacesState) (there : row.tree.now ≡ Some tree) where
+  -- the tree is one of the item's columns
   its_tree : IsRowTree g (columns_of tables x) tree
   its_tree = subst (λ (o : Option PlacesState). IfSome o (λ (t : PlacesState). IsRowTree g (columns_of tables x) t))
       there is.tree
@@ -181,6 +184,7 @@ told_so (Some i) h f = f i h
 module _ {g : Graph} {tables : List NodeTable} {lasts : Scenario → ℕ} {y : ℕ} {one : SpannedRow}
     (is : IsSpannedRow g tables lasts y one) {s : Scenario} (law : IsScenario g s) (own : PlacesState)
     (there : one.tree.now ≡ Some own) where
+  -- at the place of the scenario the item is over by a time, early or by its tree
   over_at : (time : ℕ) → IsOverAt one time (place_at own s) s → IsOverBy tables (lasts s) y time s
   over_at time h = elim h [
     | inl early ↦ early_over is law time early
@@ -255,6 +259,7 @@ module _ (g : Graph) (tables : List NodeTable) (present : Holds g tables Rule.Pr
       (shown (item_active g s.values (item_at g x))
       (list_any (λ (d : Column). matches d.cube s) (columns_of tables x)) active none)
     where
+      -- what is active and not absent has a column that matches
       shown : (a b : Bool) → a ≡ true → (a && not b) ≡ false → b ≡ true
       shown true true e h = refl
       shown true false e h = absurd (both_ways true h refl)
@@ -281,6 +286,7 @@ module _ (g : Graph) (tables : List NodeTable) (present : Holds g tables Rule.Pr
         (start < place) × IsUnconditional g (get_or items start 0) × (get_or items start 0 < item_count g))
         (here : All (λ y. IsOver lasts g tables y (get_or items place 0))
         (take (place - start) (drop start items))) where
+      -- an item from the start on is over before the one at the place
       near : (i : ℕ) → start ≤ i → i < place → IsOver lasts g tables (get_or items i 0) (get_or items place 0)
       near i l h =
           let at : get_or (take (place - start) (drop start items)) (i - start) 0 ≡ get_or items i 0 =
@@ -290,6 +296,7 @@ module _ (g : Graph) (tables : List NodeTable) (present : Holds g tables Rule.Pr
           omega (arith, l, h, there, length-take (place - start) (drop start items), length-drop start items) in
           subst (λ y. IsOver lasts g tables y (get_or items place 0)) at (here (i - start) 0 long)
 
+      -- an item before the start is over before the start, and so before the one at the place
       far : ((i j : ℕ) → i < j → j < place → IsOver lasts g tables (get_or items i 0) (get_or items j 0)) → (i : ℕ) →
           i < start →
           IsOver lasts g tables (get_or items i 0) (get_or items place 0)
@@ -342,10 +349,12 @@ sequence_step rows items place start next b is there here over now = record {
       (now.before g tables lasts are present);
 }
   where
+    -- the new start isn't past the next place
     within : (b : Bool) → next ≡ cond b place start → next ≤ place + 1
     within true e = omega (arith, e)
     within false e = omega (arith, e, now.within)
 
+    -- if the new start isn't the first place, its item is before the next place and active in every scenario
     always : (g : Graph) (tables : List NodeTable) (lasts : ℕ → Scenario → ℕ) → AreSpannedRows lasts g tables rows →
         (b : Bool) → next ≡ cond b place start → 0 < next
         → (b ≡ true → IsUnconditional g (get_or items place 0) × (get_or items place 0 < item_count g)) →

@@ -68,6 +68,7 @@ module _ (g : Graph) (tables : List NodeTable) (rules : AllHold g tables row_rul
       active_here s law m = subst (λ v. active g s.values (process_of_variable g v) ≡ true) h.variable
           (literal_active g tables s law x lx rules c k m h.by h.there)
 
+      -- the literal holds where the column matches, since a literal of the column lies within it
       holds_here : (s : Scenario) → matches c.cube s ≡ true → holds s l ≡ true
       holds_here s m =
           let inside = and_parts _ _ (from_all (holds s) c.cube h.by m h.there) in

@@ -31,9 +31,11 @@ HasCome columns delay time (Some i) = (column_at columns i).time + delay ≤ tim
 
 -- one of these literals bounds the variable at least as closely as another
 pub record IsToldIn (literals : List Literal) (l : Literal) : Type 0 where
+  -- the literal, on the same variable
   pub by : Literal
   pub there : Contains literals by
   pub variable : by.variable ≡ l.variable
+  -- its range lies within the other's
   pub low : l.low ≤ by.low
   pub high : by.high ≤ l.high
 

@@ -42,8 +42,10 @@ IsEndedBy g tables q x =
 
 -- a variable of a process on the item's node that has always ended by the item's columns
 pub record IsOwnEnded (g : Graph) (tables : List NodeTable) (x v : ℕ) : Type 0 where
+  -- the process, to which the variable belongs
   pub process : ℕ
   pub owner : IsOwner g v process
+  -- it is on the item's node, and has ended by then
   pub near : node_of g process ≡ home g x
   pub ended : IsEndedBy g tables process x
 
@@ -58,7 +60,9 @@ pub record BeginsWith (known : List Bool) (literals others : List Literal) : Typ
 
 -- the process of a variable is on a node and over by a time
 pub record IsOwnOver (g : Graph) (tables : List NodeTable) (node v time : ℕ) (s : Scenario) : Type 0 where
+  -- the process, to which the variable belongs
   pub process : ℕ
   pub owner : IsOwner g v process
+  -- it is on the node, and its execution is over by the time
   pub near : node_of g process ≡ node
   pub over : IsOverBy tables (execution g process s) process time s

@@ -12,8 +12,11 @@ use Rattle.cpg_check_quick.specs.declared.listening.Listener.{Listener}
 -- hears
 pub record IsListener (tables : List NodeTable) (x : ℕ) (listener : Listener) : Type 0 where
   pub item : x < item_count listener.admitted.now.graph
+  -- when the executions of the graph begin and end
   pub sequences : AreSequences (execution listener.admitted.now.graph) listener.admitted.now.graph tables
       listener.sequences.now
   pub node : listener.node ≡ home listener.admitted.now.graph x
+  -- variables of processes of the node that have ended by the item's columns
   pub known : AreOwnEnded listener.admitted.now.graph tables x listener.known
+  -- the rows of the items that the node hears
   pub heard_rows : All (IsHeardRow listener.admitted.now.graph tables listener.node) listener.heard_rows.items

@@ -40,10 +40,12 @@ IsInSequence lasts g tables items =
 
 -- one item stands before another in an order
 pub record StandsBefore (order : List ℕ) (first second : ℕ) : Type 0 where
+  -- their two places, the first's before the second's
   pub from : ℕ
   pub to : ℕ
   pub rising : from < to
   pub there : to < length order
+  -- the items that stand there
   pub is_first : get_or order from 0 ≡ first
   pub is_second : get_or order to 0 ≡ second
 

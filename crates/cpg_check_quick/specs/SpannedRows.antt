@@ -24,9 +24,11 @@ pub record IsSpan (g : Graph) (lasts : Scenario → ℕ) (span : ItemSpan) : Typ
 
 -- an item that starts at a time is over by another, with the length of a number that the variable has at most
 pub record IsPast (span : ItemSpan) (start time : ℕ) (s : Scenario) : Type 0 where
+  -- a count that the variable has at most, for which the item has a length
   pub count : ℕ
   pub most : number_of s span.variable ≤ count
   pub known : count ≤ MOST_FAULTS
+  -- with the length for this count the item is over in time
   pub over : start + get_or span.lengths count 0 ≤ time
 
 -- an item is over by a time: by its last column, or from that at a place, if there is one

@@ -23,10 +23,12 @@ use Rattle.cpg_violation.proofs.ActiveWhere.{value_holds}
 use Rattle.cpg_violation.proofs.Columnwise.{first_either}
 use Rattle.cpg_violation.proofs.Tests.{not_both, with_true}
 
+-- a value is the wanted `false` if it isn't true
 same_false : (b : Bool) → same_bool false b ≡ not b
 same_false true = refl
 same_false false = refl
 
+-- a value is the other one than wanted if it isn't the wanted one
 other_bool : (v b : Bool) → same_bool (not v) b ≡ not (same_bool v b)
 other_bool true true = refl
 other_bool true false = refl

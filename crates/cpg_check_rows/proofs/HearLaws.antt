@@ -29,6 +29,7 @@ first_of_item (r ∷ rs) h row k = elim (Contains-cases r rs row k) [
   | inr m ↦ cond-false _ _ _ (ne_eqb r.item row.item (λ e. absurd (apart (h.0 row m) e))) ∙ first_of_item rs h.1 row m
 ]
   where
+    -- a lesser number isn't equal
     apart : {a b : ℕ} → a < b → a ≡ b → ⊥
     apart l e = absurd (omega arith)
 

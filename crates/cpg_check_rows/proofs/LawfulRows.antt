@@ -28,6 +28,7 @@ use Rattle.cpg_violation.proofs.SureLaws.{sure_of}
 pub both_active : (item none : Bool) → item ≡ true → none ≡ false → (not item || none) ≡ false
 both_active item none e f = ap₂ (λ a b. not a || b) e f
 
+-- all elements from a place on are those that are left there
 rest_of : {T : Type 0} (at : ℕ) (xs : List T) → take (length xs - at) (drop at xs) ≡ drop at xs
 rest_of at xs = grind (arith, common_steps)
 
@@ -39,6 +40,7 @@ matches_from literals at s m = subst (λ ls. matches ls s ≡ true) (sym (rest_o
     (sym (list_all-append (holds s) (take at literals) (drop at literals))
     ∙ ap (list_all (holds s)) (take-append-drop at literals) ∙ m)).1
 
+-- the process of a variable of the graph is one of the graph
 process_within : (g : Graph) → process_count g ≤ 128 → (v : ℕ) → IsVariable g v →
     process_of_variable g v < process_count g
 process_within g few v (inl l) = subst (λ p. p < process_count g) (of_count g v few l) l

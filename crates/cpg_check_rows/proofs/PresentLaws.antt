@@ -27,6 +27,7 @@ use Rattle.cpg_violation.specs.declared.sources.ItemSource.{ItemSource}
 use Rattle.cpg_violation.specs.Activity.{comes_to}
 use Rattle.cpg_violation.proofs.LiveEdges.{live_tested}
 
+-- three tests joined by `and` in another order
 turned : (a m n : Bool) → ((m && n) && a) ≡ ((a && m) && n)
 turned true true true = refl
 turned true true false = refl
@@ -90,6 +91,7 @@ present_more g tables x before here y column s l i = elim (cases_lt y x) [
       subst (λ z. breaks Rule.Present g tables s z column ≡ false) same (at_item column)
 ]
   where
+    -- at the item itself V3 isn't broken
     at_item : (column : Option ℕ) → breaks Rule.Present g tables s x column ≡ false
     at_item None = here s i
     at_item (Some k) = list_any_false (breaks_at Rule.Present g tables s x (take k (columns_of tables x)))

@@ -33,6 +33,7 @@ front_as columns n i s less none = elim (cases_lt i (length columns)) [
   | inr past ↦ double_past columns i s past
 ]
 
+-- if a row has a tree, no column of it matches together with an earlier one
 none_double : (g : Graph) (columns : List Column) (tree : PlacesState) → IsRowTree g columns tree →
     (i : ℕ) (s : Scenario) → IsScenario g s →
     is_double columns i s ≡ false

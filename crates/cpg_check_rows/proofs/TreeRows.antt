@@ -69,6 +69,7 @@ module _ (g : Graph) (tables : List NodeTable)
 
 module _ (g : Graph) (tables : List NodeTable) (trees : List (Option PlacesState)) (x : ℕ)
     (o : Option PlacesState) where
+  -- the tree of an item's row is one of its columns, if the row has a tree
   here : x < length trees → o ≡ get_or trees x o → AreRowTrees g tables trees →
       IfSome o (IsRowTree g (columns_of tables x))
   here there is are = tree_of_row g tables trees x are (omega (arith, there, are.count)) o is
@@ -84,6 +85,7 @@ module _ (g : Graph) (tables : List NodeTable) (trees : List (Option PlacesState
       OnTrue (is_some o) (IsSure g tables Rule.Single x)
   single_at there is are = go o (here there is are)
     where
+      -- a row that has a tree keeps V2
       go : (o : Option PlacesState) → IfSome o (IsRowTree g (columns_of tables x)) →
           OnTrue (is_some o) (IsSure g tables Rule.Single x)
       go None h = tt

@@ -44,8 +44,11 @@ HearsHold g tables = (node : ℕ) (t : NodeTable) → slice_get tables node ≡ 
 
 -- the least item that some node hears at other columns, with the least such node's first column that differs
 pub record IsFirstHearFault (g : Graph) (tables : List NodeTable) (f : Fault) : Type 0 where
+  -- the rule is V10, and the scenario the first of all, since none is to blame
   pub number : f.rule ≡ number_of_rule Rule.Hears
   pub item : f.item < item_count g
   pub scenario : f.scenario ≡ zero_scenario g
+  -- all lesser items are heard well
   pub items : (x : ℕ) → x < f.item → IsHeardWell g tables x
+  -- the place of the column, at the least node that hears the item otherwise
   pub column : IsSomeAnd f.column (IsFirstHear tables (length g.nodes) f.item (due_columns g tables f.item))

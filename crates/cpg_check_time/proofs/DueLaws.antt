@@ -15,6 +15,7 @@ use Rattle.cpg_check_time.specs.Lateness.{ends_after}
 
 -- given a process x and a column c of it
 module _ (g : Graph) (order : List ℕ) (tables : List NodeTable) (x : ℕ) (c : Column) (l : x < process_count g) where
+  -- the column breaks V9 where it matches and its execution ends past the due
   due_is : (s : Scenario) →
       (matches c.cube s && ends_after g x c.time (due g x) s) ≡ breaks_column Rule.Due g tables x c s
   due_is s = ap (λ b. matches c.cube s && (b && ends_after g x c.time (due g x) s)) (sym (lt-ltb x (process_count g) l))

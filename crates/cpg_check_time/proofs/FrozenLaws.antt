@@ -28,10 +28,12 @@ use Rattle.cpg_check_time.specs.Frozen.{frozen_time, possible_time}
 -- `are`: the columns are columns of the graph. `l`, `is`: d is the column at place i.
 module _ (g : Graph) (few : process_count g ≤ 128) (columns : List Column) (are : All (IsColumn g) columns) (i : ℕ)
     (d : Column) (l : i < length columns) (is : d ≡ get_or columns i d) where
+  -- the column is possible exactly if its cube is met
   met_here : is_possible g (get_or columns i d) ≡ is_met g.faults d.cube
   met_here =
       possible-is_met g few (get_or columns i d) (are i d l).cube ∙ ap (λ (c : Column). is_met g.faults c.cube) (sym is)
 
+  -- the first possible column from the place on is this one if it is met, and else one from the next place on
   found_step : find (is_possible g) (drop i columns)
       ≡ cond (is_met g.faults d.cube) (Some (get_or columns i d)) (find (is_possible g) (drop (i + 1) columns))
   found_step = ap (find (is_possible g)) (drop_more columns i d l)
@@ -52,12 +54,14 @@ module _ (g : Graph) (few : process_count g ≤ 128) (columns : List Column) (ar
 
 -- ---- the rule
 
+-- without a frozen time, no column differs from it
 differs_none : (time : ℕ) (b : Bool) (o : Option Column) → cond b (option_map (λ (c : Column). c.time) o) None ≡ None →
     (b && differs_from time o) ≡ false
 differs_none time true None e = refl
 differs_none time true (Some d) e = absurd (none-some d.time (sym e))
 differs_none time false o e = refl
 
+-- with one, a column differs from it exactly if its time does
 differs_some : (time t : ℕ) (b : Bool) (o : Option Column) →
     cond b (option_map (λ (c : Column). c.time) o) None ≡ Some t →
     (b && differs_from time o) ≡ not (t == time)
@@ -77,6 +81,7 @@ module _ (g : Graph) (order : List ℕ) (tables : List NodeTable) (x : ℕ) (c :
   frozen_same t e same s = and_right (matches c.cube s) _ (differs_some c.time t (is_frozen g x)
       (find (is_possible g) (columns_of tables x)) e ∙ ap not (eq-eqb t c.time same))
 
+  -- a column at another time breaks V8 wherever it matches
   frozen_other : (t : ℕ) → frozen_time g tables x ≡ Some t → t ≢ c.time → (s : Scenario) →
       matches c.cube s ≡ breaks_column Rule.Frozen g tables x c s
   frozen_other t e other s = with_true (matches c.cube s) _ (differs_some c.time t (is_frozen g x)

@@ -72,12 +72,14 @@ module _ {g : Graph} {order : List ℕ} {guards : Guards} (admitted : IsAdmitted
           (is_asked g e s
           && list_any (λ d. is_late g (Execution (source g e)) time d s) (columns_of tables (source g e)))
       go true m =
+          -- a message is sent exactly if its edge is live, and is late if its columns are
           let sent : item_active g s.values (item_at g (message_item g e)) ≡ live g s.values e =
           ap (item_active g s.values) (item_at-message g e l) ∙ ap (λ b. b && live g s.values e) m in
           ap (λ b. b && not (is_by time (arrivals_of g tables s (message_item g e)))) (sym sent)
           ∙ late_where g tables s law (message_item g e) (omega arith) rules
           (λ start. start + slot_length g (home g (message_item g e))) time
       go false m =
+          -- another input is live if its source is active and asked for, and late if the source's columns end late
           ap (λ b. b && not (is_by time (ends_of g tables s (source g e))))
           (live_asked admitted s law e l ∙ and_comm (active g s.values (source g e)) (is_asked g e s))
           ∙ and_assoc (is_asked g e s) (active g s.values (source g e))
@@ -88,11 +90,13 @@ module _ {g : Graph} {order : List ℕ} {guards : Guards} (admitted : IsAdmitted
   -- ---- the rule at a start
 
   module _ (p : ℕ) (l : p < process_count g) (c : Column) where
+    -- a column of a start breaks V5 if it matches before the release, or if a live input isn't there
     at_start : breaks_column Rule.Inputs g tables p c s ≡
         (matches c.cube s && (nat_lt c.time (process_at g p).release
         || list_any (λ e. not (input_is_there g tables s c.time e)) (filter (live g s.values) (inputs g p))))
     at_start = ap (λ i. matches c.cube s && breaks_inputs_of g tables s c.time i) (item_at-start g p l)
 
+    -- before the release it does so wherever it matches
     too_early : c.time < (process_at g p).release → matches c.cube s ≡ breaks_column Rule.Inputs g tables p c s
     too_early early = with_true (matches c.cube s) true refl ∙
         sym (at_start ∙ ap (λ b. matches c.cube s
@@ -119,6 +123,7 @@ module _ {g : Graph} {order : List ℕ} {guards : Guards} (admitted : IsAdmitted
   -- a column of a send
   module _ (x : ℕ) (l : x < item_count g) (send : process_count g ≤ x) (c : Column)
       (k : Contains (columns_of tables x) c) where
+    -- a column of a send breaks V5 if it matches and some column of the producer ends late
     at_send : (matches c.cube s && list_any (λ d. is_late g (Execution (producer g x)) c.time d s)
         (columns_of tables (producer g x))) ≡ breaks_column Rule.Inputs g tables x c s
     at_send =
@@ -137,6 +142,7 @@ module _ (g : Graph) (order : List ℕ) (tables : List NodeTable) (c : Column) (
   frame_late s = list_any (λ d. is_late g (Slot (slot_length g (home g (message_item g e)))) c.time d s)
       (columns_of tables (message_item g e))
 
+  -- some column of the source ends after the column's time
   abbrev source_late : Scenario → Bool
   source_late s = list_any (λ d. is_late g (Execution (source g e)) c.time d s) (columns_of tables (source g e))
 

@@ -30,10 +30,12 @@ use Rattle.cpg_check_time.specs.Columns.{breaks_column, is_alone, IsColumn}
 
 -- ---- rules that don't ask which columns stand before
 
+-- of these rules only V3 would ask for a column
 never_asks : (rule : Rule) → is_alone rule ≡ true → asks_for_one rule ≡ false
 never_asks Present e = absurd (true≢false (sym e))
 never_asks rule e = refl
 
+-- and only V2 about earlier columns
 same_rule : (rule : Rule) → is_alone rule ≡ true →
     (g : Graph) (tables : List NodeTable) (s : Scenario) (x : ℕ) (earlier : List Column) (c : Column) →
     breaks_rule rule g tables s x earlier c ≡ breaks_rule rule g tables s x [] c
@@ -69,6 +71,7 @@ module _ (rule : Rule) (alone : is_alone rule ≡ true) (g : Graph) (tables : Li
   -- `all`: these are the columns of the item's row. `l`, `is`: d is the column at place i.
   module _ (order : List ℕ) (columns : List Column) (all : columns ≡ columns_of tables x) (i : ℕ) (d : Column)
       (l : i < length columns) (is : d ≡ get_or columns i d) where
+    -- the column breaks the rule just as the item does at this place
     place_is : (s : Scenario) → breaks_column rule g tables x d s ≡ breaks rule g tables s x (Some i)
     place_is s = ap (λ c. breaks_column rule g tables x c s) (is ∙ ap (λ cs. get_or cs i d) all)
         ∙ breaks_here i d s (omega (arith, ap length all))
@@ -100,6 +103,7 @@ module _ (rule : Rule) (alone : is_alone rule ≡ true) (g : Graph) (tables : Li
 
 -- ---- what is known of the columns of an item
 
+-- a row of what a node starts or sends is one of its rows
 in_rows_of : (t : NodeTable) (row : Row) → Contains (t.starts ++ t.sends) row → Contains (rows_of t) row
 in_rows_of t row k = elim (Contains-append_cases t.starts t.sends row k) [
   | inl m ↦ Contains-append_left t.starts (t.sends ++ t.hears) row m

@@ -26,11 +26,13 @@ module _ (columns : List Column) (places : List ℕ) (k d : ℕ) (l : k < length
   pub found_more : AreFound columns found (take k places) → AreFound columns more (take (k + 1) places)
   found_more before i c m = elim (Contains-append_cases (take k places) (get_or places k d ∷ []) i
       (subst (λ xs. Contains xs i) (take_more places k d l) c)) [
+        -- a place from before
         | inl old ↦ elim (cases_lt (get_or places k d) (length columns)) [
           | inl lt ↦ subst (λ xs. Contains xs (column_at columns i)) (sym (there lt)) (Contains-append_left found
               (column_at columns (get_or places k d) ∷ []) (column_at columns i) (before i old m))
           | inr ge ↦ subst (λ xs. Contains xs (column_at columns i)) (sym (none ge)) (before i old m)
         ]
+        -- the new place
         | inr new ↦ elim (Contains-cases (get_or places k d) [] i new) [
           | inl same ↦
               let lt : get_or places k d < length columns = omega arith in
@@ -61,8 +63,10 @@ pub same_found : (columns found : List Column) (places : List ℕ) (cube : List 
     list_any test found ≡ list_any test columns
 same_found columns found places cube among all candidates s test both = same_truth _ _
     (λ t. let r = list_any_parts test found t in
+    -- a column that was found is one of the columns
     list_any_true test columns r.0 (All-contains (λ c. Contains columns c) found r.0 among r.1) r.2)
     (λ t.
+    -- a column that passes matches together with the cube, so its place is a candidate and it was found
     let r = list_any_parts test columns t in
     let c : Column = r.0 in
     let i : ℕ = r.1.0 in

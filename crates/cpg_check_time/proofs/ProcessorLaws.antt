@@ -102,6 +102,7 @@ module _ (g : Graph) (order : List ℕ) (tables : List NodeTable) (p : ℕ) (l :
   abbrev at_start : Scenario → ℕ → ℕ → Bool
   at_start s q start = overlap c.time (c.time + duration g p (fault_of s p)) start (start + duration g q (fault_of s q))
 
+  -- another process of the node overlaps the column where both match and the executions do
   of_process : (s : Scenario) (q : ℕ) →
       overlaps_some g tables p c q s
       ≡ (matches c.cube s && ((node_of g q == node_of g p) && list_any (at_start s q) (at tables q s)))

@@ -79,6 +79,7 @@ module _ (g : Graph) (order : List ℕ) (tables : List NodeTable) (x : ℕ) (c :
       (ap (λ b. b && (not (next_slot g (home g x) c.time == c.time) || list_any (other_at s) (numbers_below x))) e)
 
   module _ (sent : is_sent g x ≡ true) where
+    -- if the time is no start of a slot, the column breaks V7 wherever it matches
     no_start : next_slot g (home g x) c.time ≢ c.time → (s : Scenario) →
         matches c.cube s ≡ breaks_column Rule.Slot g tables x c s
     no_start n s =
@@ -96,6 +97,7 @@ module _ (g : Graph) (order : List ℕ) (tables : List NodeTable) (x : ℕ) (c :
         first_same g order (matches c.cube) (breaks_column Rule.Slot g tables x c) o (λ s _. no_start n s) f
 
     module _ (start : next_slot g (home g x) c.time ≡ c.time) where
+      -- if it is one, the column breaks V7 where it matches together with a lower item of the node at that time
       others_only : (s : Scenario) →
           breaks_column Rule.Slot g tables x c s ≡ (matches c.cube s && list_any (other_at s) (numbers_below x))
       others_only s = ap (λ b. matches c.cube s
@@ -103,6 +105,7 @@ module _ (g : Graph) (order : List ℕ) (tables : List NodeTable) (x : ℕ) (c :
           ∙ ap (λ b. matches c.cube s && (not b || list_any (other_at s) (numbers_below x)))
           (eq-eqb (next_slot g (home g x) c.time) c.time start)
 
+      -- a lower item shares the slot in such scenarios
       of_item : (s : Scenario) (y : ℕ) → shares_some g tables x c y s ≡ (matches c.cube s && other_at s y)
       of_item s y =
           ap (λ b. (is_sent g y && (home g y == home g x)) && b)

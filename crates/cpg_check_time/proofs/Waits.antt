@@ -25,6 +25,7 @@ use Rattle.cpg_violation.proofs.Moments.{in_at, at_parts}
 -- V1: what matches is active. V2: no two columns of a row match. V3: what is active has a column that matches.
 module _ (g : Graph) (tables : List NodeTable) (s : Scenario) (law : IsScenario g s) (x : ℕ) (l : x < item_count g)
     (rules : AllHold g tables row_rules) where
+  -- of two columns that match the later would break V2
   not_after : (c d : Column) (i j : ℕ) → i < length (columns_of tables x) → j < i →
       get_or (columns_of tables x) i c ≡ c → get_or (columns_of tables x) j d ≡ d →
       matches c.cube s ≡ true →
@@ -51,6 +52,7 @@ module _ (g : Graph) (tables : List NodeTable) (s : Scenario) (law : IsScenario 
       ≡ list_any (λ d. matches d.cube s && nat_lt time (done d.time))
       (columns_of tables x)
   late_where done time = same_truth _ _
+      -- active and not done: the column that matches is done too late
       (λ t.
       let p = and_parts (item_active g s.values (item_at g x)) (not (is_by time (map done (at tables x s)))) t in
       let d = match_where g tables s law x l rules p.0 in
@@ -58,6 +60,7 @@ module _ (g : Graph) (tables : List NodeTable) (s : Scenario) (law : IsScenario 
       (Contains-map done (at tables x s) d.0.time (in_at tables x s d.0 d.1 d.2)) in
       list_any_true (λ d. matches d.cube s && nat_lt time (done d.time)) (columns_of tables x) d.0 d.1
       (and_from _ _ d.2 (lt-ltb time (done d.0.time) (leb-false (done d.0.time) time not_by))))
+      -- a column that matches and is done too late: the item is active, and no other column matches that would be done
       (λ t.
       let d = list_any_parts (λ d. matches d.cube s && nat_lt time (done d.time)) (columns_of tables x) t in
       let p = and_parts (matches d.0.cube s) (nat_lt time (done d.0.time)) d.2 in

@@ -11,9 +11,11 @@ use Rattle.cpg_cluster.proofs.Reached.{Reached}
 
 -- given a node of a play
 module _ (p : Playing) (is : IsPlaying p) (a : ℕ) (l : a < length p.graph.nodes) where
+  -- the setting of the play: a well-formed graph, its valid tables and a world
   k : Played p.graph p.tables p.world
   k = played_of p.graph p.tables is.formed is.shape is.valid p.world is.world
 
+  -- its state is one that a play reaches
   r : Reached p.graph p.tables p.world p.cluster
   r = played_reached k p.cluster is.played
 

@@ -15,10 +15,12 @@ use Rattle.cpg_cube.specs.declared.column.Column.{Column}
 use Rattle.cpg_node.specs.Dispatcher.{zip_with}
 use Rattle.cpg_cluster.specs.Keeping.{waits_until, waits_by, times_by, arrival_times, IsIndex, AreIndexed}
 
+-- a test of mapped elements is a test of the elements
 any_of_map : {X : Type 0} (p : ℕ → Bool) (f : X → ℕ) (xs : List X) → list_any p (map f xs) ≡ list_any (λ x. p (f x)) xs
 any_of_map p f [] = refl
 any_of_map p f (x ∷ xs) = ap (λ b. p (f x) || b) (any_of_map p f xs)
 
+-- a test of a list that stands only if b holds
 any_if : (p : ℕ → Bool) (b : Bool) (xs : List ℕ) → list_any p (cond b xs []) ≡ b && list_any p xs
 any_if p true xs = refl
 any_if p false xs = refl
@@ -52,6 +54,7 @@ sent_before None slot a b l h = refl
 sent_before (Some u) slot a b l h = ap (λ x. x || false)
     (lt-leb (u + slot) a (omega (arith, l, leb-false (u + slot) b (or_false (nat_le (u + slot) b) ∙ h))))
   where
+    -- `or` with false changes nothing
     or_false : (x : Bool) → x ≡ (x || false)
     or_false true = refl
     or_false false = refl
@@ -89,14 +92,17 @@ pub last_until : (time : ℕ) (comes : Option ℕ) (slot : ℕ) (times : List �
 last_until time comes slot times place x rises l before past is =
     go (list_any (λ u. nat_le (u + slot) x) (option_to_list comes)) refl
   where
+    -- whether something that arrives at a time may still be sent
     p : ℕ → Bool
     p = waits_until time comes slot
 
+    -- the time at place is by then, so only what may be sent decides
     here : p (get_or times place x) ≡ list_any (λ u. nat_le (u + slot) x) (option_to_list comes)
     here = ap (λ b. b && list_any (λ u. nat_le (u + slot) (get_or times place x)) (option_to_list comes))
         (le-leb (get_or times place x) time (before place x (omega arith)))
         ∙ ap (λ t. list_any (λ u. nat_le (u + slot) t) (option_to_list comes)) (is x)
 
+    -- by whether the frame of the last arrival may still be sent
     go : (b : Bool) → list_any (λ u. nat_le (u + slot) x) (option_to_list comes) ≡ b → b ≡ list_any p times
     go true e = sym (list_any_at p times place x l (here ∙ e))
     go false e = sym (list_any_none p times (λ i d k. elim (cases_lt place i) [

@@ -42,11 +42,13 @@ dispatcher_is ms b d l = get_or-map (λ (m : Member). m.node.dispatcher) ms b d 
 -- given one of the members of a cluster, each of which keeps what it should
 module _ (g : Graph) (ms : List Member) (fits : AllFit g ms) (a : ℕ) (m : Member)
     (here : (d : Member) → get_or ms a d ≡ m) (l : a < length ms) where
+  -- the member's list of senders has the home of each row that it hears
   senders_are : m.senders.items ≡ map (λ (row : Row). home g row.item) m.node.dispatcher.table.hears
   senders_are =
       subst (λ (m : Member). m.senders.items ≡ map (λ (row : Row). home g row.item) m.node.dispatcher.table.hears)
       (here m) (fits a m l).senders
 
+  -- the member's own table is that of its dispatcher in the cluster
   table_is : (dispatcher_at (cluster_of ms) a).table ≡ m.node.dispatcher.table
   table_is = ap (λ (d : Dispatcher). d.table) (dispatcher_is ms a m l ∙ ap (λ (m : Member). m.node.dispatcher) (here m))
 
@@ -65,12 +67,15 @@ module _ (g : Graph) (ms : List Member) (fits : AllFit g ms) (a : ℕ) (m : Memb
       nat_le col.time time && list_any (λ u. nat_le (u + slot i) col.time) (option_to_list (comes i)))
       row.columns) (rows i))
     where
+      -- the member at b knows the length of its node's slot
       slot : (get_or ms b d).slot ≡ slot_length g b
       slot = (fits b d k).slot
 
+      -- its next instant is that of its dispatcher
       comes : next (get_or ms b d).node.dispatcher ≡ next (dispatcher_at (cluster_of ms) b)
       comes = sym (ap next (dispatcher_is ms b d k))
 
+      -- the rows that the member hears are those of its dispatcher
       rows : m.node.dispatcher.table.hears ≡ (dispatcher_at (cluster_of ms) a).table.hears
       rows = sym (ap (λ t. t.hears) table_is)
 
@@ -111,9 +116,11 @@ module _ (g : Graph) (ms : List Member) (fits : AllFit g ms) (a : ℕ) (m : Memb
           (omega (arith, past, length-map ms (λ (m : Member). m.acts.items)))))
     ]
       where
+        -- the value of the row's item, if it is a broadcast
         value : Bool
         value = value_of_item w.scenario.values (item_at g row.item)
 
+        -- the acts of the row's sender are those of the cluster
         sent : home g row.item < length ms →
             (get_or ms (home g row.item) m).acts.items ≡ get_or (cluster_of ms).acts (home g row.item) []
         sent k = sym (get_or-map (λ (m : Member). m.acts.items) ms (home g row.item) m [] k)

@@ -38,6 +38,7 @@ few_own g node within = omega (
   within.few_processes,
 )
 
+-- each process of a node may end at most at 9 times
 own_few_ends : (g : Graph) (node : ℕ) → IsWithinLimits g → HaveFewEnds (own_of_node g node)
 own_few_ends g node within =
     All-map (λ (o : Own). length o.times ≤ 9) (own_process g) (processes_on g node) (λ i p l. omega (
@@ -47,10 +48,12 @@ own_few_ends g node within =
       within.faults,
     ))
 
+-- the processes of a node stand in rising order
 own_rise : (g : Graph) (node : ℕ) → DoRise (own_of_node g node)
 own_rise g node = mapped (processes_on g node) (Rises-filter (λ x y. x < y) (λ p. node_of g p == node)
     (numbers_below (process_count g)) (numbers_go_up (process_count g)))
   where
+    -- so they do with what the node knows of each
     mapped : (ps : List ℕ) → Rises (λ x y. x < y) ps → DoRise (map (own_process g) ps)
     mapped [] h = tt
     mapped (p ∷ ps) h = (
@@ -112,6 +115,7 @@ pub few_waits : (g : Graph) (w : World) (c : Cluster) (xs : List ℕ) → (choos
 few_waits g w c [] = omega arith
 few_waits g w c (x ∷ xs) = go (answer g c x) (few_waits g w c xs)
   where
+    -- by what the node answers: one that waits counts as one more
     go : (a : Answer) → (choose g w c xs).waits ≤ length xs →
         (chosen g w c x a (choose g w c xs)).waits ≤ length (x ∷ xs)
     go Took l = omega arith

@@ -55,6 +55,7 @@ least_cycles g tables =
     let bound : ℕ = max (max g.deadline (last_arrival tables)) 1 in
     let there : 0 < step = omega arith in
     let over : bound ≤ div_ceil bound step * step = (div_ceil_times bound step there).0 in
+    -- it is a whole number of steps and holds all that it must
     record {
       is = record {
         some = omega (arith, over);
@@ -63,6 +64,7 @@ least_cycles g tables =
         deadline = omega (arith, over);
         arrivals = omega (arith, over);
       };
+      -- another cycle holds the same, so it has as many steps at least
       least = λ other c.
           let within : bound ≤ c.rounds * step = omega (arith, c.some, c.whole, c.deadline, c.arrivals) in
           let fewer : div_ceil bound step * step ≤ c.rounds * step =
@@ -83,22 +85,26 @@ record Hearer (g : Graph) (x : ℕ) : Type 0 where
 hearer : (g : Graph) → WellFormed g → (x : ℕ) → x < item_count g → is_sent g x ≡ true → Hearer g x
 hearer g f x l sent = elim (item_cases g x l) [
   | inl q ↦ absurd (not_both g x q.0 sent)
+  -- a message
   | inr (inl q) ↦ record {
     node = node_of g (target g q.0);
     within = f.nodes (target g q.0) (f.targets q.0 q.1);
     hears = ap (is_heard_by g (node_of g (target g q.0))) q.3
         ∙ and_from _ _ (sym (ap (is_sent_item g) q.3) ∙ sent) (eq-eqb _ _ refl);
   }
+  -- a broadcast: there is a second node
   | inr (inr q) ↦
       let two : nat_lt 1 (length g.nodes) ≡ true = sym (ap (is_sent_item g) q.3) ∙ sent in
       let many : 1 < length g.nodes = ltb-true 1 (length g.nodes) two in
       elim (cases_eq (node_of g (process_of g q.0)) 0) [
+        -- the condition's process is on the first node, so the second one hears it
         | inl e ↦ record {
           node = 1;
           within = omega (arith, many);
           hears = ap (is_heard_by g 1) q.3
               ∙ and_from _ _ two (not_from_false _ (ne_eqb _ _ (λ s. absurd (omega (arith, e, s)))));
         }
+        -- it isn't, so the first one does
         | inr ne ↦ record {
           node = 0;
           within = omega (arith, many);
@@ -150,8 +156,10 @@ module _ {g : Graph} {tables : List NodeTable} {w : World} (k : Played g tables 
       let c : Cluster = play g w (initial_cluster g tables) turns in
       let played : IsPlayed g tables w c = record { turns = turns; is = refl } in
       record {
+        -- a start is over with its planned end
         starts = λ node a l m p. let q = ((reached k turns).holds node l).done.only a m in
             omega (arith, planned_end a.item q.0.column (asked_match q.0) p, q.0.time);
+        -- a send of this kind has arrived with its slot
         sends = λ node a l m p. let q = ((reached k turns).holds node l).done.only a m in
             omega (
               arith,
@@ -161,8 +169,10 @@ module _ {g : Graph} {tables : List NodeTable} {w : World} (k : Played g tables 
               ]) (asked_match q.0).there,
               q.0.time,
             );
+        -- an end is a planned one
         ends = λ node e l m. let q = ((ended_by k c played node l).only e m).0 in
             omega (arith, planned_end q.process q.column q.match (known node q.process q.on), q.time);
+        -- a report comes by the planned end, since no execution takes longer than planned
         reports = λ node e l m. let q = (((reports_hold k c played).each node l).only e m).0 in
             omega (
               arith,

@@ -106,6 +106,7 @@ chosen_none g w c nodes first asked waits h l =
 still_waits : (g : Graph) (w : World) (c : Cluster) (a b : ℕ) → Waits b ≡ answer g c a → step g w c a ≡ c
 still_waits g w c a b e = λ i. step_by g w c a (sym e i) (next (dispatcher_at c a))
 
+-- to ask a node that is done changes nothing
 still_done : (g : Graph) (w : World) (c : Cluster) (a : ℕ) → Done ≡ answer g c a → step g w c a ≡ c
 still_done g w c a e = λ i. step_by g w c a (sym e i) (next (dispatcher_at c a))
 

@@ -206,6 +206,7 @@ driven_more : (g : Graph) (w : World) (n x : ℕ) (c now : Cluster) (total : ℕ
       total + (choice g w now (next_number (number_after n x))).waits,
     )
 driven_more g w zero x c now total e =
+    -- no choice was made yet: the state is the first, and there are no waits
     let a : c ≡ now = ap (λ (q : Cluster × ℕ). q.0) e in
     let b : 0 ≡ total = ap (λ (q : Cluster × ℕ). q.1) e in
     let z : (choice g w now (next_number x)).waits + 0 ≡ total + (choice g w now (next_number x)).waits =
@@ -213,6 +214,7 @@ driven_more g w zero x c now total e =
     ap (λ (c : Cluster). ((choice g w c (next_number x)).cluster, (choice g w c (next_number x)).waits + 0)) a
     ∙ ap (λ n. ((choice g w now (next_number x)).cluster, n)) z
 driven_more g w (suc n) x c now total e =
+    -- the first of the choices, and the others after it
     let one = choice g w c (next_number x) in
     let rest = driven g w n (next_number x) one.cluster in
     let r = driven_more g w n (next_number x) one.cluster rest.0 rest.1 refl in
@@ -327,13 +329,16 @@ pub drive_step : (old now new : Playing) (x drawn waits drawn' first more : ℕ)
     (new ≡ record old { cluster = new.cluster }) ×
     IsDriving old.graph old.world x old.cluster new.cluster drawn' (waits + more)
 drive_step old now new x drawn waits drawn' first more same h left d f e m =
+    -- the graph, the world and the tables are still those of the beginning
     let ge : now.graph ≡ old.graph = ap (λ (p : Playing). p.graph) same in
     let we : now.world ≡ old.world = ap (λ (p : Playing). p.world) same in
     let te : now.tables ≡ old.tables = ap (λ (p : Playing). p.tables) same in
+    -- the nodes are asked from the one that the number says
     let one : choose now.graph now.world now.cluster (circle (length now.graph.nodes) first)
     ≡ choice old.graph old.world now.cluster drawn' =
     ap (λ n. choose now.graph now.world now.cluster (circle (length now.graph.nodes) n)) f
     ∙ (λ i. choice (ge i) (we i) now.cluster drawn') in
+    -- only the cluster has changed
     let kept : new ≡ record old { cluster = new.cluster } =
     (λ i. record {
       graph = (ap (λ (p : Playing). p.graph) e ∙ ge) i;

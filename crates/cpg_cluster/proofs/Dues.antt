@@ -35,25 +35,31 @@ module _ {X : Type 0} (key : X → List ℕ) where
   abbrev pub precedes : X → X → Bool
   precedes x y = not (is_below (key y) (key x))
 
+  -- the second isn't to stand before the first
   abbrev InOrder : X → X → Type 0
   InOrder a b = is_below (key b) (key a) ≡ false
 
+  -- a fact of x and of all elements holds of all once x is inserted
   all_inserted : (P : X → Type 0) (x : X) (ys : List X) → P x → All P ys → All P (inserted precedes x ys)
   all_inserted P x [] p h = All-cons P x [] p h
   all_inserted P x (y ∷ ys) p h = go (precedes x y) (all_inserted P x ys p (λ k d l. h (suc k) d (omega arith)))
     where
+      -- whether x stands before y or further on
       go : (b : Bool) → All P (inserted precedes x ys) → All P (cond b (x ∷ y ∷ ys) (y ∷ inserted precedes x ys))
       go true ih = All-cons P x (y ∷ ys) p h
       go false ih = All-cons P y (inserted precedes x ys) (h 0 y (omega arith)) ih
 
+  -- a list that is in order stays so once x is inserted
   in_order_inserted : (x : X) (ys : List X) → AllPairs InOrder ys → AllPairs InOrder (inserted precedes x ys)
   in_order_inserted x [] r = AllPairs-cons InOrder x [] (All-nil (InOrder x)) (AllPairs-nil InOrder)
   in_order_inserted x (y ∷ ys) r =
       go (is_below (key y) (key x)) refl (in_order_inserted x ys (AllPairs-rest InOrder y ys r))
     where
+      -- y stands before all that follow it
       after : All (InOrder y) ys
       after = λ k d l. r 0 (suc k) d (omega arith) (omega arith)
 
+      -- whether x stands before y, and so before all, or further on
       go : (b : Bool) → is_below (key y) (key x) ≡ b → AllPairs InOrder (inserted precedes x ys) →
           AllPairs InOrder (cond (not b) (x ∷ y ∷ ys) (y ∷ inserted precedes x ys))
       go false e ih = AllPairs-cons InOrder x (y ∷ ys) (All-cons (InOrder x) y ys e
@@ -87,12 +93,15 @@ length_filter_permuted p xs ys same =
 
 -- given the same acts in two orders
 module _ (g : Graph) (s : Scenario) (xs ys : List Act) (same : IsPermutation xs ys) where
+  -- an act of the second order is one of the first
   back : (a : Act) → Contains ys a → Contains xs a
   back a m = Contains-permutation ys xs a (IsPermutation-sym xs ys same) m
 
+  -- so is a start
   starts_back : (a : Act) → IsStartAct g ys a → IsStartAct g xs a
   starts_back a m = (back a m.0, m.1)
 
+  -- so is a send
   sends_back : (a : Act) → IsSendAct g ys a → IsSendAct g xs a
   sends_back a m = (back a m.0, m.1)
 
@@ -115,9 +124,11 @@ module _ (g : Graph) (s : Scenario) (xs ys : List Act) (same : IsPermutation xs 
 
 -- given a play in which every node is done
 module _ (p : Playing) (playing : IsPlaying p) (done : AllDone p.graph p.cluster) where
+  -- the acts that are due on a node, sorted
   abbrev acts_due : ℕ → List Act
   acts_due node = sorted (precedes (due_key p.graph)) (asked_of p.tables p.world.scenario node)
 
+  -- these are all of them, in their order
   due : (node : ℕ) → IsDue p.graph p.tables p.world.scenario node (acts_due node)
   due node = record {
     all = permutation_sorted (precedes (due_key p.graph)) (asked_of p.tables p.world.scenario node);
@@ -125,9 +136,11 @@ module _ (p : Playing) (playing : IsPlaying p) (done : AllDone p.graph p.cluster
         in_order_sorted (due_key p.graph) (asked_of p.tables p.world.scenario node);
   }
 
+  -- the ends that are due on a node, sorted by time
   abbrev ends_due : ℕ → List (ℕ × Ended)
   ends_due node = sorted (precedes end_key) (ends_asked p.graph p.tables p.world.scenario node)
 
+  -- these are all of them, in their order
   planned : (node : ℕ) → AreDueEnds p.graph p.tables p.world.scenario node (ends_due node)
   planned node = record {
     all = permutation_sorted (precedes end_key) (ends_asked p.graph p.tables p.world.scenario node);
@@ -135,9 +148,11 @@ module _ (p : Playing) (playing : IsPlaying p) (done : AllDone p.graph p.cluster
         in_order_sorted end_key (ends_asked p.graph p.tables p.world.scenario node);
   }
 
+  -- the tables are valid, so every play is correct
   correct : IsCorrect p.graph p.tables
   correct = valid_tables_are_correct p.graph p.tables playing.formed playing.shape playing.valid
 
+  -- in this play each node follows what is due
   follows : FollowsDue p.graph p.tables p.world.scenario p.cluster
   follows = subst (FollowsDue p.graph p.tables p.world.scenario) playing.played.is
       (correct.plays p.world playing.played.turns playing.world)

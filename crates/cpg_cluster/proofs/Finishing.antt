@@ -62,9 +62,11 @@ running_found g h (q ∷ qs) r p c = elim (Contains-cases q qs p c) [
 module _ {g : Graph} {tables : List NodeTable} {w : World} (k : Played g tables w) (node : ℕ)
     (l : node < length g.nodes) (heard : List Range) (last : Option ℕ) (time : ℕ)
     (comes : next (node_state g tables w node heard last) ≡ Some time) where
+  -- the node's table
   abbrev table : OwnTable
   table = own_table g node (table_at tables node)
 
+  -- its processes stand in rising order
   processes_rise : Rises (λ x y. x < y) (processes_on g node)
   processes_rise = Rises-filter (λ x y. x < y) (λ p. node_of g p == node) (numbers_below (process_count g))
       (numbers_go_up (process_count g))
@@ -83,6 +85,7 @@ module _ {g : Graph} {tables : List NodeTable} {w : World} (k : Played g tables 
       run.report ≡ None → run.start + get_or w.lengths p 0 ≤ time →
       MayFinish (state h) (run.start + get_or w.lengths p 0) (ended_of g w (own_process g p))
   may h n p on run is plan none over =
+      -- the process is one of the node's, with few faults, and its table knows how long it takes
       let m = (on_node k node l heard last time (next_is (node_state g tables w node heard last) time comes) p on).0 in
       let few = few_faults k node l heard last time (next_is (node_state g tables w node heard last) time comes) p m in
       let long = k.world.lengths p m in
@@ -90,6 +93,7 @@ module _ {g : Graph} {tables : List NodeTable} {w : World} (k : Played g tables 
       let span : time_of (state h) p (fault_of w.scenario p) ≡ duration g p (fault_of w.scenario p) =
       ap (λ (o : Own). get_or o.times (fault_of w.scenario p) 0) own
       ∙ get_or-map-below (duration g p) (g.faults + 1) (fault_of w.scenario p) 0 (omega (arith, few)) in
+      -- what the report of it needs
       record {
         run = run;
         runs = running_found g h (processes_on g node) processes_rise p on ∙ is;
@@ -114,19 +118,23 @@ module _ {g : Graph} {tables : List NodeTable} {w : World} (k : Played g tables 
   state_after h p = ap (λ rs. record { table = table; heard = heard; running = rs; last = last })
       (zip_with-map (with_report (ended_of g w (own_process g p))) h (own_of_node g node))
 
+  -- a report changes nothing of the next instant
   next_after : (h : Own → Option Running) (p : ℕ) → next (state h) ≡ Some time → next (state (after h p)) ≡ Some time
   next_after h p n = ap next (sym (state_after h p))
       ∙ next_reported (ended_of g w (own_process g p)) table heard (map h (own_of_node g node)) last ∙ n
 
+  -- a report of p changes nothing of another process
   kept : (h : Own → Option Running) (p q : ℕ) → q ≢ p → after h p (own_process g q) ≡ h (own_process g q)
   unfolding after
   kept h p q ne = other (h (own_process g q))
     where
+      -- whether that runs or not
       other : (o : Option Running) → with_report (ended_of g w (own_process g p)) (own_process g q) o ≡ o
       other None = refl
       other (Some run) = cond-false (q == p) (Some (record run { report = Some (ended_of g w (own_process g p)) }))
           (Some run) (ne_eqb q p ne)
 
+  -- a report that isn't there is none
   no_report : (o : Option Ended) → is_none o ≡ true → o ≡ None
   no_report None t = refl
   no_report (Some r) t = absurd (true≢false (sym t))
@@ -139,11 +147,13 @@ module _ {g : Graph} {tables : List NodeTable} {w : World} (k : Played g tables 
       AllFinish (state h) (report_of g w time (own_process g p) (planned g tables w last (own_process g p)) ++ rest)
   one_more h n p on same rest before then = go (planned g tables w last (own_process g p)) refl
     where
+      -- by whether p's execution was planned and has begun
       go : (o : Option Running) → planned g tables w last (own_process g p) ≡ o →
           AllFinish (state h) (report_of g w time (own_process g p) o ++ rest)
       go None e = before
       go (Some run) e = test (is_none run.report && leb (run.start + get_or w.lengths p 0) time) refl
         where
+          -- it is reported if it has no report and is over by the time
           test : (b : Bool) → (is_none run.report && leb (run.start + get_or w.lengths p 0) time) ≡ b →
               AllFinish (state h)
               (cond b ((run.start + get_or w.lengths p 0, ended_of g w (own_process g p)) ∷ []) [] ++ rest)

@@ -50,6 +50,7 @@ noted_once x (a ∷ acts) noted r l n = elim (cases_eq a.item x) [
       (get_or-set_other noted a.item x (Some a) None (λ e. ne (sym e)) ∙ n)
 ]
   where
+    -- the act that is noted stands at its own item
     here : a.item ≡ x → get_or (note noted a) x None ≡ Some a
     here e = ap (λ z. get_or (note noted a) z None) (sym e)
         ∙ get_or-set_same noted a.item (Some a) None (omega (arith, l, e))
@@ -60,6 +61,7 @@ both_pass : {X : Type 0} (p q : X → Bool) (xs : List X) →
 both_pass p q [] = refl
 both_pass p q (x ∷ xs) = go (p x) refl (both_pass p q xs)
   where
+    -- by whether the first element passes the first test
     go : (b : Bool) → p x ≡ b → filter (λ x. p x && q x) (filter p xs) ≡ filter (λ x. p x && q x) xs →
         filter (λ x. p x && q x) (cond b (x ∷ filter p xs) (filter p xs))
         ≡ cond (b && q x) (x ∷ filter (λ x. p x && q x) xs) (filter (λ x. p x && q x) xs)

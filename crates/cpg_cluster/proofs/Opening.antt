@@ -98,6 +98,7 @@ module _ (g : Graph) (tables : List NodeTable) (w : World) (within : IsWithinLim
       ∙ ap (λ (d : Dispatcher). d.table) (table_here i (get_member ms i k) (omega (arith, k, open'.count)))
       ∙ get_or_default tables i empty_table t (omega (arith, k, open'.count)))
 
+  -- the dispatchers of the members are those of the tables, before any turn
   nodes_are : (cluster_of ms).nodes ≡ dispatchers_from g 0 tables
   nodes_are = same_lists (cluster_of ms).nodes (dispatchers_from g 0 tables)
       (length-map ms (λ (m : Member). m.node.dispatcher) ∙ open'.count ∙ sym (dispatchers_count g 0 tables)) (λ i d l.

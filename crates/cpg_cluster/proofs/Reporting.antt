@@ -48,6 +48,7 @@ single : (g : Graph) (w : World) (time : ℕ) (o : Own) (run : Option Running) �
 single g w time o None = tt
 single g w time o (Some run) = go (is_none run.report && leb (run.start + get_or w.lengths o.process 0) time)
   where
+    -- there is one report, or none
     go : (b : Bool) →
         Rises (λ (a b : ℕ × Ended). a.1.process ≢ b.1.process)
         (cond b ((run.start + get_or w.lengths o.process 0, ended_of g w o) ∷ []) [])
@@ -69,10 +70,12 @@ told : (g : Graph) (w : World) (time : ℕ) (o : Own) (run : Option Running) (q 
 told g w time o None q h = absurd (Contains-nil q h)
 told g w time o (Some run) q h = go (is_none run.report && leb (run.start + get_or w.lengths o.process 0) time) refl h
   where
+    -- a report that isn't there is none
     no_report : (o : Option Ended) → is_none o ≡ true → o ≡ None
     no_report None t = refl
     no_report (Some r) t = absurd (true≢false (sym t))
 
+    -- a report is made only if none was, and the execution is over by the time
     go : (b : Bool) → (is_none run.report && leb (run.start + get_or w.lengths o.process 0) time) ≡ b →
         Contains (cond b ((run.start + get_or w.lengths o.process 0, ended_of g w o) ∷ []) []) q →
         Told g w time o (Some run) q
@@ -98,8 +101,10 @@ module _ {g : Graph} {tables : List NodeTable} {w : World} (k : Played g tables 
   abbrev now : List (ℕ × Ended)
   now = flat_map (λ o. report_of g w time o (planned g tables w last o)) (own_of_node g node)
 
+  -- a report of now is one that the node hasn't made by its last turn, and comes by the time
   now_parts : (q : ℕ × Ended) → Contains now q → OneReport g tables w node q × (by last q.0 ≡ false) × (q.0 ≤ time)
   now_parts q h =
+      -- the process of the report, and its execution, whose report isn't made yet
       let a =
       Contains-flat_map_parts (λ o. report_of g w time o (planned g tables w last o)) (own_of_node g node) q h in
       let b = Contains-map_parts (own_process g) (processes_on g node) a.0 a.1 in
@@ -141,6 +146,7 @@ module _ {g : Graph} {tables : List NodeTable} {w : World} (k : Played g tables 
     own_apart ps h.1,
   )
 
+  -- the reports of now are of different processes
   now_apart : Rises (λ (a b : ℕ × Ended). a.1.process ≢ b.1.process) now
   now_apart =
       Rises-flat_map (λ (a b : ℕ × Ended). a.1.process ≢ b.1.process)
@@ -155,10 +161,12 @@ module _ {g : Graph} {tables : List NodeTable} {w : World} (k : Played g tables 
       HasReported g tables w node last reports →
       HasReported g tables w node (Some time) (reports ++ now)
   reports_more heard next reports d = record {
+    -- a report that is there was there before, or is of now
     only = λ q h. elim (Contains-append_cases reports now q h) [
       | inl m ↦ let r = d.only q m in (r.0, still_by last time q.0 next.after r.1)
       | inr m ↦ let r = now_parts q m in (r.0, le-leb q.0 time r.2)
     ];
+    -- of one process there is one execution, which was either reported before or is now
     apart = Rises-append (λ (a b : ℕ × Ended). a.1.process ≢ b.1.process) reports now d.apart now_apart (λ a b m n e.
         let x = d.only a m in
         let y = now_parts b n in
@@ -198,6 +206,7 @@ module _ {g : Graph} {tables : List NodeTable} {w : World} (k : Played g tables 
   report_is c r a l time q h =
       (now_parts k a (r.holds a l).last time q (subst (λ rs. Contains rs q) (now_is c r a l time) h)).0
 
+  -- before the first turn no node has reported
   hold_open : ReportsHold (initial_cluster g tables)
   hold_open = record {
     count = length-replicate (length tables) [] ∙ k.setting.shape.count;
@@ -214,6 +223,7 @@ module _ {g : Graph} {tables : List NodeTable} {w : World} (k : Played g tables 
         HasReported g tables w a (dispatcher_at (take_turn g w c a time) a).last
         (get_or (take_turn g w c a time).reports a [])
     hold_here a time l e n =
+        -- the node's last turn and reports before this turn
         let within : a < length c.nodes = omega (arith, r.nodes) in
         let counted : a < length c.reports = omega (arith, h.count) in
         let free = free_from k c r a time e n in
@@ -221,6 +231,7 @@ module _ {g : Graph} {tables : List NodeTable} {w : World} (k : Played g tables 
         let coming = next_is (node_state g tables w a m.heard m.last) time (sym (ap next m.is) ∙ n) in
         let before = subst (λ o. HasReported g tables w a o (get_or c.reports a []))
         (ap (λ (d : Dispatcher). d.last) m.is) (h.each a l) in
+        -- and with this turn
         let after = reports_more k a m.last time m.heard coming (get_or c.reports a []) before in
         let last =
         ap (λ (d : Dispatcher). d.last) (get_or-set_same c.nodes a _ _ within ∙ turn_is k c r a l time n free) in
@@ -245,9 +256,11 @@ module _ {g : Graph} {tables : List NodeTable} {w : World} (k : Played g tables 
       ];
     }
 
+    -- it holds after each ask
     hold_step : (a : ℕ) → ReportsHold (step g w c a)
     hold_step a = go (answer g c a) (next (dispatcher_at c a)) refl refl
       where
+        -- by what the node answers, and by whether it has a next instant
         go : (ans : Answer) (o : Option ℕ) → answer g c a ≡ ans → next (dispatcher_at c a) ≡ o →
             ReportsHold (step_by g w c a ans o)
         go Took (Some time) e n = hold_turn a time e n
@@ -255,6 +268,7 @@ module _ {g : Graph} {tables : List NodeTable} {w : World} (k : Played g tables 
         go (Waits b) o e n = h
         go IsDone o e n = h
 
+  -- it holds after any asks, one after another
   hold_play : (turns : List ℕ) (c : Cluster) (r : Reached g tables w c) → ReportsHold c → ReportsHold (play g w c turns)
   hold_play [] c r h = h
   hold_play (a ∷ rest) c r h = hold_play rest (step g w c a) (reached_step k c r a) (hold_step c r h a)

@@ -25,6 +25,7 @@ use Rattle.cpg_cluster.proofs.Ends.{Planned, EndsBefore, HasEnded}
 use Rattle.cpg_cluster.proofs.Reached.{Reached}
 use Rattle.cpg_cluster.proofs.Reporting.{HasReported}
 
+-- what each element is to each later one holds of all pairs
 pairs_of : {X : Type 0} (R : X → X → Type 0) (xs : List X) → Rises R xs → AllPairs R xs
 pairs_of R [] h = λ i j d l m. absurd (omega arith)
 pairs_of R (x ∷ xs) h = AllPairs-cons_by R x xs h.0 (pairs_of R xs h.1)
@@ -81,6 +82,7 @@ module _ {g : Graph} {tables : List NodeTable} {w : World} (k : Played g tables 
       (λ q m. let p = (d.only q m).0 in
       subst (Contains (processes_on g node)) (ap (λ (e : Ended). e.process) p.is) p.on)
     where
+      -- two planned ends of one process are at the same time, since one column of it matches
       differ : (a b : ℕ × Ended) → Planned g tables w.scenario node a → Planned g tables w.scenario node b →
           a.1.process ≡ b.1.process → EndsBefore a b → ⊥
       differ a b p q e before =
@@ -105,6 +107,7 @@ one_item : (test : Act → Bool) (x : ℕ) (acts : List Act) → Rises (λ (a b 
     length (filter (λ (a : Act). (a.item == x) && test a) acts) ≤ 1
 one_item test x [] r = omega arith
 one_item test x (a ∷ acts) r = elim (cases_Bool ((a.item == x) && test a)) [
+  -- the first act is of the item, so none of the others is
   | inl t ↦ omega (
     arith,
     ap (λ (l : List Act). length l) (cond-true _ (a ∷ filter (λ (a : Act). (a.item == x) && test a) acts)
@@ -113,6 +116,7 @@ one_item test x (a ∷ acts) r = elim (cases_Bool ((a.item == x) && test a)) [
         (λ b m. and_left (b.item == x) (test b)
         (ne_eqb b.item x (λ e. r.0 b m (eqb-true a.item x (and_parts (a.item == x) (test a) t).0 ∙ sym e))))),
   )
+  -- it isn't counted
   | inr f ↦ omega (
     arith,
     ap (λ (l : List Act). length l) (cond-false _ (a ∷ filter (λ (a : Act). (a.item == x) && test a) acts)
@@ -134,6 +138,7 @@ pub frames_few : {g : Graph} {tables : List NodeTable} {w : World} (k : Played g
 frames_few {g = g} {tables = tables} {w = w} k c r d time = few_in_all (frames_of_row g w c time) d.table.hears
     (λ row. row_few row (get_or c.acts (home g row.item) []) (apart (home g row.item)))
   where
+    -- the acts that a node has done are of different items
     apart : (node : ℕ) → Rises (λ (a b : Act). a.item ≢ b.item) (get_or c.acts node [])
     apart node = elim (cases_lt node (length g.nodes)) [
       | inl l ↦ let n = r.holds node l in acts_apart k node l n.last (get_or c.acts node []) n.done

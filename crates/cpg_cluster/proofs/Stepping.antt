@@ -328,6 +328,7 @@ module _ (g : Graph) (w : World) (ms : List Member) (p : IsPlaying (play_of g w 
                     played_step g (tables_of ms) w (cluster_of ms) a p.played;
               })
 
+          -- after its turn the member still keeps what it should
           fit_then : Fits g a n
           fit_then = record {
             senders = ap (λ v. v.items) kept.0 ∙ fit.senders

@@ -26,8 +26,10 @@ cycle_step g = max (round g) 1
 -- last arrival.
 pub record IsCycle (g : Graph) (tables : List NodeTable) (time : ℕ) : Type 0 where
   pub some : 1 ≤ time
+  -- how many rounds of the bus it lasts; without slots a round counts as 1
   pub rounds : ℕ
   pub whole : time ≡ rounds * cycle_step g
+  -- the deadline has passed, and the last frame has come
   pub deadline : g.deadline ≤ time
   pub arrivals : last_arrival tables ≤ time
 
@@ -47,12 +49,15 @@ LeastCyclesAreLeast = (g : Graph) (tables : List NodeTable) → IsLeastCycle g t
 -- All that nodes do is over by a time: each execution that started, both as planned and as reported, and each frame,
 -- which arrives at the end of its slot.
 pub record IsOverBy (g : Graph) (s : Scenario) (c : Cluster) (time : ℕ) : Type 0 where
+  -- executions, as planned
   pub starts : (node : ℕ) (a : Act) → node < length g.nodes → Contains (get_or c.acts node []) a →
       a.item < process_count g →
       end_of_act g s a ≤ time
+  -- frames, by their arrival
   pub sends : (node : ℕ) (a : Act) → node < length g.nodes → Contains (get_or c.acts node []) a →
       process_count g ≤ a.item →
       arrival_of_act g a ≤ time
+  -- executions that have come to their ends, and their reports
   pub ends : (node : ℕ) (e : ℕ × Ended) → node < length g.nodes → Contains (get_or c.ends node []) e → e.0 ≤ time
   pub reports : (node : ℕ) (e : ℕ × Ended) → node < length g.nodes → Contains (get_or c.reports node []) e → e.0 ≤ time
 
@@ -68,7 +73,9 @@ IsOccurrence g node time = (j : ℕ) × (time ≡ occurrence g node j)
 
 -- A node's slots have the same places in a later cycle as in the first.
 pub record HasSlotsAt (g : Graph) (node begin : ℕ) : Type 0 where
+  -- each slot of the first cycle is one of the later
   pub later : (time : ℕ) → IsOccurrence g node time → IsOccurrence g node (begin + time)
+  -- each slot of the later cycle is one of the first
   pub earlier : (time : ℕ) → IsOccurrence g node (begin + time) → IsOccurrence g node time
 
 -- the slots of a node have the same places in every cycle, if the node has a slot
@@ -80,9 +87,11 @@ CyclesHaveTheSameSlots =
 -- What nodes do in a cycle is over before they do anything in a later one. An execution, or a frame, of the first is
 -- over before an act of the second on any node. So two executions on one processor, or two frames in slots, are apart.
 pub record AreApart (g : Graph) (s : Scenario) (one other : Cluster) (begin later : ℕ) : Type 0 where
+  -- an execution of the one play is over before any act of the other
   pub executions : (node there : ℕ) (a b : Act) → node < length g.nodes → Contains (get_or one.acts node []) a →
       Contains (get_or other.acts there []) b →
       a.item < process_count g → begin + end_of_act g s a ≤ later + b.time
+  -- a frame of the one play has arrived before any act of the other
   pub frames : (node there : ℕ) (a b : Act) → node < length g.nodes → Contains (get_or one.acts node []) a →
       Contains (get_or other.acts there []) b →
       process_count g ≤ a.item → begin + arrival_of_act g a ≤ later + b.time

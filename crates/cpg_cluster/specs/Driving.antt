@@ -54,8 +54,10 @@ AllDone g c = (node : ℕ) → node < length g.nodes → answer g c node ≡ Don
 
 -- choices are made until every node is done, and no longer
 pub record IsDriven (g : Graph) (w : World) (x : ℕ) (before after : Cluster) (waits : ℕ) : Type 0 where
+  -- how many choices are made
   pub turns : ℕ
   pub is : driven g w turns x before ≡ (after, waits)
+  -- all nodes are done then, and weren't after fewer
   pub done : AllDone g after
   pub needed : (fewer : ℕ) → fewer < turns → AllDone g (driven g w fewer x before).0 → ⊥
 

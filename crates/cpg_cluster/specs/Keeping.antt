@@ -86,10 +86,15 @@ HasNoted m x = filter (λ (act : Act). act.item == x) m.acts.items ≡ option_to
 
 -- what a node keeps of the graph, what it notes of its acts, and the room for all that it does in a play
 pub record Fits (g : Graph) (number : ℕ) (m : Member) : Type 0 where
+  -- the sender of each row that it hears
   pub senders : m.senders.items ≡ map (λ (row : Row). home g row.item) m.node.dispatcher.table.hears
+  -- the length of its slot
   pub slot : m.slot ≡ slot_length g number
+  -- the arrival times by sender
   pub arrivals : AreIndexed m.node.dispatcher.table.hears m.senders.items (length g.nodes) m.arrivals.items
+  -- its acts by item
   pub noted : m.noted.items ≡ noted_of (item_count g) m.acts.items
+  -- room for all acts, ends and reports of a play
   pub acts : length m.node.dispatcher.table.sends + length m.node.dispatcher.table.starts ≤ vec_capacity m.acts
   pub ends : length m.node.dispatcher.table.own ≤ vec_capacity m.ends
   pub reports : length m.node.dispatcher.table.own ≤ vec_capacity m.reports
@@ -100,14 +105,19 @@ AllFit g members = (i : ℕ) (d : Member) → i < length members → Fits g i (g
 
 -- a node before its first turn, with its table
 pub record IsOpen (g : Graph) (number : ℕ) (t : NodeTable) (m : Member) : Type 0 where
+  -- its dispatcher has the table and has taken no turn
   pub node : m.node ≡ record { dispatcher = initial_dispatcher t; acts = [] }
+  -- what it keeps of the graph: the sender of each row that it hears, its slot's length, and the arrival times by
+  -- sender
   pub senders : m.senders.items ≡ map (λ (row : Row). home g row.item) t.hears
   pub slot : m.slot ≡ slot_length g number
   pub arrivals : AreIndexed t.hears m.senders.items (length g.nodes) m.arrivals.items
+  -- nothing is done yet
   pub acts : m.acts.items ≡ []
   pub noted : m.noted.items ≡ replicate (item_count g) None
   pub ends : m.ends.items ≡ []
   pub reports : m.reports.items ≡ []
+  -- room for all acts, ends and reports of a play
   pub acts_room : length t.sends + length t.starts ≤ vec_capacity m.acts
   pub ends_room : length t.own ≤ vec_capacity m.ends
   pub reports_room : length t.own ≤ vec_capacity m.reports

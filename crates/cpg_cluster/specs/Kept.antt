@@ -30,4 +30,5 @@ pub record IsKept (n : Inside) : Type 0 where
   pub playing : IsPlaying (playing_of n)
   pub few : length n.members.items ≤ 16
   pub members : AllFit n.problem n.members.items
+  -- there is room for as many frames as a node's table has hear rows
   pub frames : All (λ (m : Member). length m.node.dispatcher.table.hears ≤ vec_capacity n.frames) n.members.items

@@ -20,7 +20,9 @@ use Rattle.cpg_cluster.specs.declared.answered.AskStep.TheVariants.{Done as Step
 pub record Playing : Type 0 where
   pub graph : Graph
   pub tables : List NodeTable
+  -- the scenario and the lengths of the executions
   pub world : World
+  -- what the nodes have done so far
   pub cluster : Cluster
 
 -- a play before the first turn
@@ -34,18 +36,23 @@ stepped p node = record p { cluster = step p.graph p.world p.cluster node }
 -- the graph is within the limits, the tables are valid and lawful for it, the world is one of it, and some play reaches
 -- the state
 pub record IsPlaying (p : Playing) : Type 0 where
+  -- the graph
   pub limits : IsWithinLimits p.graph
   pub formed : WellFormed p.graph
+  -- its tables
   pub lawful : AreTablesOf (head_of p.graph) p.tables
   pub shape : HasShape p.graph p.tables
   pub valid : IsValid p.graph p.tables
+  -- what happens, and a play up to the state
   pub world : IsWorld p.graph p.world
   pub played : IsPlayed p.graph p.tables p.world p.cluster
 
 -- a node has a next instant, and none has an earlier one
 pub record HasLeastInstant (p : Playing) (node : ℕ) : Type 0 where
+  -- the node's next instant
   pub time : ℕ
   pub comes : next (dispatcher_at p.cluster node) ≡ Some time
+  -- no other node's comes earlier
   pub least : (other moment : ℕ) → other < length p.graph.nodes → next (dispatcher_at p.cluster other) ≡ Some moment →
       time ≤ moment
 

@@ -70,7 +70,7 @@ step_fault : (e c least v : ℕ) → e ≤ 128 → least ≤ v → v < e →
     suc ((e - suc v) + ((128 + c) - max 128 (suc v))) ≤ (e - least) + ((128 + c) - max 128 least)
 step_fault e c least v few le h = omega arith
 
--- and for a value of a condition
+-- after a literal on the value of a condition there is room for one less
 step_value : (e c least v : ℕ) → e ≤ 128 → least ≤ v → 128 ≤ v → v < 128 + c →
     suc ((e - suc v) + ((128 + c) - max 128 (suc v))) ≤ (e - least) + ((128 + c) - max 128 least)
 step_value e c least v few le a b = omega arith

@@ -133,16 +133,20 @@ fits_more high k w n e le lt =
 
 -- ---- eight bytes at once
 
+-- each number of a list is a byte
 abbrev pub IsBytes : List ℕ → Type 0
 IsBytes bytes = (i : ℕ) → get_or bytes i 0 < 256
 
+-- the first eight bytes
 abbrev pub first_8 : List ℕ → List ℕ
 first_8 bytes = get_or bytes 0 0 ∷ get_or bytes 1 0 ∷ get_or bytes 2 0 ∷ get_or bytes 3 0 ∷ get_or bytes 4 0
     ∷ get_or bytes 5 0 ∷ get_or bytes 6 0 ∷ get_or bytes 7 0 ∷ []
 
+-- bytes are a front and what is behind eight of them
 abbrev one_more : List ℕ → List ℕ → Type 0
 one_more bytes front = bytes ≡ front ++ drop 8 bytes
 
+-- at least eight bytes are the first eight and the others
 eight : (bytes : List ℕ) → 8 ≤ length bytes → bytes ≡ first_8 bytes ++ drop 8 bytes
 eight (a ∷ b ∷ c ∷ d ∷ e ∷ f ∷ g ∷ h ∷ rest) le = refl
 eight [] le = absurd (omega arith)

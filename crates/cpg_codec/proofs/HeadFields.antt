@@ -282,6 +282,7 @@ pub process_reads : (version faults nodes ones : ℕ) → 1 ≤ version → vers
 unfolding read_process
 process_reads version faults nodes ones v1 v2 some few le =
     adapt
+    -- one reader after another: the name, the node with the condition's flag, the times, and what version 2 adds
     (seq (λ (w : Written). w.process.name) name_reads
     (λ n fn.
     seq (λ (w : Written). (w.process.node, bit w.process.condition)) (place_reads nodes ones some (omega arith))
@@ -289,11 +290,13 @@ process_reads version faults nodes ones v1 v2 some few le =
     (times_reads (λ t. t < 2 ^ 60) (to_be_bytes w64) read_time (faults + 1) (λ _. time_reads))
     (λ ts fts. seq (λ (w : Written). w.extra) (extra_reads version v1 v2)
     (λ e fe. pure_reads (make_process n a.0 a.1 ts e))
+    -- what each reader gave is what the process has
     (λ e w fe h. ap (λ (q : Written). q.extra) h))
     (λ ts w fts h. ap (λ (q : Written). q.process.times) h.1))
     (λ a w fa h. ap (λ (q : Written). (q.process.node, bit q.process.condition)) h.1.1
     ∙ ap (λ (c : ℕ). (a.0, c)) (flag_back a.1 ones fa.1)))
     (λ n w fn h. ap (λ (q : Written). q.process.name) h.1.1.1))
+    -- what the readers took is a process that fits
     (λ w h. (
       record {
         process = record {
@@ -307,6 +310,7 @@ process_reads version faults nodes ones v1 v2 some few le =
       },
       (flag_limit ones w.process.condition le).0 h.1.0.1,
     ))
+    -- and a process that fits is what they take
     (λ w h. (
       h.0.name,
       (
@@ -422,6 +426,7 @@ pub head_reads : Reads IsPackHead head_bytes read_head
 unfolding read_head
 head_reads =
     adapt
+    -- one reader after another: magic, version, fault number, nodes, processes, edges
     (seq (λ (h : Head). magic) (field_reads 4 magic magic (omega arith) (omega arith))
     (λ m fm. seq version_of (small_reads 1 2 (omega arith) (omega arith))
     (λ v fv. seq (λ (h : Head). h.faults) (small_reads 0 8 (omega arith) (omega arith))
@@ -435,6 +440,7 @@ head_reads =
     (λ e fe. seq (λ (h : Head). h.edges) (times_reads (IsHeadEdge c) edge_bytes (read_edge c) e
     (λ some. edge_reads c (limit_some c 256 e fe.1 some) (omega (arith, fc.1, limit_most n 128))))
     (λ es fes. pure_reads (head_from v k ns ws es))
+    -- what each reader gave is what the head has
     (λ es h fes q. ap (λ (x : Head). x.edges) q))
     (λ e h fe q. q.0.0))
     (λ ws h fws q. ap written q.1.1 ∙ written_made v k n ns ws h.edges fv.0 fv.1 fws.each))
@@ -444,6 +450,7 @@ head_reads =
     (λ k h fk q. ap (λ (x : Head). x.faults) q.1.1.1.1.1.1))
     (λ v h fv q. ap version_of q.1.1.1.1.1.1.1 ∙ version_made v h.faults h.nodes (written h) h.edges fv.0 fv.1))
     (λ m h fm q. omega (arith, fm.0, fm.1)))
+    -- what the readers took are the parts of a head
     (λ h q. from_parts h (record {
       version = q.1.0;
       faults = q.1.1.0.1;
@@ -455,6 +462,7 @@ head_reads =
       edges = q.1.1.1.1.1.1.1.1.0.1;
       same = q.1.1.1.1.1.1.1.1.1;
     }))
+    -- and the parts of a head are what they take
     (λ h l. let p = parts_of h l in (
       (omega arith, omega arith),
       (

@@ -6,6 +6,7 @@ use Rattle.cpg_head.specs.Head.{Head, version_of}
 use Rattle.cpg_codec.specs.Spelling.{Written, written, magic, byte, bit, name_bytes, extra_bytes, process_bytes}
 use Rattle.cpg_codec.specs.Spelling.{edge_bytes, head_bytes}
 
+-- five parts, grouped as they are written
 five : (a b c d e : List ℕ) → a ++ b ++ c ++ d ++ e ≡ a ++ ((b ++ c) ++ (d ++ e))
 five a b c d e = simp append_assoc
 
@@ -16,6 +17,7 @@ pub process_parts : (w : Written) → process_bytes w ≡ name_bytes w.process.n
 process_parts w = five (name_bytes w.process.name) (byte w.process.node) (byte (bit w.process.condition))
     (flat_map (to_be_bytes w64) w.process.times) (extra_bytes w.extra)
 
+-- nine parts, grouped as they are written
 nine : (a b c d e f g h i : List ℕ) →
     a ++ b ++ c ++ d ++ e ++ f ++ g ++ h ++ i ≡ (a ++ (b ++ (c ++ d))) ++ (e ++ (f ++ (g ++ (h ++ i))))
 nine a b c d e f g h i = simp append_assoc

@@ -37,6 +37,7 @@ pub onward_err : {A B : Type 0} (f : A → Reader B) (r : Result (A × List ℕ)
 onward_err f (Ok x) left e = inr (x, refl, e)
 onward_err f (Err d) left e = inl cc
 
+-- a reader that has read a value
 abbrev done : {A : Type 0} → A → Result A ℕ
 done x = Ok x
 
@@ -60,18 +61,23 @@ module _ {A X : Type 0} (F1 : A → Type 0) (s1 : A → List ℕ) (r1 : Reader A
     (r2 : A → Reader X) (first : X → A)
     (one : Reads F1 s1 r1) (two : (a : A) → F1 a → Reads (F2 a) (s2 a) (r2 a))
     (same : (a : A) (x : X) → F1 a → F2 a x → first x ≡ a) where
+  -- both parts of a value fit
   abbrev pub Both : X → Type 0
   Both x = F1 (first x) × F2 (first x) x
 
+  -- the spelling of the first value, and behind it that of the second
   abbrev pub both : X → List ℕ
   both x = s1 (first x) ++ s2 (first x) x
 
+  -- a value that the second reader takes, with the first value, is one of both
   from_first : (a : A) (x : X) (fa : F1 a) (fx : F2 a x) → Both x
   from_first a x fa fx = subst (λ (b : A). F1 b × F2 b x) (sym (same a x fa fx)) (fa, fx)
 
+  -- its spelling is that of both
   both_is : (a : A) (x : X) (fa : F1 a) (fx : F2 a x) → both x ≡ s1 a ++ s2 a x
   both_is a x fa fx = ap (λ (b : A). s1 b ++ s2 b x) (same a x fa fx)
 
+  -- where the first reader stops, both stop
   stop_first : (bytes : List ℕ) (left : ℕ) → Stop F1 s1 r1 bytes left → Stop Both both (r1 >>= r2) bytes left
   stop_first bytes left s =
       let l = two s.value s.fits in

@@ -41,21 +41,25 @@ pieces f most (x ∷ xs) h =
     ap length (flat_map-cons f x xs) ∙ length-append (f x) (flat_map f xs) in
     omega (arith, rest, parts, h.0)
 
+-- pieces of lawful values are together no longer than their number times the most that one has
 all_pieces : {X : Type 0} (P : X → Type 0) (f : X → List ℕ) (most : ℕ) (xs : List X) →
     ((x : X) → P x → length (f x) ≤ most) → All P xs →
     length (flat_map f xs) ≤ length xs * most
 all_pieces P f most xs each h = pieces f most xs
     (recursion_from_All (λ x. length (f x) ≤ most) xs (All-weaker P (λ x. length (f x) ≤ most) each xs h))
 
+-- how long three parts are together
 three : (a b c : List ℕ) → length (a ++ b ++ c) ≡ length a + length b + length c
 three a b c = let l = length-append (a ++ b) c in let m = length-append a b in omega (arith, l, m)
 
+-- how long five parts are together
 five : (a b c d e : List ℕ) → length (a ++ b ++ c ++ d ++ e) ≡ length a + length b + length c + length d + length e
 five a b c d e = let l = length-append (a ++ b ++ c ++ d) e in
     let m = length-append (a ++ b ++ c) d in
     let n = three a b c in
     omega (arith, l, m, n)
 
+-- how long nine parts are together
 nine : (a b c d e f g h i : List ℕ) →
     length (a ++ b ++ c ++ d ++ e ++ f ++ g ++ h ++ i)
     ≡ length a + length b + length c + length d + length e + length f + length g + length h + length i
@@ -69,9 +73,11 @@ nine a b c d e f g h i =
 
 -- ---- rows
 
+-- a literal has at most 3 bytes
 literal_long : (l : Literal) → length (literal_bytes l) ≤ 3
 literal_long l = omega arith
 
+-- literals have at most 3 bytes each
 literals_long : (ls : List Literal) → length (flat_map literal_bytes ls) ≤ length ls * 3
 literals_long ls = pieces literal_bytes 3 ls (each ls) where
   each : (ls : List Literal) → AllByRecursion (λ l. length (literal_bytes l) ≤ 3) ls
@@ -86,6 +92,7 @@ column_room s c i h = within (fault_end s) s.conditions (length c.cube) (few_fau
     within : (e k n : ℕ) → e ≤ 128 → k ≤ 32 → n ≤ (e - 0) + ((128 + k) - max 128 0) → n ≤ 160
     within e k n a b r = omega arith
 
+-- a lawful column has at most 489 bytes
 column_long : (s : VariableSpace) → IsSpace s → (c : Column) → IsLawfulColumn s c → length (column_bytes c) ≤ 489
 column_long s i c h =
     let parts = three (to_be_bytes w64 c.time) (byte (length c.cube)) (flat_map literal_bytes c.cube) in
@@ -117,6 +124,7 @@ rows_long s i (r ∷ rows) h =
 
 -- ---- tables
 
+-- no more places pass a test than there are
 places_few : {X : Type 0} (test : X → Bool) (i : ℕ) (xs : List X) → length (numbers_where test i xs) ≤ length xs
 places_few test i [] = omega arith
 places_few test i (x ∷ xs) = by_test (test x) (places_few test (i + 1) xs) where
@@ -126,15 +134,18 @@ places_few test i (x ∷ xs) = by_test (test x) (places_few test (i + 1) xs) whe
   by_test false few = omega (arith, few)
 
 module _ (h : Head) (q : IsHead h) (node : ℕ) where
+  -- at most 128 processes have a condition
   conditioned_few : length (conditioned h) ≤ 128
   conditioned_few =
       let both = length-filter_both (λ (p : HeadProcess). p.condition) (λ p. not p.condition) (λ p. refl) h.processes in
       omega (arith, both, q.few_processes)
 
+  -- a node starts at most 128 items
   starts_few : length (starts_of h node) ≤ 128
   starts_few = let few = places_few (λ (p : HeadProcess). eqb p.node node) 0 h.processes in
       omega (arith, few, q.few_processes)
 
+  -- a node tells at most 128 conditions
   told_few : (b : Bool) →
       length (cond b (numbers_where (λ (p : HeadProcess). eqb p.node node) (first_broadcast h) (conditioned h)) [])
       ≤ 128
@@ -142,6 +153,7 @@ module _ (h : Head) (q : IsHead h) (node : ℕ) where
       omega (arith, few, conditioned_few)
   told_few false = omega arith
 
+  -- it sends at most 384 items
   sends_few : length (sends_of h node) ≤ 384
   sends_few =
       let told = cond (ltb 1 (length h.nodes))
@@ -150,6 +162,7 @@ module _ (h : Head) (q : IsHead h) (node : ℕ) where
       let parts = length-append (numbers_where (leaves h node) (first_message h) h.edges) told in
       omega (arith, parts, messages, told_few (ltb 1 (length h.nodes)), q.few_edges)
 
+  -- a node hears at most 384 items
   hears_few : length (hears_of h node) ≤ 384
   hears_few =
       let others = numbers_where (λ (p : HeadProcess). not (eqb p.node node)) (first_broadcast h) (conditioned h) in
@@ -158,6 +171,7 @@ module _ (h : Head) (q : IsHead h) (node : ℕ) where
       let parts = length-append (numbers_where (enters h node) (first_message h) h.edges) others in
       omega (arith, parts, messages, told, conditioned_few, q.few_edges)
 
+  -- the table of a node has at most 896 rows
   rows_few : (t : NodeTable) → IsTableOf h node t → length (rows_of t) ≤ 896
   rows_few t of =
       let starts : length t.starts ≡ length (starts_of h node) =
@@ -178,6 +192,7 @@ table_long h q node t of =
     (recursion_from_All (IsLawfulRow (space_of h)) (rows_of t) of.lawful) in
     omega (arith, rows, rows_few h q node t of)
 
+-- the bytes of a table are at most 489 for each column, and 1,792
 abbrev IsLong : NodeTable → Type 0
 IsLong t = length (table_bytes t) ≤ column_count (rows_of t) * 489 + 1792
 
@@ -196,15 +211,18 @@ tables_long (t ∷ ts) h =
 
 -- ---- heads
 
+-- a name has at most 33 bytes, with its length
 name_long : (text : List ℕ) → IsName text → length (name_bytes text) ≤ 33
 name_long text n = let parts = length-append (byte (length text)) text in omega (arith, parts, n.short)
 
+-- what version 2 adds to a process has at most 16 bytes
 extra_long : (o : Option Extra) → length (extra_bytes o) ≤ 16
 extra_long None = omega arith
 extra_long (Some e) =
     let parts = length-append (to_be_bytes w64 e.release) (to_be_bytes w64 (deadline_number e.deadline)) in
     omega (arith, parts)
 
+-- times have 8 bytes each
 times_long : (ts : List ℕ) → length (flat_map (to_be_bytes w64) ts) ≤ length ts * 8
 times_long ts = pieces (to_be_bytes w64) 8 ts (each ts) where
   each : (ts : List ℕ) → AllByRecursion (λ t. length (to_be_bytes w64 t) ≤ 8) ts
@@ -250,6 +268,7 @@ processes_long (p ∷ ps) (e ∷ es) h =
     ∙ length-append (process_bytes w) (flat_map process_bytes (written_by ps es)) in
     omega (arith, rest, one, parts)
 
+-- edges have 2 bytes each
 edges_long : (es : List (ℕ × ℕ)) → length (flat_map edge_bytes es) ≤ length es * 2
 edges_long es = pieces edge_bytes 2 es (each es) where
   each : (es : List (ℕ × ℕ)) → AllByRecursion (λ e. length (edge_bytes e) ≤ 2) es
@@ -264,6 +283,7 @@ named k n [] few a b = tt
 named k n (p ∷ ps) few a b =
     (record { name = b.0; times = let count = a.0.count in omega (arith, count, few) }, named k n ps few a.1 b.1)
 
+-- a head has at most 20,000 bytes
 head_long : (h : Head) → IsPackHead h → length (head_bytes h) ≤ 20000
 head_long h q =
     let parts = nine (to_be_bytes w32 magic) (byte (version_of h)) (byte h.faults) (byte (length h.nodes))

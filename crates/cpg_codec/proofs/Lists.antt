@@ -5,10 +5,12 @@ use Rattle.std.proofs.lemmas.List.{append-nil}
 use Rattle.cpg_codec.specs.Reading.{Reader, pure, ◌>>=◌, read_each, down, read_repeated}
 use Rattle.cpg_codec.proofs.Laws.{Reads, pure_reads, then_reads, adapt}
 
+-- the first of a list, or a default
 abbrev head_or : {A : Type 0} → A → List A → A
 head_or d [] = d
 head_or d (x ∷ xs) = x
 
+-- the others
 abbrev tail_of : {A : Type 0} → List A → List A
 tail_of [] = []
 tail_of (x ∷ xs) = xs
@@ -32,30 +34,36 @@ module _ {L S A : Type 0} (step : S → A → S) (one : L → S → Reader A)
   Parts l ls s d ys =
       Fits l ls s (head_or d ys) × (G ls (step s (head_or d ys)) (tail_of ys) × (ys ≡ head_or d ys ∷ tail_of ys))
 
+  -- a list that is read in parts, the first and the others, is read
   parts_to : (l : L) (ls : List L) (s : S) (d : A) → Inv (l ∷ ls) s → (ys : List A) → Parts l ls s d ys →
       G (l ∷ ls) s ys
   unfolding Parts
   parts_to l ls s d inv [] p = absurd (let h : [] ≡ d ∷ [] = p.1.1 in cc)
   parts_to l ls s d inv (x ∷ xs) p = cons l ls s x xs inv p.0 p.1.0
 
+  -- a list that is read can be read in parts: its first and the others
   parts_from : (l : L) (ls : List L) (s : S) (d : A) → Inv (l ∷ ls) s → (ys : List A) → G (l ∷ ls) s ys →
       Parts l ls s d ys
   unfolding Parts
   parts_from l ls s d inv [] g = absurd (cons_only l ls s g)
   parts_from l ls s d inv (x ∷ xs) g = let u = uncons l ls s x xs inv g in (u.0, (u.1, refl))
 
+  -- the spellings of the parts are that of the list
   parts_spell : (l : L) (ls : List L) (s : S) (d : A) (ys : List A) → G (l ∷ ls) s ys →
       spell (head_or d ys) ++ (flat_map spell (tail_of ys) ++ []) ≡ flat_map spell ys
   parts_spell l ls s d [] g = absurd (cons_only l ls s g)
   parts_spell l ls s d (x ∷ xs) g = ap (λ (t : List ℕ). spell x ++ t) (append-nil (flat_map spell xs))
 
+  -- the empty list is read where there is nothing to read
   nil_to : (s : S) → Inv [] s → (ys : List A) → ys ≡ [] → G [] s ys
   nil_to s inv ys e = subst (λ (zs : List A). G [] s zs) (sym e) (nil s inv)
 
+  -- where there is nothing to read, only the empty list is read
   nil_from : (s : S) (ys : List A) → G [] s ys → ys ≡ []
   nil_from s [] g = refl
   nil_from s (y ∷ ys) g = absurd (nil_only s y ys g)
 
+  -- its spelling is empty
   nil_spell : (s : S) (ys : List A) → G [] s ys → [] ≡ flat_map spell ys
   nil_spell s ys g = ap (flat_map spell) (sym (nil_from s ys g))
 

@@ -7,6 +7,7 @@ use Rattle.cpg_codec.specs.declared.fault.ReadError.{ReadError}
 use Rattle.cpg_codec.specs.declared.fault.ReadError.TheVariants as errors
 use Rattle.cpg_codec.specs.Gives.{Fails}
 
+-- what was read before, in front of what is read on
 abbrev pub with_front : {A : Type 0} → List A → Result (List A × List ℕ) ℕ → Result (List A × List ℕ) ℕ
 with_front front (Ok x) = Ok (front ++ x.0, x.1)
 with_front front (Err n) = Err n

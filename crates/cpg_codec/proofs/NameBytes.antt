@@ -7,14 +7,17 @@ use Rattle.std.proofs.lemmas.Bool.Decides.{nat_tests}
 use Rattle.std.proofs.lemmas.Str.{IsUtf8-from_ascii}
 use Rattle.cpg_base.specs.Name.{IsName, is_name_byte}
 
+-- a byte of a name is below 128
 letter_is_ascii : (b : ℕ) → is_name_byte b ≡ true → b < 128
 letter_is_ascii b h = grind (arith, nat_tests)
 
+-- behind a list there is the default
 get_or_past : (xs : List ℕ) (i : ℕ) → length xs ≤ i → get_or xs i 0 ≡ 0
 get_or_past [] i le = refl
 get_or_past (x ∷ xs) zero le = absurd (omega arith)
 get_or_past (x ∷ xs) (suc i) le = get_or_past xs i (omega arith)
 
+-- all bytes of a name are below 128
 name_is_ascii : (text : List ℕ) → IsName text → IsAscii text
 name_is_ascii text h i = elim (cases_lt i (length text)) [
   | inl lt ↦ letter_is_ascii (get_or text i 0) (h.plain i 0 lt)

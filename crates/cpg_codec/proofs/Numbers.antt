@@ -25,12 +25,15 @@ within_chooses low high h = record {
       (n : ℕ) × (from ≤ n) × (n < below) × ((low ≤ n) × (n ≤ high))
   within_found from below lt a b = (from + (low - from), omega arith, omega arith, (omega arith, omega arith))
 
+-- a number times 256 and then times t
 spread : (n t : ℕ) → n * (256 * t) ≡ n * 256 * t
 spread n t = omega arith
 
+-- one byte more multiplies by 256
 power : (w : ℕ) → 256 ^ suc w ≡ 256 * 256 ^ w
 power w = omega (arith, pow-suc 256 w)
 
+-- a number and the next one, with digits behind, leave room between them
 digit_span : (w n : ℕ) → n * 256 ^ suc w < (n + 1) * 256 ^ suc w
 digit_span w n = let h : 1 ≤ 256 ^ suc w = one-le-pow (suc w) 256 (omega arith) in omega arith
 
@@ -47,12 +50,14 @@ digit_of T t m n e pos lo hi =
     let e : m < m / t * t + t = lt-div-mul-add pos in
     (m / t - n * 256, omega arith, rw c d, rw c (omega (arith, e)))
 
+-- the quotient of a number between two multiples
 quotient_is : (t m q : ℕ) → 0 < t → q * t ≤ m → m < (q + 1) * t → m / t ≡ q
 quotient_is t m q pos lo hi =
     let a : q ≤ m / t = le-div q m t pos lo in
     let b : m / t < q + 1 = div_below m t (q + 1) pos hi in
     omega arith
 
+-- the digit of a number that lies in the span of this digit
 digit_is : (w m n b : ℕ) → b < 256 → (n * 256 + b) * 256 ^ w ≤ m → m < (n * 256 + b + 1) * 256 ^ w → byte_at w m ≡ b
 digit_is zero m n b lt lo hi = omega arith
 digit_is (suc w) m n b lt lo hi =
@@ -60,9 +65,11 @@ digit_is (suc w) m n b lt lo hi =
     quotient_is (256 ^ suc w) m (n * 256 + b) (one-le-pow (suc w) 256 (omega arith)) lo hi in
     rw q (omega arith)
 
+-- the span of a digit begins no lower than that of the digits before it
 digit_low : (T t m n b : ℕ) → T ≡ 256 * t → (n * 256 + b) * t ≤ m → n * T ≤ m
 digit_low T t m n b e lo = subst (λ (x : ℕ). n * x ≤ m) (sym e) (omega arith)
 
+-- the span of a digit ends no higher than that of the digits before it
 digit_high : (T t m n b : ℕ) → T ≡ 256 * t → b < 256 → m < (n * 256 + b + 1) * t → m < (n + 1) * T
 digit_high T t m n b e lt hi =
     let k : (b + 1) * t ≤ 256 * t = mul-le (b + 1) t 256 t (omega arith) (omega arith) in
@@ -76,6 +83,7 @@ module _ (Lawful : ℕ → Type 0) (may : ℕ → ℕ → Bool) (choice : IsChoi
     pub low : n * 256 ^ w ≤ m
     pub high : m < (n + 1) * 256 ^ w
 
+  -- digits that may go on have a next one
   digit_some : (w n : ℕ) → may (n * 256 ^ suc w) ((n + 1) * 256 ^ suc w) ≡ true → (b : ℕ) × (digit_may may w n b ≡ true)
   digit_some w n h =
       let f = choice.found (n * 256 ^ suc w) ((n + 1) * 256 ^ suc w) (digit_span w n) h in
@@ -85,6 +93,7 @@ module _ (Lawful : ℕ → Type 0) (may : ℕ → ℕ → Bool) (choice : IsChoi
             (choice.all _ _ f.0 d.2 d.3 f.3),
       )
 
+  -- the digit of a lawful number may come next
   digit_fits : (w n m : ℕ) → Continues (suc w) n m →
       (digit_may may w n (byte_at w m) ≡ true) × Continues w (n * 256 + byte_at w m) m
   digit_fits w n m c =
@@ -96,14 +105,17 @@ module _ (Lawful : ℕ → Type 0) (may : ℕ → ℕ → Bool) (choice : IsChoi
         record { lawful = c.lawful; low = d.2; high = d.3 },
       )
 
+  -- a digit that may come is a byte
   below_256 : (w n b : ℕ) → digit_may may w n b ≡ true → b < 256
   below_256 w n b h =
       ltb-true b 256 (and_parts (ltb b 256) (may ((n * 256 + b) * 256 ^ w) ((n * 256 + b + 1) * 256 ^ w)) h).0
 
+  -- digits with a next one that may come may go on
   may_go_on : (w n b : ℕ) → digit_may may w n b ≡ true →
       may ((n * 256 + b) * 256 ^ w) ((n * 256 + b + 1) * 256 ^ w) ≡ true
   may_go_on w n b h = (and_parts (ltb b 256) (may ((n * 256 + b) * 256 ^ w) ((n * 256 + b + 1) * 256 ^ w)) h).1
 
+  -- a number that goes on with a digit goes on from before it
   continues_back : (w n m b : ℕ) → b < 256 → Continues w (n * 256 + b) m → Continues (suc w) n m
   continues_back w n m b lt c = record {
     lawful = c.lawful;
@@ -111,12 +123,14 @@ module _ (Lawful : ℕ → Type 0) (may : ℕ → ℕ → Bool) (choice : IsChoi
     high = digit_high (256 ^ suc w) (256 ^ w) m n b (power w) lt c.high;
   }
 
+  -- a number with all its digits is lawful if they may end there
   last_is : (n m : ℕ) → m ≡ n → may (n * 256 ^ 0) ((n + 1) * 256 ^ 0) ≡ true → Continues 0 n m
   last_is n m e h =
       let f = choice.found (n * 256 ^ 0) ((n + 1) * 256 ^ 0) (omega arith) h in
       let k : f.0 ≡ m = omega (arith, f.1, f.2) in
       record { lawful = subst Lawful k f.3; low = omega arith; high = omega arith }
 
+  -- a number that goes on from all its digits is the one that they write
   last_back : (n m : ℕ) → Continues 0 n m → m ≡ n
   last_back n m c = omega (arith, c.low, c.high)
 

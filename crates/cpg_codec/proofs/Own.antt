@@ -30,6 +30,7 @@ fold_go : (may : ℕ → ℕ → Bool) (w n b : ℕ) (rest : List ℕ) (t : Bool
 fold_go may w n b rest true = refl
 fold_go may w n b rest false = refl
 
+-- two tests that agree on what begins with a digit agree on the digit
 tests_same : (may other : ℕ → ℕ → Bool) (w n b : ℕ) → Same may other w (n * 256 + b) →
     digit_may may w n b ≡ digit_may other w n b
 unfolding Same
@@ -48,6 +49,7 @@ step_same may other w n b rest h k =
     ∙ go_same may other w n b rest (digit_may other w n b) k
     ∙ sym (fold_go other w n b rest (digit_may other w n b))
 
+-- what is no byte is refused
 refused : (may : ℕ → ℕ → Bool) (w n b : ℕ) (rest : List ℕ) → 256 ≤ b →
     read_digits may (suc w) n (b ∷ rest) ≡ Err (suc (length rest))
 unfolding read_digits
@@ -55,6 +57,7 @@ refused may w n b rest le = let t : digit_may may w n b ≡ false =
     and_left (ltb b 256) (may ((n * 256 + b) * 256 ^ w) ((n * 256 + b + 1) * 256 ^ w)) (le-ltb b 256 le) in
     rw t refl
 
+-- tests that agree on what begins with some digits agree with one digit more
 narrower : (may other : ℕ → ℕ → Bool) (w n b : ℕ) → b < 256 → Same may other (suc w) n → Same may other w (n * 256 + b)
 unfolding Same
 narrower may other w n b lt h from below lo hi =
@@ -75,10 +78,12 @@ digits_same may other (suc w) n (b ∷ rest) h = elim (cases_lt b 256) [
   | inr le ↦ refused may w n b rest le ∙ sym (refused other w n b rest le)
 ]
 
+-- a false part adds nothing
 or_false : (t u : Bool) → u ≡ false → (t || u) ≡ t
 or_false true u e = refl
 or_false false u e = e
 
+-- behind a first byte ff, only the missing deadline is left
 none_same : Same deadline_may (within 18446744073709551615 18446744073709551615) 7 (0 * 256 + 255)
 unfolding Same
 none_same from below lo hi =
@@ -86,6 +91,7 @@ none_same from below lo hi =
     and_right (ltb 0 below) (leb from 1000000000) (lt-leb from 1000000000 (omega arith)) in
     rw e refl
 
+-- behind any other first byte, only a number up to 10^9 is left
 some_same : (b : ℕ) → b < 255 → Same deadline_may (within 0 1000000000) 7 (0 * 256 + b)
 unfolding Same
 some_same b lt from below lo hi =
@@ -102,6 +108,7 @@ deadline_none (b ∷ rest) e = ap (λ (d : ℕ). read_number 8 deadline_may (d �
     (digits_same deadline_may (within 18446744073709551615 18446744073709551615) 7 (0 * 256 + 255) rest none_same)
     ∙ ap (λ (d : ℕ). read_number 8 (within 18446744073709551615 18446744073709551615) (d ∷ rest)) (sym e)
 
+-- without a byte both readers stop alike
 deadline_end : read_number 8 deadline_may [] ≡ read_number 8 (within 0 1000000000) []
 unfolding read_digits
 deadline_end = refl

@@ -14,6 +14,7 @@ use Rattle.cpg_codec.specs.Writing.{IsPut, Puts}
 pub IsPut-none : (a h : List ℕ) → IsPut a a h h []
 IsPut-none a h = record { written = []; taken = Took-none a; same = append-nil h }
 
+-- what is put and what is left in the buffer, for two pieces one after the other
 join : (h x y w v l m : List ℕ) → h ++ x ≡ w ++ l → l ++ y ≡ v ++ m → h ++ (x ++ y) ≡ (w ++ v) ++ m
 join h x y w v l m e f = sym (append_assoc h x y) ∙ ap (λ (t : List ℕ). t ++ y) e ∙ append_assoc w l y
     ∙ ap (λ (t : List ℕ). w ++ t) f ∙ sym (append_assoc w v m)

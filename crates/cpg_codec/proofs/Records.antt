@@ -14,37 +14,48 @@ use Rattle.cpg_codec.proofs.HeadFields.{place_reads, edge_reads}
 use Rattle.cpg_codec.proofs.ColumnFields.{few_fault, room_step, fault_some, range_to, may_to, literal_reads}
 use Rattle.cpg_codec.proofs.ColumnFields.{front_reads}
 
+-- the first two bytes
 abbrev two : List ℕ → List ℕ
 two bytes = get_or bytes 0 0 ∷ get_or bytes 1 0 ∷ []
 
+-- the first three bytes
 abbrev three : List ℕ → List ℕ
 three bytes = get_or bytes 0 0 ∷ get_or bytes 1 0 ∷ get_or bytes 2 0 ∷ []
 
+-- the first nine bytes
 abbrev nine : List ℕ → List ℕ
 nine bytes = get_or bytes 0 0 ∷ get_or bytes 1 0 ∷ get_or bytes 2 0 ∷ get_or bytes 3 0 ∷ get_or bytes 4 0
     ∷ get_or bytes 5 0 ∷ get_or bytes 6 0 ∷ get_or bytes 7 0 ∷ get_or bytes 8 0 ∷ []
 
+-- what is behind two bytes is all that is left
 rest_2 : (a b : ℕ) (rest : List ℕ) → take (length (a ∷ b ∷ rest) - 2) rest ≡ rest
 rest_2 a b rest = let e : length (a ∷ b ∷ rest) - 2 ≡ length rest = omega arith in rw e (take-length rest)
 
+-- what is behind three bytes is all that is left
 rest_3 : (a b c : ℕ) (rest : List ℕ) → take (length (a ∷ b ∷ c ∷ rest) - 3) rest ≡ rest
 rest_3 a b c rest = let e : length (a ∷ b ∷ c ∷ rest) - 3 ≡ length rest = omega arith in rw e (take-length rest)
 
+-- what is behind nine bytes is all that is left
 rest_9 : (n : ℕ) (rest : List ℕ) → n ≡ length rest + 9 → take (n - 9) rest ≡ rest
 rest_9 n rest h = let e : n - 9 ≡ length rest = omega arith in rw e (take-length rest)
 
+-- the number of the first of two bytes
 first_of_2 : (a b : ℕ) → field 0 1 (a ∷ b ∷ []) ≡ a
 first_of_2 a b = omega arith
 
+-- the number of the second of two bytes
 second_of_2 : (a b : ℕ) → field 1 1 (a ∷ b ∷ []) ≡ b
 second_of_2 a b = omega arith
 
+-- the number of the first of three bytes
 first_of_3 : (a b c : ℕ) → field 0 1 (a ∷ b ∷ c ∷ []) ≡ a
 first_of_3 a b c = omega arith
 
+-- the number of the second of three bytes
 second_of_3 : (a b c : ℕ) → field 1 1 (a ∷ b ∷ c ∷ []) ≡ b
 second_of_3 a b c = omega arith
 
+-- the number of the third of three bytes
 third_of_3 : (a b c : ℕ) → field 2 1 (a ∷ b ∷ c ∷ []) ≡ c
 third_of_3 a b c = omega arith
 
@@ -103,10 +114,12 @@ literal_found s left least (x ∷ y ∷ z ∷ rest) fields v lo hi i long ef e0 
     (record { rises = n.0; lawful = record { allowed = n.1; range = range_to (ltb v 128) s lo hi (λ e. fault_some s v n.1 e) a b c }; leaves = n.2 })
     ∙ ap (λ (t : List ℕ). Ok (record { variable = v; low = lo; high = hi }, t)) (sym (rest_3 x y z rest))
 
+-- the number of the first eight of nine bytes
 column_long : (a b c d e f g h i : ℕ) →
     field 0 8 (a ∷ b ∷ c ∷ d ∷ e ∷ f ∷ g ∷ h ∷ i ∷ []) ≡ from_be_bytes w64 (a ∷ b ∷ c ∷ d ∷ e ∷ f ∷ g ∷ h ∷ [])
 column_long a b c d e f g h i = omega arith
 
+-- the number of the last of nine bytes
 column_last : (a b c d e f g h i : ℕ) → field 8 1 (a ∷ b ∷ c ∷ d ∷ e ∷ f ∷ g ∷ h ∷ i ∷ []) ≡ i
 column_last a b c d e f g h i = omega arith
 

@@ -5,6 +5,7 @@ use Rattle.std.proofs.Math.Seq.{drop-append_seam}
 use Rattle.cpg_codec.specs.Reading.{Reader}
 use Rattle.cpg_codec.proofs.Laws.{Reads}
 
+-- what is left is the last part of the bytes, by its length
 last_part : (bytes front rest : List ℕ) → bytes ≡ front ++ rest → drop (length bytes - length rest) bytes ≡ rest
 last_part bytes front rest e =
     let n : length bytes - length rest ≡ length front = omega (arith, ap length e, length-append front rest) in

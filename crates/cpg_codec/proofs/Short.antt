@@ -15,6 +15,7 @@ use Rattle.cpg_codec.specs.Writing.{IsShortRow, IsShortEdge}
 use Rattle.cpg_codec.proofs.ColumnFields.{few_fault, literals_room, column_literals}
 use Rattle.cpg_codec.proofs.TableFields.{head_space}
 
+-- a lawful column has at most 255 literals
 short_column : (s : VariableSpace) (c : Column) → IsSpace s → IsLawfulColumn s c → length c.cube ≤ 255
 short_column s c i h =
     let r = literals_room s 0 c.cube (few_fault s i) (column_literals s c i h) in
@@ -30,6 +31,7 @@ short_row s r i h = record {
       (λ c q. short_column s c i q) r.columns h.columns;
 }
 
+-- what holds of two lists together holds of each
 split : {X : Type 0} (P : X → Type 0) (xs ys : List X) → AllByRecursion P (xs ++ ys) →
     AllByRecursion P xs × AllByRecursion P ys
 split P [] ys h = (tt, h)

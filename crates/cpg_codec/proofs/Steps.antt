@@ -6,6 +6,7 @@ use Rattle.std.proofs.Math.Seq.{take-length}
 use Rattle.cpg_codec.specs.Reading.{digit_may, read_digits, within}
 use Rattle.cpg_codec.specs.Grammar.{read_small}
 
+-- what is behind one byte is all that is left
 take_rest : (rest : List ℕ) → take (suc (length rest) - 1) rest ≡ rest
 take_rest rest = let e : suc (length rest) - 1 ≡ length rest = omega arith in rw e (take-length rest)
 

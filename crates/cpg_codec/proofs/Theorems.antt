@@ -10,11 +10,13 @@ use Rattle.cpg_codec.specs.Grammar.{read_tables, whole, read}
 use Rattle.cpg_codec.specs.Packs.{AreLawful, BeginsPack, IsBadPack, OneValue, NoProperPrefix}
 use Rattle.cpg_codec.proofs.TableFields.{tables_reads}
 
+-- a reading of all bytes that succeeds leaves none
 whole_ok : (size : ℕ) (r : Result (Tables × List ℕ) ℕ) (t : Tables) → whole size r ≡ Ok t → r ≡ Ok (t, [])
 whole_ok size (Ok (u, [])) t e = let h : u ≡ t = cc in ap (λ (x : Tables). Ok (x, [])) h
 whole_ok size (Ok (u, b ∷ rest)) t e = absurd cc
 whole_ok size (Err left) t e = absurd cc
 
+-- reading succeeds but leaves bytes, from place n on
 abbrev Trails : ℕ → Result (Tables × List ℕ) ℕ → ℕ → Type 0
 Trails size r n = (t : Tables) × (b : ℕ) × (rest : List ℕ) × (r ≡ Ok (t, b ∷ rest)) × (n ≡ size - suc (length rest))
 
@@ -37,6 +39,7 @@ read_front : (t : Tables) (rest bytes : List ℕ) → AreLawful t → bytes ≡ 
     read_tables bytes ≡ Ok (t, rest)
 read_front t rest bytes h e = ap read_tables e ∙ tables_reads.again t rest h
 
+-- the spelling of lawful tables is read as the tables
 read_all : (t : Tables) (bytes : List ℕ) → AreLawful t → bytes ≡ spelling t → read_tables bytes ≡ Ok (t, [])
 read_all t bytes h e = read_front t [] bytes h (e ∙ sym (append-nil (spelling t)))
 
@@ -45,9 +48,11 @@ pub spelled_is_read : (t : Tables) → AreLawful t → read (spelling t) ≡ Ok 
 unfolding read
 spelled_is_read t h = ap (whole (length (spelling t))) (read_all t (spelling t) h refl)
 
+-- a reading that has read tables
 abbrev done : Tables × List ℕ → Result (Tables × List ℕ) ℕ
 done x = Ok x
 
+-- equal readings have equal tables and leave the same
 ok_parts : (t u : Tables) (a b : List ℕ) → done (t, a) ≡ done (u, b) → (t ≡ u) × (a ≡ b)
 ok_parts t u a b e = let k : (t, a) ≡ (u, b) = cc in
     (ap (λ (x : Tables × List ℕ). x.0) k, ap (λ (x : Tables × List ℕ). x.1) k)
@@ -77,6 +82,7 @@ record Cut (bytes : List ℕ) (n : ℕ) : Type 0 where
   ends : (b : ℕ) (tail : List ℕ) → bad ≡ b ∷ tail → (t : Tables) (rest : List ℕ) → AreLawful t →
       spelling t ≡ good ++ b ∷ rest → ⊥
 
+-- bytes at which reading stops are cut there
 cut_stopped : (bytes : List ℕ) (left n : ℕ) → read_tables bytes ≡ Err left → n ≡ length bytes - left → Cut bytes n
 cut_stopped bytes left n e k =
     let s = tables_reads.stops bytes left e in
@@ -91,6 +97,7 @@ cut_stopped bytes left n e k =
           sym (read_all t (s.good ++ b ∷ rest) f (sym p)) ∙ s.stays b tail rest h in cc;
     }
 
+-- bytes that reading leaves are cut in front of them
 cut_trailing : (bytes : List ℕ) (n : ℕ) → Trails (length bytes) (read_tables bytes) n → Cut bytes n
 cut_trailing bytes n w =
     let k = tables_reads.takes bytes w.0 (w.1 ∷ w.2) w.3 in
@@ -105,12 +112,15 @@ cut_trailing bytes n w =
       ends = λ b tail h t rest f p. let q = one_spelling t w.0 (b ∷ rest) f k.0 p in let z : b ∷ rest ≡ [] = q.1 in cc;
     }
 
+-- the front of the bytes up to the cut is the good part
 take_good : (good bad : List ℕ) (n : ℕ) → n ≡ length good → take n (good ++ bad) ≡ good
 take_good good bad n e = rw e (take-append_seam good bad)
 
+-- the front one byte longer than the good part is that part and one byte
 take_one : (good tail : List ℕ) (b n : ℕ) → n ≡ length good → take (n + 1) (good ++ b ∷ tail) ≡ good ++ b ∷ []
 take_one good tail b n e = rw e (take-append-add good (b ∷ tail) 1)
 
+-- a longer front is a shorter one and more
 take_again : (n m : ℕ) (bytes : List ℕ) → n ≤ m → take m bytes ≡ take n bytes ++ drop n (take m bytes)
 take_again zero m bytes le = refl
 take_again (suc n) zero bytes le = absurd (omega arith)
@@ -129,6 +139,7 @@ cut_ends bytes n good (b ∷ tail) parts place ends lt p =
     ends b tail refl p.0 p.1 p.2 (p.3 ∙ ap (λ (x : List ℕ). x ++ p.1)
     (ap (take (n + 1)) parts ∙ take_one good tail b n place) ∙ append_assoc good (b ∷ []) p.1)
 
+-- if a front begins a pack, so does a shorter one
 shorter : (n m : ℕ) (bytes : List ℕ) → n ≤ m → BeginsPack (take m bytes) → BeginsPack (take n bytes)
 shorter n m bytes le p = (
   p.0,
@@ -138,6 +149,7 @@ shorter n m bytes le p = (
       ∙ append_assoc (take n bytes) (drop n (take m bytes)) p.1,
 )
 
+-- the place at which bytes are refused is the one from which they are no pack
 cut_is : (bytes : List ℕ) (n : ℕ) → read bytes ≡ Err n → Cut bytes n → IsBadPack bytes n
 unfolding read
 cut_is bytes n e c =

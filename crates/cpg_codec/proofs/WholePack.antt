@@ -16,9 +16,11 @@ pub found : (bytes : List ℕ) (r : Result Tables PackFault) → Answers r (read
 found bytes (Ok t) a = read_is_spelled bytes t a
 found bytes (Err e) a = tt
 
+-- a reading gives one value
 same : (t u : Tables) (r : Result Tables ℕ) → r ≡ Ok u → r ≡ Ok t → u ≡ t
 same t u r e f = cc
 
+-- a reading isn't refused if it gives a value
 not_both : (t : Tables) (n : ℕ) (r : Result Tables ℕ) → r ≡ Err n → r ≡ Ok t → ⊥
 not_both t n r e f = cc
 

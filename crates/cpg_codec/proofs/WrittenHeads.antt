@@ -20,14 +20,17 @@ abbrev pub IsExtraOf : ℕ → Option Extra → Type 0
 IsExtraOf version None = version ≡ 1
 IsExtraOf version (Some e) = (version ≡ 2) × IsExtra e
 
+-- a process that is written under a version is lawful, and so are its name and what the version adds
 pub record IsWritten (version faults nodes : ℕ) (w : Written) : Type 0 where
   pub process : IsHeadProcess faults nodes w.process
   pub name : IsName w.process.name
   pub extra : IsExtraOf version w.extra
 
+-- the process itself
 abbrev pub process_of : Written → HeadProcess
 process_of w = w.process
 
+-- what version 2 adds, as a list of one or none
 abbrev pub listed_of : Written → List Extra
 listed_of w = listed w.extra
 
@@ -246,6 +249,7 @@ head_processes h q = record {
       omega (arith, c, b, q.within.few_conditions);
 }
 
+-- a version is 1 or 2
 version_either : (b : Bool) → (1 ≤ cond b 2 1) × (cond b 2 1 ≤ 2)
 version_either true = (omega arith, omega arith)
 version_either false = (omega arith, omega arith)
@@ -272,6 +276,7 @@ limit_from zero most zero le some = omega arith
 limit_from zero most (suc n) le some = absurd (let h : 0 < 0 = some (omega arith) in omega arith)
 limit_from (suc below) most n le some = le
 
+-- if there is a process, there is a node
 some_node : (k n : ℕ) (ps : List HeadProcess) → AllByRecursion (IsHeadProcess k n) ps → 0 < length ps → 0 < n
 some_node k n [] h lt = absurd (omega arith)
 some_node k n (p ∷ ps) h lt = omega (arith, h.0.node)
@@ -282,6 +287,7 @@ processes_limit h q = limit_from (length h.nodes) 128 (length h.processes) q.few
     (some_node h.faults (length h.nodes) h.processes
     (recursion_from_All (IsHeadProcess h.faults (length h.nodes)) h.processes q.processes))
 
+-- if there is an edge, there is a process
 some_process : (n : ℕ) (es : List (ℕ × ℕ)) → AllByRecursion (IsHeadEdge n) es → 0 < length es → 0 < n
 some_process n [] h lt = absurd (omega arith)
 some_process n (e ∷ es) h lt = omega (arith, h.0.from)

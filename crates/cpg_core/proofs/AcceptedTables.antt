@@ -20,6 +20,7 @@ pub accepted_have_tables : AcceptedHaveTables
 accepted_have_tables g urgency guards finish a narrow is =
     let order = is.order in
     let m = is.measured in
+    -- the order of the compile is topological, and no item is too wide under it
     let first_top : IsTopological g (first_order g urgency) = first_topological g urgency a.topological a.given in
     let top : IsTopological g order =
     compile_topological g a.well_formed urgency a.topological first_top order is.compiled.taken in
@@ -27,9 +28,11 @@ accepted_have_tables g urgency guards finish a narrow is =
       | inl preferred ↦ preferred.narrow
       | inr same ↦ subst (IsNarrow g) (sym same.0) narrow
     ] in
+    -- so there are tables under it
     let t = tables_exist g urgency order guards m.frozen a top own m.frozen_times in
     let count : length t.rows ≡ item_count g = sym (length-map t.rows (λ (r : Row). r.item)) ∙ ap length t.found.items
     ∙ length-range_with_len 0 (item_count g) in
+    -- these, with the measures of the accepted graph, are what a builder answers
     let built : Built = record {
       tables = t.tables;
       frozen = m.frozen;
@@ -42,6 +45,7 @@ accepted_have_tables g urgency guards finish a narrow is =
     } in
     let are : IsBuiltFor g urgency order built =
     found_tables_are_built g urgency order t.rows built a.limits (admitted_under g urgency order guards a top)
+    -- and so they are its compilation, with this finish
     (record { found = t.found; written = t.written; worst = m.is_worst; excess = m.is_excess }) in (
       record { built = built; order = order },
       compilation g a.well_formed urgency a.topological first_top is.compiled.narrow a.joins a.urgency order

@@ -36,6 +36,7 @@ built_valid g urgency order b is none = record {
   hears = is.hears;
 }
   where
+    -- V9 is kept since nothing is late, and the other rules by any builder's tables
     kept : (rule : Rule) → Keeps rule g b.tables.nodes
     kept Rule.Due = is.due none
     kept rule = is.rules rule (λ e. cc)
@@ -60,6 +61,7 @@ end_listed (o ∷ os) (suc p) e h =
 -- the end of the process that is shown, in the scenario that is shown
 module _ (g : Graph) (urgency order : List ℕ) (b : Grown) (is : IsGrownFor g urgency order b) (p : ℕ)
     (late : b.excess.process ≡ Some p) where
+  -- the run in which the greatest excess comes about
   abbrev pub late_times : Times
   late_times = is.excess.least.holds.0
 
@@ -67,13 +69,16 @@ module _ (g : Graph) (urgency order : List ℕ) (b : Grown) (is : IsGrownFor g u
   pub late_run : IsRun g order b.trees.frozen b.excess.scenario late_times
   late_run = is.excess.least.holds.1
 
+  -- p is the least process that exceeds its due so in this run
   exceeds : IsLeastExceeding g late_times b.excess.time (Some p)
   exceeds = subst (IsLeastExceeding g late_times b.excess.time) late (is.excess.by late_times late_run)
 
+  -- an end that is past its due is there
   some_end : (o : Option ℕ) (d : ℕ) → 0 < unwrap_or o 0 - d → o ≡ Some (unwrap_or o 0)
   some_end None d h = absurd (omega (arith, h))
   some_end (Some e) d h = refl
 
+  -- p ends there past its due by the excess
   end_is : end_in late_times p ≡ due g p + b.excess.time
   end_is = omega (arith, exceeds.0, exceeds.1)
 

@@ -32,6 +32,7 @@ module _ (g : Graph) (w : WellFormed g) (urgency : List ℕ) (top : IsTopologica
   -- given: the figures of the first order
   module _ (narrow : g.order ≡ None → IsNarrow g (first_order g urgency)) (e v : ℕ)
       (first : HasFigures g (first_order g urgency) e v) where
+    -- the figures measure the first order
     own : IsMeasured g urgency (first_order g urgency) e v
     own = figures_measure g w urgency (first_order g urgency) first_top e v first
 
@@ -72,11 +73,13 @@ module _ (g : Graph) (w : WellFormed g) (urgency : List ℕ) (top : IsTopologica
     -- given: the figures of the track order
     module _ (order : List ℕ) (track : HasTrackOrder g order) (order_top : IsTopological g order) (f u : ℕ)
         (figures : HasFigures g order f u) where
+      -- the figures measure the track order
       other : IsMeasured g urgency order f u
       other = figures_measure g w urgency order order_top f u figures
 
       -- if the track order is no better, the first order is taken
       pub first_better : (IsBetter f u e v → ⊥) → IsTaken g urgency by_first
+      -- the first order's figures are its own, and if it is late both orders are
       first_better worse = record {
         taken = inr (refl, not_preferred_worse g w urgency top first_top narrow e v own order track f u other worse);
         measured = own;

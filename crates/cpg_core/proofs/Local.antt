@@ -20,6 +20,7 @@ use Rattle.cpg_run.proofs.Runs.{end_is}
 use Rattle.cpg_core.specs.Compiled.{IsCompileOrder}
 use Rattle.cpg_core.proofs.CompiledLaws.{compile_topological}
 
+-- the first of the list of an option is its value
 first_of_option : (o : Option ℕ) → slice_get (option_to_list o) 0 ≡ o
 first_of_option None = refl
 first_of_option (Some x) = refl
@@ -29,6 +30,7 @@ first_of_option (Some x) = refl
 module _ (g : Graph) (order : List ℕ) (frozen : List (Option ℕ)) (tables : List NodeTable)
     (times : HasRunTimes g order frozen tables) (s : Scenario) (is : IsScenario g s) (t : Times)
     (run : IsRun g order frozen s t) where
+  -- the tables' time of an item in the scenario is the run's
   time_is : (x : ℕ) → time_of tables x s ≡ get_or t.times x None
   time_is x = ap (λ ts. slice_get ts 0) (times s t x is run) ∙ first_of_option (get_or t.times x None)
 

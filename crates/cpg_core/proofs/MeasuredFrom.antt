@@ -17,6 +17,7 @@ module _ (g : Graph) (w : WellFormed g) (urgency order : List ℕ) (top : IsTopo
   pub measured_from : (excess worst : ℕ) → HasGreatest g order frozen excess worst →
       IsMeasured g urgency order excess worst
   measured_from excess worst h =
+      -- the order has measures, under the same frozen times
       let m = measured_exists g w order top urgency in
       let a : IsMeasured g urgency order m.0 m.1 = m.2 in
       let same : a.frozen ≡ frozen = frozen_unique g order top a.frozen frozen a.frozen_times times in
@@ -28,6 +29,7 @@ module _ (g : Graph) (w : WellFormed g) (urgency order : List ℕ) (top : IsTopo
       let vh = v.least.holds in
       let er = h.is_excess.reached in
       let vr = h.is_worst.reached in
+      -- they are both the greatest, so they are the same
       let ee : m.0 ≡ excess = omega
       (arith, eh.2, h.is_excess.above a.excess_in eh.0 e.least.lawful eh.1, er.4, e.greatest er.0 er.1 er.2 er.3) in
       let ve : m.1 ≡ worst = omega

@@ -22,14 +22,17 @@ module _ (g : Graph) (w : WellFormed g) (urgency : List ℕ) (top : IsTopologica
   -- given: two builds under one order
   module _ (order : List ℕ) (topological : IsTopological g order) (b d : Built) (x : IsBuiltFor g urgency order b)
       (y : IsBuiltFor g urgency order d) where
+    -- they have the same frozen times
     same_frozen : b.frozen ≡ d.frozen
     same_frozen = frozen_unique g order topological b.frozen d.frozen x.frozen y.frozen
 
+    -- and the same greatest finish, scenario and process
     same_worst : (b.worst ≡ d.worst) × (b.worst_in ≡ d.worst_in) × (b.worst_by ≡ d.worst_by)
     same_worst = one_worst g urgency top.all order topological b.frozen b.worst d.worst b.worst_in d.worst_in b.worst_by
         d.worst_by x.worst
         (subst (λ f. IsWorst g urgency order f d.worst d.worst_in d.worst_by) (sym same_frozen) y.worst)
 
+    -- and the same times of each item
     same_times : (n : ℕ) (s : Scenario) → IsScenario g s → at b.tables.nodes n s ≡ at d.tables.nodes n s
     same_times n s is =
         let run = a_run g order b.frozen s topological in

@@ -28,6 +28,7 @@ module _ (g : Graph) (urgency : List ℕ) (guards : Guards) (a : IsAdmitted g ur
       t.excess.time ≡ 0 → IsCompileOrder g urgency t.order →
       AreCompiledRows g urgency r
   compiled_rows t r are same zero taken =
+      -- the order is topological, so its rows can be written, and it is the compile's
       let top : IsTopological g t.order =
       compile_topological g a.well_formed urgency a.topological first_top t.order taken in
       let writable : AreWritable g r.rows.items = built_writable g urgency guards a t.order top r are in
@@ -35,6 +36,7 @@ module _ (g : Graph) (urgency : List ℕ) (guards : Guards) (a : IsAdmitted g ur
       record {
         writable = writable;
         compilation = λ tables w.
+            -- tables of these rows are built for the order
             let built : IsBuiltFor g urgency r.order (built_of r tables) =
             subst (λ o. IsBuiltFor g urgency o (built_of r tables)) (sym are.same)
             (built_tables g urgency guards a t.order top r are tables w) in

@@ -29,8 +29,10 @@ pub record IsTaken (g : Graph) (urgency : List ℕ) (t : TakenOrder) : Type 0 wh
 
 -- the graph is compiled, with this greatest finish
 pub record IsAccepted (g : Graph) (urgency : List ℕ) (worst : ℕ) : Type 0 where
+  -- the order under which its tables are written
   pub order : List ℕ
   pub compiled : IsCompiled g urgency order
+  -- under it nothing is late, and this is the greatest finish
   pub measured : IsMeasured g urgency order 0 worst
 
 -- Why a graph has no greatest finish: the first item that is too wide by its views under the first order; or there is

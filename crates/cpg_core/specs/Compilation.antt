@@ -38,9 +38,12 @@ pub record IsCompilation (g : Graph) (urgency : List ℕ) (c : Compiled) : Type 
 -- What is made under the order that a graph gives is too large: a tree on the way to its rows, or, if nothing is late,
 -- the rows.
 pub record HasWideRows (g : Graph) (urgency order : List ℕ) : Type 0 where
+  -- the trees under the order
   pub grown : Grown
   pub is : IsGrownFor g urgency order grown
+  -- no end is past its due
   pub in_time : grown.excess.time ≡ 0
+  -- one of their rows has too many columns, or all have together
   pub rows : HaveWideRows g urgency grown.trees.forest.times
 
 -- some tree along the order is too large, or the rows are
@@ -65,7 +68,10 @@ compiled_of r t = record { built = built_of r t; order = r.order }
 
 -- All tables that have these rows are, with the order and the figures, a compilation. There are such tables.
 pub record AreCompiledRows (g : Graph) (urgency : List ℕ) (r : BuiltRows) : Type 0 where
+  -- the rows can be written
   pub writable : AreWritable g r.rows.items
+  -- any tables of these rows are a compilation
   pub compilation : (t : Tables) → AreTablesWith g r.rows.items t → IsCompilation g urgency (compiled_of r t)
+  -- there are such tables
   pub tables : Tables
   pub written : AreTablesWith g r.rows.items tables

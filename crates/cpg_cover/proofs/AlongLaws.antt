@@ -39,6 +39,7 @@ one_more x m = ⊎_elim
     (cases_lt x (m + 1)))
     (cases_lt x m)
 
+-- left with a number up to m: left with a lesser one, or left of the part with m
 shared : (c u a b d : Bool) → d ≡ (a || b) → ((c && u) && d) ≡ (((c && u) && a) || ((b && c) && u))
 shared true true true b d e = e
 shared true true false true d e = e
@@ -62,6 +63,7 @@ module _ (g : Graph) (order : List ℕ) (by : List (List Literal)) (cube : List 
   abbrev pub is_left_below : ℕ → Scenario → Bool
   is_left_below m s = is_left by cube s && nat_lt (number_of s v) m
 
+  -- what is left with a number below m + 1 is left with a lesser one, or of the part with m
   grown : (m : ℕ) (s : Scenario) →
       is_left_below (m + 1) s ≡ (is_left_below m s || is_left by (narrowed_by (only m) cube) s)
   grown m s = shared (matches cube s) (not (list_any (λ b. matches b s) by)) (nat_lt (number_of s v) m)

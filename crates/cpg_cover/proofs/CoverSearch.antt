@@ -26,15 +26,18 @@ use Rattle.cpg_cube.proofs.Narrow.{matches-narrowed, cube-narrowed}
 
 -- ---- the parts of a cube outside another
 
+-- a list that has a cube only if b holds
 any_of_one : (b : Bool) (c : List Literal) (s : Scenario) →
     list_any (λ x. matches x s) (cond b (c ∷ []) []) ≡ (b && matches c s)
 any_of_one true c s = or-false (matches c s)
 any_of_one false c s = refl
 
+-- the one element of a list has its fact
 only : {X : Type 0} (P : X → Type 0) (x y : X) → Contains (x ∷ []) y → P x → P y
 only P x y c h =
     ⊎_elim (λ (e : x ≡ y). subst P e h) (λ (d : Contains [] y). absurd (Contains-nil y d)) (Contains-cases x [] y c)
 
+-- part of a range and the rest of the cube together are the narrowed cube
 together : (p h n m : Bool) → (p ≡ true → h ≡ true → n ≡ true) → (n ≡ true → (p ≡ true) × (h ≡ true)) →
     (p && (h && m)) ≡ (n && m)
 together true true true m f k = refl
@@ -44,6 +47,7 @@ together true false false m f k = refl
 together false h true m f k = cc (k refl).0
 together false h false m f k = refl
 
+-- below, above, or in the range but left by the rest: left by the one cube and the rest
 joined : (a b h m r : Bool) → not h ≡ (a || b) → (((a && m) || (b && m)) || ((h && m) && not r)) ≡ (m && not (h && r))
 joined true b true m r e = cc
 joined false true true m r e = cc
@@ -57,6 +61,7 @@ joined false true false false r e = refl
 joined false false false m r e = cc
 
 module _ (g : Graph) (few : process_count g ≤ 128) (s : Scenario) (lawful : IsScenario g s) where
+  -- the part below matches if the cube does and the number is below the literal's low
   matches_below : (l : Literal) (cube : List Literal) →
       list_any (λ c. matches c s) (part_below l cube) ≡ (nat_lt (number_of s l.variable) l.low && matches cube s)
   matches_below l cube =
@@ -69,6 +74,7 @@ module _ (g : Graph) (few : process_count g ≤ 128) (s : Scenario) (lawful : Is
       (λ t. let h = ltb-true (number_of s l.variable) l.low t in
       (lt-ltb 0 l.low (omega arith), holds-from s m (omega arith) (omega arith)))
 
+  -- the part above matches if the cube does and the number is above the literal's high
   matches_above : (l : Literal) (cube : List Literal) → IsVariable g l.variable →
       list_any (λ c. matches c s) (part_above g.faults l cube)
       ≡ (nat_lt l.high (number_of s l.variable) && matches cube s)
@@ -97,6 +103,7 @@ module _ (g : Graph) (few : process_count g ≤ 128) (s : Scenario) (lawful : Is
       (cases_lt l.high (number_of s l.variable)))
       (cases_lt (number_of s l.variable) l.low)
     where
+      -- a literal doesn't hold if the number is below its low or above its high
       outside : (holds s l ≡ true → ⊥) →
           (nat_lt (number_of s l.variable) l.low || nat_lt l.high (number_of s l.variable)) ≡ true →
           not (holds s l) ≡ (nat_lt (number_of s l.variable) l.low || nat_lt l.high (number_of s l.variable))
@@ -142,6 +149,7 @@ module _ (g : Graph) (few : process_count g ≤ 128) where
       Contains (part_below l cube) c → IsCube g c
   below_is l cube known is c k = one (nat_lt 0 l.low) k
     where
+      -- the part below is there only if the low isn't 0
       one : (b : Bool) →
           Contains (cond b (narrowed_by (record { variable = l.variable; low = 0; high = l.low - 1 }) cube ∷ []) []) c →
           IsCube g c
@@ -149,10 +157,12 @@ module _ (g : Graph) (few : process_count g ≤ 128) where
           (cube-narrowed g (record { variable = l.variable; low = 0; high = l.low - 1 }) cube known is)
       one false h = absurd (Contains-nil c h)
 
+  -- the part above a literal's range is a cube of the graph
   above_is : (l : Literal) (cube : List Literal) → IsVariable g l.variable → IsCube g cube → (c : List Literal) →
       Contains (part_above g.faults l cube) c → IsCube g c
   above_is l cube known is c k = one (nat_lt l.high (top g.faults l.variable)) k
     where
+      -- it is there only if the high isn't the top
       one : (b : Bool) → Contains (cond b (narrowed_by
           (record { variable = l.variable; low = l.high + 1; high = top g.faults l.variable }) cube ∷ []) []) c →
           IsCube g c
@@ -223,6 +233,7 @@ module _ (g : Graph) (few : process_count g ≤ 128) where
 
     -- ---- the whole search
 
+    -- a cube that matches nothing leaves no scenario, and any other one is answered by the search
     when_met : (by : List (List Literal)) (cube : List Literal) (o : Option Scenario) → IsCube g cube →
         (is_met g.faults cube ≡ true → IsFirst g order (is_left by cube) o) → (m : Bool) →
         is_met g.faults cube ≡ m → IsFirst g order (is_left by cube) (cond m o None)

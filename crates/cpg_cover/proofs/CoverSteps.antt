@@ -19,12 +19,14 @@ use Rattle.cpg_cube.proofs.CubeLows.{holds-low, holds-high, holds-from}
 use Rattle.cpg_cube.proofs.Narrow.{matches-narrowed}
 use Rattle.cpg_cover.proofs.CoverSearch.{uncovered_is}
 
+-- a test that says the same as two others may stand for them
 gather : (h n m u : Bool) → (h ≡ true → n ≡ true) → (n ≡ true → h ≡ true) → ((h && m) && u) ≡ (n && (m && u))
 gather true true m u f k = refl
 gather true false m u f k = cc (f refl)
 gather false true m u f k = cc (k refl)
 gather false false m u f k = refl
 
+-- what follows from a test doesn't fail where the test passes
 neither : (m u : Bool) → (m ≡ true → u ≡ true) → (m && not u) ≡ false
 neither true true h = refl
 neither true false h = cc (h refl)
@@ -117,9 +119,11 @@ module _ (g : Graph) (order : List ℕ) (by : List (List Literal)) (cube : List 
       λ h. not_some (uncovered g order by cube) answer h,
     )
       where
+        -- the search answers with the first scenario that is left
         answer : IsFirst g order (is_left by cube) (uncovered g order by cube)
         answer = uncovered_is g few order by cube known is
 
+        -- if the list covers the cube, there is none
         not_some : (o : Option Scenario) → IsFirst g order (is_left by cube) o →
             ((s : Scenario) → IsScenario g s → matches cube s ≡ true → list_any (λ b. matches b s) by ≡ true) → o ≡ None
         not_some None f h = refl

@@ -21,10 +21,12 @@ use Rattle.cpg_cover.specs.Fewest.{IsStep, AreMarked}
 -- ---- lists that grow
 
 module _ {X : Type 0} (test : X → Bool) (xs : List X) (i : ℕ) (d : X) (h : i < length xs) where
+  -- all of the first i + 1 elements pass if the first i do and the next one does
   taken_all : list_all test (take (i + 1) xs) ≡ (list_all test (take i xs) && test (get_or xs i d))
   taken_all = ap (list_all test) (take_more xs i d h) ∙ list_all-append test (take i xs) (get_or xs i d ∷ [])
       ∙ ap (λ b. list_all test (take i xs) && b) (and-true (test (get_or xs i d)))
 
+  -- some of them passes if one of the first i does or the next one does
   taken_any : list_any test (take (i + 1) xs) ≡ (list_any test (take i xs) || test (get_or xs i d))
   taken_any = ap (list_any test) (take_more xs i d h) ∙ list_any-append test (take i xs) (get_or xs i d ∷ [])
       ∙ ap (λ b. list_any test (take i xs) || b) (or-false (test (get_or xs i d)))
@@ -61,6 +63,7 @@ any_inserted test [] zero x t = sym (or-false (test x)) ∙ t
 any_inserted test [] (suc i) x t = sym (or-false (test x)) ∙ t
 any_inserted test (y ∷ ys) zero x t = turn (test x) (test y || list_any test ys) t
   where
+    -- of two tests either may stand first
     turn : (a b : Bool) → (a || b) ≡ true → (b || a) ≡ true
     turn true true e = refl
     turn true false e = refl
@@ -107,6 +110,7 @@ outside_more ls i d a r h f small g count e n t = ⊎_elim
     (λ (b : list_all (holds_at n) (take i ls) ≡ false). let x = f count e n b in omega arith)
     (cases_Bool (list_all (holds_at n) (take i ls)))
   where
+    -- if the last literal doesn't hold, its variable has at least r faults or is a value
     by_last : holds_at n (get_or ls i d) ≡ false → min a r ≤ sum_by n (numbers_below count)
     by_last k = ⊎_elim
         (λ (p : 0 < r). let s = small p in
@@ -141,18 +145,22 @@ after_here v n = cond-true (v == v) (n v - 1) (n v) (eq-eqb v v refl)
 pub after_other : (v u : ℕ) (n : ℕ → ℕ) → v ≢ u → after v n u ≡ n u
 after_other v u n h = cond-false (v == u) (n u - 1) (n u) (ne_eqb v u h)
 
+-- no number grows by a step
 after_le : (v u : ℕ) (n : ℕ → ℕ) → after v n u ≤ n u
 after_le v u n = ⊎_elim
     (λ (e : v ≡ u). let a = cond-true (v == u) (n u - 1) (n u) (eq-eqb v u e) in omega arith)
     (λ (d : v ≡ u → ⊥). let a = after_other v u n d in omega arith)
     (cases_eq v u)
 
+-- values are still at most 1
 after_values : (v : ℕ) (n : ℕ → ℕ) → AreValues n → AreValues (after v n)
 after_values v n values u h = let a = after_le v u n in let b = values u h in omega arith
 
+-- the sum of the numbers doesn't grow
 after_sum : (v : ℕ) (n : ℕ → ℕ) (count : ℕ) → sum_by (after v n) (numbers_below count) ≤ sum_by n (numbers_below count)
 after_sum v n count = sum_by-le_each (after v n) n (numbers_below count) (λ u c. after_le v u n)
 
+-- if the variable had a fault, the sum is one less
 after_less : (v : ℕ) (n : ℕ → ℕ) (count : ℕ) → v < count → 1 ≤ n v →
     sum_by (after v n) (numbers_below count) + 1 ≡ sum_by n (numbers_below count)
 after_less v n count h some =
@@ -165,6 +173,7 @@ abbrev pub Steps : List (List Literal) → ℕ → Bool → ℕ → List (List L
 Steps cubes v more budget rest =
     (n : ℕ → ℕ) → IsStep v more budget n → is_any_at (after v n) rest ≡ true → is_any_at n cubes ≡ true
 
+-- a step to 0, or to one less, leaves values at most 1 and as many faults as the budget allows
 step_from : (v : ℕ) (more : Bool) (budget count : ℕ) (n : ℕ → ℕ) → count ≡ 128 → AreValues n →
     (more ≡ false → n v ≡ 0) → (more ≡ true → 1 ≤ n v) →
     sum_by (after v n) (numbers_below count) ≤ budget →
@@ -176,6 +185,7 @@ step_from v more budget count n e values off on few = record {
   few = λ u h. let a = counted (after v n) count u (omega arith) in omega arith;
 }
 
+-- after the step the numbers still match no cube of the rest, so they take the faults that the rest needs
 by_step : (cubes rest : List (List Literal)) (v : ℕ) (more : Bool) (budget r count : ℕ) (n : ℕ → ℕ) →
     Steps cubes v more budget rest → Needs rest r → count ≡ 128 → AreValues n →
     IsStep v more budget n →
@@ -246,6 +256,7 @@ count_from cubes more v budget w most b r small needs lm lw some keeps needs' lb
 abbrev kept_at : List Bool → Bool → (ℕ → ℕ) → ℕ → ℕ
 kept_at marks wanted n v = cond (same_bool (get_or marks v false) wanted) (n v) 0
 
+-- literals on variables that are marked so hold for the kept numbers if they hold for all
 same_all_at : (marks : List Bool) (wanted : Bool) (n : ℕ → ℕ) (ls : List Literal) →
     list_all (λ l. same_bool (get_or marks l.variable false) wanted) ls ≡ true →
     matches_at (kept_at marks wanted n) ls ≡ matches_at n ls
@@ -256,6 +267,7 @@ same_all_at marks wanted n (l ∷ ls) t =
     ap₂ ◌&&◌ (ap (λ x. nat_le l.low x && nat_le x l.high) (cond-true (same_bool (get_or marks l.variable false) wanted)
     (n l.variable) 0 r.0)) (same_all_at marks wanted n ls r.1)
 
+-- so do cubes of such literals
 same_any_at : (marks : List Bool) (wanted : Bool) (n : ℕ → ℕ) (cubes : List (List Literal)) →
     AreMarked marks wanted cubes →
     is_any_at (kept_at marks wanted n) cubes ≡ is_any_at n cubes
@@ -265,13 +277,16 @@ same_any_at marks wanted n (c ∷ cs) h = ap₂ ◌||◌ (same_all_at marks want
     (same_any_at marks wanted n cs
     (All-tail (λ d. list_all (λ l. same_bool (get_or marks l.variable false) wanted) d ≡ true) c cs h))
 
+-- values that are kept are still at most 1
 kept_values : (marks : List Bool) (wanted : Bool) (n : ℕ → ℕ) → AreValues n → AreValues (kept_at marks wanted n)
 kept_values marks wanted n values v h = one (same_bool (get_or marks v false) wanted)
   where
+    -- a value is kept, or is 0
     one : (b : Bool) → cond b (n v) 0 ≤ 1
     one true = values v h
     one false = omega arith
 
+-- a part whose variables are marked so needs its faults of the kept numbers alone
 of_part : (cubes part : List (List Literal)) (marks : List Bool) (wanted : Bool) (r count : ℕ) (n : ℕ → ℕ) →
     AreMarked marks wanted part →
     ((m : ℕ → ℕ) → is_any_at m part ≡ true → is_any_at m cubes ≡ true) → Needs part r
@@ -280,6 +295,7 @@ of_part cubes part marks wanted r count n marked keeps needs e values t =
     needs count e (kept_at marks wanted n) (kept_values marks wanted n values)
     (same_any_at marks wanted n part marked ∙ false_from_ne_true _ (λ k. both_ways _ t (keeps n k)))
 
+-- the kept numbers of both marks add up to all
 both_parts : (marks : List Bool) (n : ℕ → ℕ) (count : ℕ) →
     sum_by (kept_at marks true n) (numbers_below count) + sum_by (kept_at marks false n) (numbers_below count)
     ≡ sum_by n (numbers_below count)
@@ -287,6 +303,7 @@ both_parts marks n count = sym (sum_by-add (kept_at marks true n) (kept_at marks
     ∙ same_sum_by (λ v. kept_at marks true n v + kept_at marks false n v) n (numbers_below count)
     (λ v c. one (get_or marks v false) (n v))
   where
+    -- each number is kept by one of the two marks
     one : (b : Bool) (x : ℕ) → cond (same_bool b true) x 0 + cond (same_bool b false) x 0 ≡ x
     one true x = omega arith
     one false x = omega arith
@@ -324,6 +341,7 @@ NeedsOfMarked cubes marks r = (count : ℕ) → count ≡ 128 → (n : ℕ → �
 abbrev new_at : List Bool → List Bool → (ℕ → ℕ) → ℕ → ℕ
 new_at marks later n v = cond (same_bool (get_or later v false) true && same_bool (get_or marks v false) false) (n v) 0
 
+-- literals on variables that are marked now and weren't before hold for the new numbers if they hold for all
 same_new_at : (marks later : List Bool) (n : ℕ → ℕ) (ls : List Literal) →
     list_all (λ l. same_bool (get_or marks l.variable false) false) ls ≡ true →
     list_all (λ l. same_bool (get_or later l.variable false) true) ls ≡ true →
@@ -338,6 +356,7 @@ same_new_at marks later n (l ∷ ls) t u =
     (cond-true (same_bool (get_or later l.variable false) true && same_bool (get_or marks l.variable false) false)
     (n l.variable) 0 (and_from _ _ q.0 r.0))) (same_new_at marks later n ls r.1 q.1)
 
+-- a variable that was marked before, and one that is new, are both marked now
 both_marks : (m k : Bool) (x : ℕ) → (m ≡ true → k ≡ true) →
     cond (same_bool m true) x 0 + cond (same_bool k true && same_bool m false) x 0 ≤ cond (same_bool k true) x 0
 both_marks true true x h = omega arith
@@ -370,6 +389,7 @@ marked_all cubes marks r f count e n values off =
     (λ v k. one (same_bool (get_or marks v false) true) (n v)) in
     omega arith
   where
+    -- a number is kept, or is 0
     one : (b : Bool) (x : ℕ) → cond b x 0 ≤ x
     one true x = omega arith
     one false x = omega arith
@@ -407,10 +427,12 @@ all_still_marked marks later (l ∷ ls) h t =
     and_from _ _ (is_marked (get_or later l.variable false)
     (h l.variable (was_marked (get_or marks l.variable false) r.0))) (all_still_marked marks later ls h r.1)
   where
+    -- the mark of a variable that is marked
     was_marked : (b : Bool) → same_bool b true ≡ true → b ≡ true
     was_marked true e = refl
     was_marked false e = cc
 
+    -- and the other way
     is_marked : (b : Bool) → b ≡ true → same_bool b true ≡ true
     is_marked true e = refl
     is_marked false e = cc

@@ -47,6 +47,7 @@ module _ (g : Graph) (limits : IsWithinLimits g) (cube : List Literal) (is : IsC
     (are : AreBounds cube low high) (long : length low ≡ 256) (left : ℕ)
     (some : budget_left (is_open g.faults) asked_of_literal g.faults cube ≡ Some left) (s : Scenario)
     (i : IsScenario g s) (t : matches cube s ≡ true) where
+  -- no number of the scenario is below the cube's low
   low_le : (v : ℕ) → get_or low v 0 ≤ number_of s v
   low_le v = ⊎_elim
       (λ (h : v < 256). let a = are.low v h in let b = low_in-le cube s v t in omega arith)
@@ -67,6 +68,7 @@ module _ (g : Graph) (limits : IsWithinLimits g) (cube : List Literal) (is : IsC
         (variable_or_not g l.variable);
   }
 
+  -- no number is further beyond the low than the literal's range is wide
   narrow_at : (l : Literal) → Contains cube l → beyond low (number_of s) l.variable ≤ l.high - l.low
   narrow_at l c =
       let a = are.low l.variable
@@ -79,6 +81,7 @@ module _ (g : Graph) (limits : IsWithinLimits g) (cube : List Literal) (is : IsC
   pub is_narrow : IsNarrow low (number_of s) cube
   is_narrow k d h = narrow_at (get_or cube k d) (Contains-get_or cube k d h)
 
+  -- beyond its low a value is at most 1
   beyond_values : AreValues (beyond low (number_of s))
   beyond_values v h =
       let a = cond-false (nat_lt v 128) (fault_of s v) (number_of_value (get_or s.values (v - 128) false))
@@ -93,10 +96,12 @@ module _ (g : Graph) (limits : IsWithinLimits g) (cube : List Literal) (is : IsC
   beyond_faults count e =
       let n = process_count g in
       let few = limits.few_processes in
+      -- the scenario's faults, the budget, and what the cube leaves of it
       let a = sum_of_counts g few s i in
       let b = i.budget in
       let c = budget_of_cube g few cube is in
       let d = (budget_some (is_open g.faults) asked_of_literal g.faults left cube some).1 in
+      -- what is beyond the lows and the lows are the scenario's numbers
       let x = sum_by-add (beyond low (number_of s)) (low_in cube) (numbers_below n) in
       let y = same_sum_by (λ v. beyond low (number_of s) v + low_in cube v) (number_of s) (numbers_below n)
       (λ v k. let h = numbers-Contains n v k in
@@ -104,6 +109,7 @@ module _ (g : Graph) (limits : IsWithinLimits g) (cube : List Literal) (is : IsC
       let q = low_le v in
       let r : beyond low (number_of s) v + low_in cube v ≡ number_of s v = omega arith in
       r) in
+      -- a variable that isn't one of the graph has nothing beyond
       let z = sum_short (beyond low (number_of s)) n count (omega arith) (λ v k m.
       let u = unknown-zero g s i v
       (⊎_elim (λ (p : v < n). absurd (omega arith)) (λ p. absurd (let w = p.0 in omega arith))) in
@@ -122,6 +128,7 @@ module _ (g : Graph) (limits : IsWithinLimits g) (cube : List Literal) (is : IsC
       absurd (too_many 128 refl off))
       (cases_Bool (list_any (λ b. matches (seen b) s) by))
     where
+      -- more faults beyond the lows than are left can't be, since the scenario has no more
       too_many : (count : ℕ) → count ≡ 128 → is_any_at (beyond low (number_of s)) cubes ≡ false → ⊥
       too_many count e off =
           let x = needs count e (beyond low (number_of s)) beyond_values off in

@@ -66,6 +66,7 @@ module _ {X : Type 0} (test : X → Bool) where
   taken_out (x ∷ xs) (suc i) d h = ap (λ b. test x || b) (taken_out xs i d (omega arith))
       ∙ turn (test x) (test (get_or xs i d)) (list_any test (remove xs i))
     where
+      -- of three tests joined by `or` the first two may change places
       turn : (a b c : Bool) → (a || (b || c)) ≡ (b || (a || c))
       turn true true c = refl
       turn true false c = refl
@@ -84,6 +85,7 @@ all_unmapped P f (x ∷ xs) h (suc k) d l = all_unmapped P f xs (λ j e m. h (su
 
 -- ---- a rising list is short
 
+-- in a rising list of literals no variable is less than its place
 rising_place : (ls : List Literal) (i : ℕ) (d : Literal) → IsRising ls → i < length ls →
     i ≤ (slice_index_or ls i d).variable
 rising_place ls zero d r h = omega arith

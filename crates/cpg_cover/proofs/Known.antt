@@ -8,6 +8,7 @@ use Rattle.cpg_base.proofs.Lists.{Contains-cases, Contains-nil, Contains-flat_ma
 use Rattle.cpg_cube.specs.Keys.{variable_of_value, variables_of, variables_along}
 
 module _ (g : Graph) where
+  -- the variable of a condition's value is one of the graph
   value_known : (p : ℕ) (o : Option ℕ) → condition_of g p ≡ o → (v : ℕ) → Contains (variable_of_value o) v →
       IsVariable g v
   value_known p None e v c = absurd (Contains-nil v c)
@@ -16,6 +17,7 @@ module _ (g : Graph) where
       (λ (d : Contains [] v). absurd (Contains-nil v d))
       (Contains-cases (value_variable n) [] v c)
 
+  -- the variables of a process are variables of the graph
   own_known : (p : ℕ) → p < process_count g → (v : ℕ) → Contains (variables_of g p) v → IsVariable g v
   own_known p h v c = ⊎_elim
       (λ (e : p ≡ v). subst (IsVariable g) e (inl h))

@@ -33,7 +33,8 @@ abbrev pub parts_outside : ℕ → List Literal → List Literal → List (List 
 parts_outside k [] cube = []
 parts_outside k (l ∷ ls) cube = part_below l cube ++ part_above k l cube ++ parts_outside k ls (narrowed_by l cube)
 
--- the least scenario that a list of cubes leaves of a cube, or None if it leaves none
+-- The least scenario that a list of cubes leaves of a cube, or None if it leaves none. With an empty list it is that of
+-- the lows, and else the least that the other cubes leave of the parts outside the first.
 abbrev pub uncovered : Graph → List ℕ → List (List Literal) → List Literal → Option Scenario
 uncovered g order [] cube = if is_met g.faults cube then Some (lows g cube) else None
 uncovered g order (b ∷ bs) cube = if is_met g.faults cube

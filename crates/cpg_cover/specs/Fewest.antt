@@ -45,11 +45,15 @@ NeedsWithout cubes variable budget r = (count : ℕ) → count ≡ 128 → (n : 
 abbrev pub after : ℕ → (ℕ → ℕ) → ℕ → ℕ
 after variable n v = if variable == v then n v - 1 else n v
 
--- a variable is 0, or more, and after the step no number of faults is above the budget
+-- a step of one variable: its number is 0, or is at least 1 and one less after the step; then no count is above the
+-- budget
 pub record IsStep (variable : ℕ) (more : Bool) (budget : ℕ) (n : ℕ → ℕ) : Type 0 where
+  -- a value is 0 or 1
   pub values : (v : ℕ) → 128 ≤ v → n v ≤ 1
+  -- without a step the number is 0; for a step it is at least 1
   pub zero : more ≡ false → n variable ≡ 0
   pub some : more ≡ true → 1 ≤ n variable
+  -- after the step no count is above the budget
   pub few : (v : ℕ) → v < 128 → after variable n v ≤ budget
 
 -- whether what is left to ask of a literal holds

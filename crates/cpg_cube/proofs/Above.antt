@@ -24,10 +24,12 @@ all_under ms v m rising is h k d l =
     (cases_lt k (length ms - 1))
 
 module _ (l : Literal) where
+  -- the first of the literals is on a variable below that of l
   first_under : (m : Literal) (ms : List Literal) → All (λ n. n.variable < l.variable) (m ∷ ms) →
       m.variable < l.variable
   first_under m ms all = All-contains (λ n. n.variable < l.variable) (m ∷ ms) m all (Contains-first m ms)
 
+  -- so are all others
   rest_under : (m : Literal) (ms : List Literal) → All (λ n. n.variable < l.variable) (m ∷ ms) →
       All (λ n. n.variable < l.variable) ms
   rest_under m ms all k d h = all (suc k) d (omega (arith, h))

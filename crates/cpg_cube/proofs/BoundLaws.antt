@@ -44,6 +44,7 @@ bound_of_some : (k : ℕ) (ls : List Literal) (v : ℕ) →
     ((m : Literal) × Contains ls m × (m.variable ≡ v) × (bound_in ls v ≡ m.high) × (high_in k ls v ≡ m.high))
 bound_of_some k [] v = inl (refl, refl, refl)
 bound_of_some k (l ∷ ls) v = ⊎_elim
+    -- the first literal is on the variable, and is the one that bounds it
     (λ (e : l.variable ≡ v). inr (
       l,
       Contains-first l ls,
@@ -51,6 +52,7 @@ bound_of_some k (l ∷ ls) v = ⊎_elim
       bound_here l v ls e,
       cond-true (l.variable == v) l.high (high_in k ls v) (eq-eqb l.variable v e),
     ))
+    -- it isn't, so the bound is that of the others
     (λ (n : l.variable ≡ v → ⊥).
     let high = cond-false (l.variable == v) l.high (high_in k ls v) (ne_eqb l.variable v n) in
     ⊎_elim
@@ -91,6 +93,7 @@ low_raised a (l ∷ ls) v = ⊎_elim
 -- a cube of a graph of few processes, and its bounds
 module _ (g : Graph) (few : process_count g ≤ 128) (a : List Literal) (is_a : IsCube g a) (lows highs : List ℕ)
     (are : AreBounds a lows highs) where
+  -- the raised literals are a cube of the graph, on the same variables
   raised_is : (b : List Literal) → IsCube g b → IsCube g (map (raised a) b)
   unfolding raised
   raised_is b is = record {
@@ -129,18 +132,21 @@ module _ (g : Graph) (few : process_count g ≤ 128) (a : List Literal) (is_a : 
   -- the cube is met, with some faults left, and there is another cube
   module _ (small : condition_count g ≤ 32) (limit : g.faults ≤ 255) (met : is_met g.faults a ≡ true) (left : ℕ)
       (rest : left + asked_faults a ≡ g.faults) (b : List Literal) (is_b : IsCube g b) where
+    -- each variable of b is below 256
     is_small : (l : Literal) → Contains b l → l.variable < 256
     is_small l c = ⊎_elim
         (λ (h : l.variable < process_count g). omega arith)
         (λ (h : (128 ≤ l.variable) × (l.variable < 128 + condition_count g)). omega (arith, h.1))
         (All-contains (λ m. IsVariable g m.variable) b l is_b.known c)
 
+    -- no variable has a top above 255
     top_small : (v : ℕ) → top g.faults v ≤ 255
     top_small v = ⊎_elim
         (λ (h : v < 128). let e = top_of_count g.faults v h in omega arith)
         (λ (h : 128 ≤ v). let e = top_of_value g.faults v h in omega arith)
         (cases_lt v 128)
 
+    -- no literal of the first cube is empty
     open_first : (l : Literal) → Contains a l → is_open g.faults l ≡ true
     open_first l c = from_all (is_open g.faults) a l
         (and_parts (list_all (is_open g.faults) a) (nat_le (asked_faults a) g.faults) met).0 c
@@ -181,12 +187,14 @@ module _ (g : Graph) (few : process_count g ≤ 128) (a : List Literal) (is_a : 
     touch_from_meet : do_meet g a b ≡ true →
         (list_all (touches g.faults lows highs) b ≡ true) × (sum_by (more_asked lows) b ≤ left)
     touch_from_meet t =
+        -- what it says that the cubes meet: literals reach the other's lows, and the lows fit the faults
         let r = and_parts (list_all (reaches g.faults b) a && list_all (reaches g.faults a) b)
         (nat_le (sum_by (both_low a b) (numbers_below (process_count g))) g.faults) t in
         let q = and_parts (list_all (reaches g.faults b) a) (list_all (reaches g.faults a) b) r.0 in
         let s = leb-true _ _ r.1 in
         let e = sum_of_both b is_b in (
           all_from (touches g.faults lows highs) b (λ l c.
+              -- one literal of b: its range is open, and reaches the first cube's low
               let u = and_parts (is_open g.faults l) (nat_le (low_in a l.variable) l.high)
               (from_all (reaches g.faults a) b l q.1 c) in
               let x = leb-true (low_in a l.variable) l.high u.1 in
@@ -195,6 +203,7 @@ module _ (g : Graph) (few : process_count g ≤ 128) (a : List Literal) (is_a : 
               let w = top_small l.variable in
               let e = are.low l.variable (is_small l c) in
               let f = are.high l.variable (is_small l c) in
+              -- its low is within the first cube's bound, whether a literal stands there or not
               let below : l.low ≤ bound_in a l.variable = ⊎_elim
               (λ (z : (bound_in a l.variable ≡ 255) × (low_in a l.variable ≡ 0) × (high_in g.faults a l.variable ≡ top g.faults l.variable)).
               let y = z.0 in
@@ -225,9 +234,11 @@ module _ (g : Graph) (few : process_count g ≤ 128) (a : List Literal) (is_a : 
         min (get_or highs l.variable 0) (cond (nat_lt l.variable 128) (get_or lows l.variable 0 + left) 1)
         ≡ most_in g.faults a l.variable
     most_is l c =
+        -- the low and the bound of the variable, as the lists have them
         let e = are.low l.variable (is_small l c) in
         let f = are.high l.variable (is_small l c) in
         ⊎_elim
+        -- a count: its bound, or its low and the faults that are left
         (λ (h : l.variable < 128).
         let x = cond-true (nat_lt l.variable 128) (get_or lows l.variable 0 + left) 1 (lt-ltb l.variable 128 h) in
         let y = cond-true (nat_lt l.variable 128) (low_in a l.variable + (g.faults - asked_faults a)) 1
@@ -239,6 +250,7 @@ module _ (g : Graph) (few : process_count g ≤ 128) (a : List Literal) (is_a : 
         (λ (m : (m : Literal) × Contains a m × (m.variable ≡ l.variable) × (bound_in a l.variable ≡ m.high) × (high_in g.faults a l.variable ≡ m.high)).
         let p = m.3 in let q = m.4 in omega arith)
         (bound_of_some g.faults a l.variable)) ∙ ap (min (high_in g.faults a l.variable)) (sym y))
+        -- a value: its bound, or 1
         (λ (h : 128 ≤ l.variable).
         let x = cond-false (nat_lt l.variable 128) (get_or lows l.variable 0 + left) 1 (le-ltb l.variable 128 h) in
         let y = cond-false (nat_lt l.variable 128) (low_in a l.variable + (g.faults - asked_faults a)) 1

@@ -49,6 +49,7 @@ low_in-before (m ∷ ms) l v n = ⊎_elim
     (λ (d : m.variable ≡ v → ⊥). low_else m v (ms ++ l ∷ []) d ∙ low_in-before ms l v n ∙ sym (low_else m v ms d))
     (cases_eq m.variable v)
 
+-- the bound of the last literal's variable is its high
 bound_in-last : (ls : List Literal) (l : Literal) → ((m : Literal) → Contains ls m → m.variable < l.variable) →
     bound_in (ls ++ l ∷ []) l.variable ≡ l.high
 bound_in-last [] l h = bound_here l l.variable [] refl
@@ -56,6 +57,7 @@ bound_in-last (m ∷ ms) l h =
     let less = h m (Contains-first m ms) in
     bound_else m l.variable (ms ++ l ∷ []) (λ e. omega arith) ∙ bound_in-last ms l (λ n c. h n (Contains-rest m ms n c))
 
+-- the bounds of other variables stay
 bound_in-before : (ls : List Literal) (l : Literal) (v : ℕ) → l.variable ≢ v → bound_in (ls ++ l ∷ []) v ≡ bound_in ls v
 bound_in-before [] l v n = bound_else l v [] n
 bound_in-before (m ∷ ms) l v n = ⊎_elim
@@ -85,6 +87,7 @@ module _ (ls : List Literal) (i : ℕ) (d : Literal) (rising : IsRising ls) (wit
       let l = slice_index_or ls i d in
       subst (λ c. AreBounds c (slice_set lows l.variable l.low) (slice_set highs l.variable l.high))
       (sym (take_more ls i d within)) (record {
+        -- the literal's variable gets its low, and the others keep theirs
         low = λ v h. ⊎_elim
             (λ (e : l.variable ≡ v).
             subst (λ w. get_or (slice_set lows l.variable l.low) w 0 ≡ low_in (take i ls ++ l ∷ []) w) e
@@ -93,6 +96,7 @@ module _ (ls : List Literal) (i : ℕ) (d : Literal) (rising : IsRising ls) (wit
             (λ (o : l.variable ≡ v → ⊥). get_or-set_other lows l.variable v l.low 0 (λ e. o (sym e)) ∙ b.low v h
             ∙ sym (low_in-before (take i ls) l v o))
             (cases_eq l.variable v);
+        -- and so with the highs
         high = λ v h. ⊎_elim
             (λ (e : l.variable ≡ v).
             subst (λ w. get_or (slice_set highs l.variable l.high) w 0 ≡ bound_in (take i ls ++ l ∷ []) w) e
@@ -113,6 +117,7 @@ module _ (ls : List Literal) (i : ℕ) (d : Literal) (rising : IsRising ls) (wit
       let x = max (get_or later l.variable 0) l.low in
       subst (λ c. get_or (slice_set later l.variable x) v 0 ≡ max (get_or lows v 0) (low_in c v))
       (sym (take_more ls i d within)) (⊎_elim
+      -- the literal's variable is raised by its low
       (λ (e : l.variable ≡ v). subst
       (λ w. get_or (slice_set later l.variable x) w 0 ≡ max (get_or lows w 0) (low_in (take i ls ++ l ∷ []) w)) e
       (let a = get_or-set_same later l.variable x 0 (omega arith) in
@@ -120,6 +125,7 @@ module _ (ls : List Literal) (i : ℕ) (d : Literal) (rising : IsRising ls) (wit
       let c = low_in-last (take i ls) l (λ k c. lower_before k c) in
       let z = low_in-none (take i ls) l.variable (λ k c. let n = lower_before k c in (λ e. omega arith)) in
       omega arith))
+      -- the others stay
       (λ (o : l.variable ≡ v → ⊥). get_or-set_other later l.variable v x 0 (λ e. o (sym e)) ∙ are v h
       ∙ ap (max (get_or lows v 0)) (sym (low_in-before (take i ls) l v o)))
       (cases_eq l.variable v))

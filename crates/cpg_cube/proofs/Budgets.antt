@@ -16,6 +16,7 @@ module _ (test : Literal → Bool) (demand : Literal → ℕ) where
   budget_first left l ls t h = ap (λ b. cond b (budget_left test demand (left - demand l) ls) None)
       (and_from (test l) (nat_le (demand l) left) t (le-leb (demand l) left h))
 
+  -- a literal that fails, or demands more than is left, leaves no budget
   budget_stops : (left : ℕ) (l : Literal) (ls : List Literal) → (test l && nat_le (demand l) left) ≡ false →
       budget_left test demand left (l ∷ ls) ≡ None
   budget_stops left l ls e = ap (λ b. cond b (budget_left test demand (left - demand l) ls) None) e
@@ -46,6 +47,7 @@ module _ (test : Literal → Bool) (demand : Literal → ℕ) where
       cc)
       (cases_Bool (test l && nat_le (demand l) left))
 
+  -- if something is left, all literals pass, and together they demand no more than there was
   fitting : (left : ℕ) (ls : List Literal) (o : Option ℕ) → budget_left test demand left ls ≡ o → is_some o ≡ true →
       (list_all test ls ≡ true) × (sum_by demand ls ≤ left)
   fitting left ls None e t = cc

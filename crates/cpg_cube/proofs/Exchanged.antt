@@ -12,18 +12,22 @@ use Rattle.cpg_cube.specs.Narrow.{meet_literal, narrowed_by, range_left, with_li
 use Rattle.cpg_cube.specs.Undo.{IsOn, IsUndo, left_of, restored_at, restored}
 use Rattle.cpg_cube.proofs.Narrow.{narrowed-before, narrowed-here, narrowed-after, rising-narrowed}
 
+-- a literal on a variable below another's
 abbrev Lower : Literal → Literal → Type 0
 Lower a b = a.variable < b.variable
 
 module _ (l : Literal) where
+  -- a literal on another variable leaves l its range
   after : (m : Literal) (ms : List Literal) → l.variable ≢ m.variable → range_left l (m ∷ ms) ≡ range_left l ms
   after m ms n = cond-false _ _ _ (ne_eqb l.variable m.variable n)
 
+  -- literals on variables above leave l its range
   range_other : (ms : List Literal) → ((y : Literal) → Contains ms y → l.variable < y.variable) → range_left l ms ≡ l
   range_other [] h = refl
   range_other (m ∷ ms) h = after m ms (λ e. let k = h m (Contains-first m ms) in omega arith)
       ∙ range_other ms (λ y c. h y (Contains-rest m ms y c))
 
+  -- a literal on a variable below all others is put first
   put_first : (ms : List Literal) → ((y : Literal) → Contains ms y → l.variable < y.variable) →
       narrowed_by l ms ≡ l ∷ ms
   put_first [] h = refl
@@ -58,6 +62,7 @@ module _ (l : Literal) where
   -- ---- one was
 
   module _ (was : Literal) (same : was.variable ≡ l.variable) where
+    -- with `was` on the variable of l, what l leaves is what the two have in common
     range_set : (cube : List Literal) (i : ℕ) (d : Literal) → IsRising cube → i < length cube →
         (get_or cube i d).variable ≡ l.variable →
         range_left l (slice_set cube i was) ≡ meet_literal l was
@@ -81,32 +86,38 @@ module _ (l : Literal) where
 
 -- ---- either
 
+-- what stands where there is no literal
 blank : Literal
 blank = record { variable = 0; low = 0; high = 0 }
 
 -- a place of a rising cube with a literal on the variable of another one
 module _ (l : Literal) (cube : List Literal) (r : IsRising cube) (place : ℕ) (h : place < length cube)
     (e : (get_or cube place blank).variable ≡ l.variable) where
+  -- what the literal leaves at the place, whether a literal was there or not
   range_at : (was : Option Literal) → IfSome was (λ w. w.variable ≡ l.variable) →
       range_left l (restored_at place was cube) ≡ left_of l was
   range_at None b = range_removed l cube place blank r h e
   range_at (Some was) b = range_set l was b cube place blank r h e
 
+  -- the cube as it was, narrowed by the literal, has that at the place
   put_at : (was : Option Literal) → IfSome was (λ w. w.variable ≡ l.variable) →
       narrowed_by l (restored_at place was cube) ≡ slice_set cube place (left_of l was)
   put_at None b = put_removed l cube place blank r h e
   put_at (Some was) b = put_set l was b cube place blank r h e
 
+-- of two literals set at one place the second stays
 set_twice : (x y : Literal) (xs : List Literal) (i : ℕ) → slice_set (slice_set xs i x) i y ≡ slice_set xs i y
 set_twice x y [] i = refl
 set_twice x y (m ∷ ms) zero = refl
 set_twice x y (m ∷ ms) (suc i) = ap (λ zs. m ∷ zs) (set_twice x y ms i)
 
+-- what is set at a place goes if the place is removed
 set_removed : (x : Literal) (xs : List Literal) (i : ℕ) → remove (slice_set xs i x) i ≡ remove xs i
 set_removed x [] i = refl
 set_removed x (m ∷ ms) zero = refl
 set_removed x (m ∷ ms) (suc i) = ap (λ zs. m ∷ zs) (set_removed x ms i)
 
+-- a literal set at the place is gone once the cube is as it was
 back_at : (x : Literal) (cube : List Literal) (place : ℕ) (was : Option Literal) →
     restored_at place was (slice_set cube place x) ≡ restored_at place was cube
 back_at x cube place None = set_removed x cube place
@@ -115,6 +126,7 @@ back_at x cube place (Some was) = set_twice x was cube place
 -- a narrowing of a rising cube on the variable of a literal, and the range that the exchange leaves
 module _ (l : Literal) (cube : List Literal) (r : IsRising cube) (n : Narrowing) (h : n.place < length cube)
     (is : IsOn l.variable n cube) (left : Literal) (e : left ≡ left_of l n.was) where
+  -- the range that the literal leaves of the cube as it was
   range_exchanged : range_left l (restored n cube) ≡ left
   range_exchanged = range_at l cube r n.place h (is.now blank) n.was is.before ∙ sym e
 

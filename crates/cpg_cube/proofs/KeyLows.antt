@@ -24,6 +24,7 @@ use Rattle.cpg_cube.proofs.KeyOrder.{within_order}
 -- two functions that agree on all numbers that may be variables
 module _ (g : Graph) (few : process_count g ≤ 128) (few_conditions : condition_count g ≤ 32) (low other : ℕ → ℕ)
     (same : (v : ℕ) → v < 256 → low v ≡ other v) where
+  -- they give the same low of a process's value
   same_value : (p : ℕ) (o : Option ℕ) → condition_of g p ≡ o → low_of_value low o ≡ low_of_value other o
   same_value p None e = refl
   same_value p (Some c) e = let l = condition_of_below g p c e in
@@ -39,15 +40,18 @@ module _ (g : Graph) (few : process_count g ≤ 128) (few_conditions : condition
 -- ---- the key of the least scenario
 
 module _ (g : Graph) (few : process_count g ≤ 128) (cube : List Literal) (met : is_met g.faults cube ≡ true) where
+  -- no low of the met cube is above its top
   low_le_top : (l : Literal) → Contains cube l → l.low ≤ top g.faults l.variable
   low_le_top l j =
       let open_all = (and_parts (list_all (is_open g.faults) cube) (nat_le (asked_faults cube) g.faults) met).0 in
       leb-true l.low (top g.faults l.variable) (and_parts (nat_le l.low l.high) (nat_le l.low (top g.faults l.variable))
       (from_all (is_open g.faults) cube l open_all j)).1
 
+  -- the scenario at the lows has them as its numbers
   number_is : (v : ℕ) → IsVariable g v → number_of (lows g cube) v ≡ low_in cube v
   number_is v known = made_number g few (low_in cube) v known (low_in-top g.faults cube low_le_top v)
 
+  -- the low of a process's value is the value's number in the key
   value_is : (p : ℕ) (o : Option ℕ) → condition_of g p ≡ o →
       low_of_value (low_in cube) o ≡ value_in_key (lows g cube).values o
   value_is p None e = refl

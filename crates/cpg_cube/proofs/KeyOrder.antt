@@ -37,6 +37,7 @@ is_total {T} = ranks_by nat_list_cmp_total (λ (r : Ranked T). r.key.items)
 
 -- ---- keys tell the order of the lows that they are made of
 
+-- a greater number is compared as such
 cmp_more : (x y : ℕ) → y < x → nat_cmp x y ≡ Greater
 cmp_more x y l = cond-false (nat_lt x y) Less _ (le-ltb x y (omega (arith, l)))
     ∙ cond-false (x == y) Equal Greater (ne_eqb x y (λ e. omega (arith, e, l)))
@@ -83,6 +84,7 @@ module _ (low high : ℕ → ℕ) (bytes : (v : ℕ) → low v < 256) where
       let later_xs = asked_from (left - 1) xs in
       let later_ys = asked_from (left - 1) ys in
       elim (cases_order x y) [
+        -- the first numbers are the same, so the later ones decide; zeros aren't written
         | inl e ↦
             let inner : is_below later_xs later_ys ≡ true = asked_below (left - 1) vs (omega (arith, few))
             (sym (same_first x xs ys) ∙ ap (λ w. is_below (x ∷ xs) (w ∷ ys)) e ∙ h) in
@@ -92,6 +94,7 @@ module _ (low high : ℕ → ℕ) (bytes : (v : ℕ) → low v < 256) where
                   (asked_some left y ys (λ z. n (e ∙ z)) ∙ ap (λ w. (left * 256 + w) ∷ later_ys) (sym e))
                   ∙ same_first (left * 256 + x) later_xs later_ys ∙ inner
             ]
+        -- the first list has the lower number, or a zero that isn't written
         | inr (inl l) ↦
             let there : asked_from left (y ∷ ys) ≡ (left * 256 + y) ∷ later_ys =
             asked_some left y ys (λ z. omega (arith, l, z)) in
@@ -101,6 +104,7 @@ module _ (low high : ℕ → ℕ) (bytes : (v : ℕ) → low v < 256) where
               | inr n ↦ ap₂ is_below (asked_some left x xs n) there
                   ∙ below-cons_less (left * 256 + x) (left * 256 + y) later_xs later_ys (omega (arith, l))
             ]
+        -- the other way is excluded
         | inr (inr l) ↦ absurd (both_ways (is_below (x ∷ xs) (y ∷ ys)) (more_first x y xs ys l) h)
       ]
 
@@ -116,13 +120,16 @@ low_in-byte (l ∷ ls) bytes v = elim (cases_eq l.variable v) [
 
 -- ---- a row has as many lows for all cubes
 
+-- a process has the low of one value at most
 one_or_two : (low : ℕ → ℕ) (o : Option ℕ) → length (low_of_value low o) ≤ 1
 one_or_two low None = omega arith
 one_or_two low (Some v) = omega arith
 
+-- with its count it has two lows at most
 few_lows : (g : Graph) (low : ℕ → ℕ) (p : ℕ) → length (lows_of g low p) ≤ 2
 few_lows g low p = omega (arith, one_or_two low (condition_of g p))
 
+-- an order has at most two lows for each process
 twice_long : (g : Graph) (order : List ℕ) (low : ℕ → ℕ) → length (lows_along g order low) ≤ length order * 2
 twice_long g [] low = omega arith
 twice_long g (p ∷ ps) low =
@@ -130,6 +137,7 @@ twice_long g (p ∷ ps) low =
 
 -- ---- the variables along an order
 
+-- the low of the value, if there is one
 low_of_variable : (low : ℕ → ℕ) (o : Option ℕ) → map low (variable_of_value o) ≡ low_of_value low o
 low_of_variable low None = refl
 low_of_variable low (Some c) = refl
@@ -184,6 +192,7 @@ module _ {T : Type 0} (cube : T → List Literal) (columns : List T) where
   }
 
   module _ (variables : List ℕ) where
+    -- the key of a column at a place
     abbrev key_at : ℕ → T → List ℕ
     key_at j d = key_by variables (cube (get_or columns j d))
 
@@ -216,6 +225,7 @@ module _ {T : Type 0} (cube : T → List Literal) (columns : List T) where
             omega (arith, l, m, at) in e) (after d)
       ]
 
+      -- the lows of all these columns are bytes
       all_bytes : (j : ℕ) (d : T) → j < n + 1 → AreBytes (cube (get_or columns j d))
       all_bytes j d l = elim (cases_lt j n) [
         | inl m ↦ h.first.bytes j d m

@@ -29,12 +29,15 @@ use Rattle.cpg_cube.proofs.Ranges.{rising_first, rising_rest}
 
 -- ---- places, variable by variable
 
+-- at the first of the variables, all places are left
 left_here : (left u v : ℕ) (us : List ℕ) → u ≡ v → left_at left (u ∷ us) v ≡ left
 left_here left u v us e = cond-true (u == v) left (left_at (left - 1) us v) (eq-eqb u v e)
 
+-- at a later one, what is left there with one place fewer
 left_later : (left u v : ℕ) (us : List ℕ) → u ≢ v → left_at left (u ∷ us) v ≡ left_at (left - 1) us v
 left_later left u v us n = cond-false (u == v) left (left_at (left - 1) us v) (ne_eqb u v n)
 
+-- no variable has more places left than there were
 left_le : (left : ℕ) (us : List ℕ) (v : ℕ) → left_at left us v ≤ left
 left_le left [] v = omega arith
 left_le left (u ∷ us) v = elim (cases_eq u v) [
@@ -42,12 +45,14 @@ left_le left (u ∷ us) v = elim (cases_eq u v) [
   | inr n ↦ omega (arith, left_later left u v us n, left_le (left - 1) us v)
 ]
 
+-- a variable that is added at the end has as many left as stand before it fewer
 left_last : (left : ℕ) (us : List ℕ) (v : ℕ) → ((u : ℕ) → Contains us u → u ≢ v) →
     left_at left (us ++ v ∷ []) v ≡ left - length us
 left_last left [] v h = left_here left v v [] refl ∙ omega arith
 left_last left (u ∷ us) v h = left_later left u v (us ++ v ∷ []) (h u (Contains-first u us))
     ∙ left_last (left - 1) us v (λ w c. h w (Contains-rest u us w c)) ∙ omega arith
 
+-- adding another variable changes nothing for this one
 left_before : (left : ℕ) (us : List ℕ) (w v : ℕ) → w ≢ v → left_at left (us ++ w ∷ []) v ≡ left_at left us v
 left_before left [] w v n = left_later left w v [] n
 left_before left (u ∷ us) w v n = elim (cases_eq u v) [
@@ -78,6 +83,7 @@ places_more vs apart i d left within is places long small h v =
       | inr n ↦ get_or-set_other places u v left 0 (λ e. n (sym e)) ∙ h v ∙ sym (left_before 256 (take i vs) u v n)
     ])
   where
+    -- the next variable isn't among those before it
     other_before : (vs : List ℕ) → AllPairs (λ u v. u ≢ v) vs → (i d : ℕ) → i < length vs → (w : ℕ) →
         Contains (take i vs) w →
         w ≢ slice_index_or vs i d
@@ -88,14 +94,17 @@ places_more vs apart i d left within is places long small h v =
         sym c.2 ∙ get_or-take i vs c.0 w place ∙ get_or_default vs c.0 w d (omega arith) in
         apart c.0 i d place within (sym same ∙ e)
 
+    -- after i variables, 256 less i places are left
     count : (vs : List ℕ) (i left : ℕ) → i < length vs → left + i ≡ 256 → 256 - length (take i vs) ≡ left
     count vs i left within is = omega (arith, length-take-le i vs (omega (arith, within)), is)
 
 -- ---- the place of a number
 
+-- a lesser number first: the number's place is in front
 stop_at : (number a : ℕ) (key : List ℕ) → nat_lt a number ≡ true → place_in number (a ∷ key) ≡ 0
 stop_at number a key t = cond-true (nat_lt a number) 0 (suc (place_in number key)) t
 
+-- any other number first: the place is one further
 go_on : (number a : ℕ) (key : List ℕ) → nat_lt a number ≡ false → place_in number (a ∷ key) ≡ suc (place_in number key)
 go_on number a key f = cond-false (nat_lt a number) 0 (suc (place_in number key)) f
 
@@ -126,9 +135,11 @@ insert_at key zero x l = refl
 insert_at [] (suc i) x l = absurd (omega (arith, l))
 insert_at (k ∷ key) (suc i) x l = ap (λ ks. k ∷ ks) (insert_at key i x (omega (arith, l)))
 
+-- a number whose place is in front is put first
 put_front : (number : ℕ) (key : List ℕ) → place_in number key ≡ 0 → with_number number key ≡ number ∷ key
 put_front number key e = ap (λ n. take n key ++ number ∷ drop n key) e
 
+-- a low that isn't above the first of the key is put behind that
 put_past : (p low a : ℕ) (key : List ℕ) → p * 256 + low ≤ a →
     with_any_asked p low (a ∷ key) ≡ a ∷ with_any_asked p low key
 put_past p low a key l = elim (cases_eq p 0) [
@@ -137,9 +148,11 @@ put_past p low a key l = elim (cases_eq p 0) [
       (go_on (p * 256 + low) a key (le-ltb a (p * 256 + low) l)) ∙ ap (λ k. a ∷ k) (sym (some key n))
 ]
   where
+    -- a low at a variable without places isn't put at all
     none : (key : List ℕ) → p ≡ 0 → with_any_asked p low key ≡ key
     none key z = cond-true (p == 0) key (with_number (p * 256 + low) key) (eq-eqb p 0 z)
 
+    -- at a variable with places it is
     some : (key : List ℕ) → p ≢ 0 → with_any_asked p low key ≡ with_number (p * 256 + low) key
     some key n = cond-false (p == 0) key (with_number (p * 256 + low) key) (ne_eqb p 0 n)
 
@@ -167,6 +180,7 @@ module _ (v : ℕ) (f g : ℕ → ℕ) (nothing : f v ≡ 0) (something : g v �
       let few_rest : length us ≤ left - 1 = omega (arith, few) in
       let key = asked_from (left - 1) (map f us) in
       elim (cases_eq u v) [
+        -- at v itself: its number is put in front of those of the later variables
         | inl e ↦
             let same : map g us ≡ map f us =
             same_map g f us (λ w c. others w (λ d. AllPairs-first (λ u w. u ≢ w) u us apart w c (e ∙ sym d))) in
@@ -178,6 +192,7 @@ module _ (v : ℕ) (f g : ℕ → ℕ) (nothing : f v ≡ 0) (something : g v �
             (front f bytes (left * 256 + g v) (left - 1) us (omega (arith, few, something)))
             ∙ ap₂ (λ w xs. (left * 256 + w) ∷ asked_from (left - 1) xs) (ap g (sym e)) (sym same)
             ∙ sym (asked_some left (g u) (map g us) (λ z. something (ap g (sym e) ∙ z)))
+        -- at another variable: if its low is 0 it adds nothing, and else it stays in front
         | inr n ↦
             let p = left_at (left - 1) us v in
             let within = inserted (left - 1) us rest few_rest in
@@ -215,6 +230,7 @@ module _ (variables places : List ℕ) (are : ArePlaces variables places) where
             (low_in-byte done bytes) (omega (arith, new, byte)) 256 variables are.apart are.few
       ]
     where
+      -- if the low of l's variable is 0 before and after, all lows are as they were
       same : (done : List Literal) (l : Literal) (u : ℕ) → low_in done l.variable ≡ 0 →
           low_in (done ++ l ∷ []) l.variable ≡ 0 →
           ((u : ℕ) → u ≢ l.variable → low_in (done ++ l ∷ []) u ≡ low_in done u) →
@@ -240,6 +256,7 @@ module _ (variables places : List ℕ) (are : ArePlaces variables places) where
       ])
       ∙ ap (key_by variables) (append_assoc done (l ∷ []) ls)
     where
+      -- a low that fits in a byte
       is_byte : Literal → Type 0
       is_byte m = m.low < 256
 
@@ -250,6 +267,7 @@ module _ (variables places : List ℕ) (are : ArePlaces variables places) where
   key_made cube bytes rising key is = sym is ∙ ap (with_lows_of places cube) (sym (empty 256 variables)) ∙
       all_more [] cube (All-nil (λ (l : Literal). l.low < 256)) bytes rising (λ m l c d. absurd (Contains-nil m c))
     where
+      -- without literals every low is 0, so the key is empty
       empty : (left : ℕ) (vs : List ℕ) → asked_from left (map (low_in []) vs) ≡ []
       empty left [] = refl
       empty left (v ∷ vs) = empty (left - 1) vs
@@ -283,6 +301,7 @@ bytes_of_none ls h k d l = omega (
 -- ---- the variables along an order are each there once
 
 module _ (g : Graph) (few : process_count g ≤ 128) where
+  -- the variables of one process differ
   own_apart : (p : ℕ) → p < process_count g → AllPairs (λ u v. u ≢ v) (variables_of g p)
   own_apart p l = one p l (condition_of g p)
     where
@@ -306,6 +325,7 @@ module _ (g : Graph) (few : process_count g ≤ 128) where
     | inr m ↦ inr (of_value (condition_of g p) refl m)
   ]
     where
+      -- a condition's variable is that of the condition that the process has
       of_value : (o : Option ℕ) → condition_of g p ≡ o → Contains (variable_of_value o) v →
           (c : ℕ) × (condition_of g p ≡ Some c) × (value_variable c ≡ v)
       of_value None e m = absurd (Contains-nil v m)
@@ -329,6 +349,7 @@ module _ (g : Graph) (few : process_count g ≤ 128) where
     ]
   ]
     where
+      -- one condition is of one process
       process_same : (c d : ℕ) → c ≡ d → process_of g c ≡ process_of g d
       process_same c d e = ap (process_of g) e
 

@@ -36,6 +36,7 @@ pub met_from_some : (k left : ℕ) (cube : List Literal) → budget_left (is_ope
     is_met k cube ≡ true
 met_from_some k left cube e = sym (met_is k cube) ∙ ap is_some e
 
+-- what the bounds leave and what the cube asks for are all faults
 rest_from_some : (k left : ℕ) (cube : List Literal) → budget_left (is_open k) asked_of_literal k cube ≡ Some left →
     left + asked_faults cube ≡ k
 rest_from_some k left cube e = (budget_some (is_open k) asked_of_literal k left cube e).1

@@ -19,9 +19,11 @@ IsPlace v (m ∷ ms) zero = v ≤ m.variable
 IsPlace v (m ∷ ms) (suc i) = (m.variable < v) × IsPlace v ms i
 
 module _ (v : ℕ) where
+  -- nothing stands before a first literal on the variable or above
   counted_first : (m : Literal) (ms : List Literal) → v ≤ m.variable → position_or_len (from_variable v) (m ∷ ms) ≡ 0
   counted_first m ms h = ap (λ b. cond (not b) (1 + position_or_len (from_variable v) ms) 0) (le-leb v m.variable h)
 
+  -- a first literal on a variable below is counted
   counted_rest : (m : Literal) (ms : List Literal) → m.variable < v →
       position_or_len (from_variable v) (m ∷ ms) ≡ 1 + position_or_len (from_variable v) ms
   counted_rest m ms h = ap (λ b. cond (not b) (1 + position_or_len (from_variable v) ms) 0) (lt-leb v m.variable h)
@@ -39,6 +41,7 @@ module _ (v : ℕ) where
       (λ (k : v ≤ m.variable). let a = counted_first m ms k in absurd (omega arith))
       (cases_lt m.variable v)
 
+  -- if all literals are counted, all are on variables below
   all_lower : (cube : List Literal) → length cube ≤ position_or_len (from_variable v) cube →
       AllByRecursion (λ m. m.variable < v) cube
   all_lower [] h = tt
@@ -51,13 +54,16 @@ module _ (v : ℕ) where
 found : (n m i : ℕ) → cond (nat_lt n m) (Some n) None ≡ Some i → (n ≡ i) × (i < m)
 found n m i e = by_case (nat_lt n m) refl e
   where
+    -- a number is answered only if it is within the length
     by_case : (b : Bool) → nat_lt n m ≡ b → cond b (Some n) None ≡ Some i → (n ≡ i) × (i < m)
     by_case true t h = let same : n ≡ i = cc in let k = ltb-true n m t in (same, omega arith)
     by_case false t h = cc
 
+-- if none is answered, the number is the length at least
 not_found : (n m : ℕ) → cond (nat_lt n m) (Some n) None ≡ None → m ≤ n
 not_found n m e = by_case (nat_lt n m) refl e
   where
+    -- by whether the number is within the length
     by_case : (b : Bool) → nat_lt n m ≡ b → cond b (Some n) None ≡ None → m ≤ n
     by_case true t h = cc
     by_case false t h = ltb-false n m t
@@ -70,6 +76,7 @@ place_found v cube i e = let r = found (position_or_len (from_variable v) cube) 
 -- ---- the cube narrowed there
 
 module _ (l : Literal) where
+  -- a literal on a variable above all others is put last
   narrowed_last : (cube : List Literal) → AllByRecursion (λ m. m.variable < l.variable) cube →
       narrowed_by l cube ≡ cube ++ l ∷ []
   narrowed_last [] h = refl

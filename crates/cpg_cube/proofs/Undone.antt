@@ -7,38 +7,46 @@ use Rattle.cpg_cube.specs.Cube.{Literal}
 use Rattle.cpg_cube.specs.Undo.{IsOn, IsUndo}
 
 module _ {T : Type 0} (x : T) where
+  -- what was put last is taken off
   removed_last : (xs : List T) → remove (xs ++ x ∷ []) (length xs) ≡ xs
   removed_last [] = refl
   removed_last (y ∷ ys) = ap (λ zs. y ∷ zs) (removed_last ys)
 
+  -- it stands at the end
   last_there : (xs : List T) → length xs < length (xs ++ x ∷ [])
   last_there [] = omega arith
   last_there (y ∷ ys) = omega (arith, last_there ys)
 
+  -- what was put in at a place is taken off
   removed_in : (xs : List T) (i : ℕ) → i < length xs → remove (insert xs i x) i ≡ xs
   removed_in [] i h = absurd (omega (arith, h))
   removed_in (y ∷ ys) zero h = refl
   removed_in (y ∷ ys) (suc i) h = ap (λ zs. y ∷ zs) (removed_in ys i (omega (arith, h)))
 
+  -- it stands at that place
   in_there : (xs : List T) (i : ℕ) → i < length xs → i < length (insert xs i x)
   in_there [] i h = absurd (omega (arith, h))
   in_there (y ∷ ys) zero h = omega arith
   in_there (y ∷ ys) (suc i) h = omega (arith, in_there ys i (omega (arith, h)))
 
+  -- what was set is set back
   set_back : (xs : List T) (i : ℕ) (d : T) → i < length xs → slice_set (slice_set xs i x) i (slice_index_or xs i d) ≡ xs
   set_back [] i d h = absurd (omega (arith, h))
   set_back (y ∷ ys) zero d h = refl
   set_back (y ∷ ys) (suc i) d h = ap (λ zs. y ∷ zs) (set_back ys i d (omega (arith, h)))
 
+  -- the place is still there
   set_there : (xs : List T) (i : ℕ) → i < length xs → i < length (slice_set xs i x)
   set_there [] i h = absurd (omega (arith, h))
   set_there (y ∷ ys) zero h = omega arith
   set_there (y ∷ ys) (suc i) h = omega (arith, set_there ys i (omega (arith, h)))
 
+  -- at the end stands what was put last
   last_is : (xs : List T) (d : T) → get_or (xs ++ x ∷ []) (length xs) d ≡ x
   last_is [] d = refl
   last_is (y ∷ ys) d = last_is ys d
 
+  -- at the place stands what was put in
   in_is : (xs : List T) (i : ℕ) (d : T) → i < length xs → get_or (insert xs i x) i d ≡ x
   in_is [] i d h = absurd (omega (arith, h))
   in_is (y ∷ ys) zero d h = refl

@@ -73,8 +73,10 @@ left_at left (u ∷ us) v = if u == v then left else left_at (left - 1) us v
 
 -- how many places are left at each of some variables, no two of which are the same
 pub record ArePlaces (variables places : List ℕ) : Type 0 where
+  -- there are at most 256, and none is there twice
   pub few : length variables ≤ 256
   pub apart : AllPairs (λ u v. u ≢ v) variables
+  -- 256 at the first of them, and one less at each that follows
   pub left : (v : ℕ) → get_or places v 0 ≡ left_at 256 variables v
 
 -- how many numbers of a key stand before one: those that are as much or more
@@ -112,6 +114,8 @@ pub record IsKeyOf (variables : List ℕ) (cube : List Literal) (key : List ℕ)
 pub record IsFirstByKeys {T : Type 0} (cube : T → List Literal) (variables : List ℕ) (n : ℕ) (columns : List T)
     (at : ℕ) : Type 0 where
   pub there : at < n
+  -- no column's key comes before the key at the place
   pub first : (j : ℕ) (d : T) → j < n →
       is_below (key_by variables (cube (get_or columns j d))) (key_by variables (cube (get_or columns at d))) ≡ false
+  -- the lows of their literals are bytes
   pub bytes : (j : ℕ) (d : T) → j < n → AreBytes (cube (get_or columns j d))

@@ -46,9 +46,11 @@ pair-slots_elsewhere h =
 abbrev pub pair_world : World
 pair_world = record { scenario = scenario (numbers 1 0); lengths = numbers 72 15 }
 
+-- N1 is asked four times, and then N2 five times
 abbrev pub pair_turns : List ℕ
 pair_turns = 0 ∷ 0 ∷ 0 ∷ 0 ∷ 0 ∷ 1 ∷ 1 ∷ 1 ∷ 1 ∷ []
 
+-- the pair after these turns
 abbrev pub pair_play : Cluster
 pair_play = play pair pair_world (initial_cluster pair pair_tables) pair_turns
 
@@ -83,6 +85,7 @@ late_broadcast = record {
   order = None;
 }
 
+-- B starts at 30 if A says so, and A's value is sent at 40
 abbrev pub late_tables : List NodeTable
 late_tables =
     record empty_table {
@@ -105,6 +108,7 @@ late-at_the_deadline c = let arrivals : 50 ≤ 40 = c.arrivals in absurd (omega 
 abbrev pub late_world : World
 late_world = record { scenario = record { values = true ∷ []; faults = 0 ∷ 0 ∷ 0 ∷ [] }; lengths = 30 ∷ 10 ∷ 10 ∷ [] }
 
+-- the nodes after N1 was asked three times
 abbrev pub late_play : Cluster
 late_play = play late_broadcast late_world (initial_cluster late_broadcast late_tables) (0 ∷ 0 ∷ 0 ∷ [])
 
@@ -144,6 +148,7 @@ alone = record {
   order = None;
 }
 
+-- the tables of the one node: its process starts at 0
 abbrev pub alone_tables : List NodeTable
 alone_tables = record empty_table { starts = item_row 0 (column 0 [] ∷ []) ∷ []; sends = []; hears = [] } ∷ []
 

@@ -74,9 +74,11 @@ overtold-no_candidate c = true≢false (from_any_false (λ t. t == 7) (candidate
 abbrev pub second : NodeTable
 second = own_table pair 1 (table_at pair_tables 1)
 
+-- the message of A is there at a time, by a column
 abbrev pub frame : ℕ → ℕ → ℕ × Event
 frame time column = (time, Arrival (record { item = 2; column = column; value = false }))
 
+-- the frame that a fault of A leads to, and then the end of B
 abbrev pub lawful_events : List (ℕ × Event)
 lawful_events = frame 90 1 ∷ (105, Ending 1 0 false) ∷ []
 
@@ -95,9 +97,11 @@ stream-falling = refl
 abbrev pub branching_second : NodeTable
 branching_second = own_table branching 1 (table_at branching_tables 1)
 
+-- A's value is there at 50, and is true
 abbrev pub broadcast : ℕ × Event
 broadcast = (50, Arrival (record { item = 8; column = 0; value = true }))
 
+-- the message to B is there at 70
 abbrev pub message : ℕ × Event
 message = (70, Arrival (record { item = 4; column = 0; value = false }))
 
@@ -139,6 +143,7 @@ pub frozen_world : IsWorld frozen_pair pair_world
 frozen_world =
     record { scenario = record { values = refl; faults = refl; budget = omega arith }; count = refl; lengths = lengths }
   where
+    -- each execution lasts at least 1, and no longer than planned
     lengths : (p : ℕ) → p < 2 →
         (1 ≤ get_or pair_world.lengths p 0) ×
         (get_or pair_world.lengths p 0 ≤ duration frozen_pair p (fault_of pair_world.scenario p))
@@ -164,6 +169,7 @@ unasked-not_due gives = let two : 1 ≡ 2 = length_permutation _ _ gives.acts.al
 abbrev pub hollow : List Range
 hollow = record { low = 1; high = 0 } ∷ []
 
+-- a frame without literals
 abbrev pub silent : Frame
 silent = record { item = 0; column = 0; value = false }
 

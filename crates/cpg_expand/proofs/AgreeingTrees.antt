@@ -23,6 +23,7 @@ use Rattle.cpg_expand.specs.Agreeing.{Agrees}
 -- ---- what is kept of two lists
 
 module _ (xs ys : List Literal) (v : ℕ) where
+  -- two lists of literals together leave of a range no lower numbers than each of them
   kept_low_both : max (kept_low xs v) (kept_low ys v) ≤ kept_low (xs ++ ys) v
   kept_low_both = omega (
     arith,
@@ -30,6 +31,7 @@ module _ (xs ys : List Literal) (v : ℕ) where
     kept_low_below ys v (kept_low (xs ++ ys) v) (λ m j e. low_kept (xs ++ ys) v m (Contains-append_right xs ys m j) e),
   )
 
+  -- and no higher ones
   kept_high_both : (k : ℕ) → kept_high k (xs ++ ys) v ≤ min (kept_high k xs v) (kept_high k ys v)
   kept_high_both k = omega (
     arith,
@@ -66,6 +68,7 @@ module _ (s : Scenario) where
         (record { low = λ v. omega arith; high = λ v. omega arith });
   })
     where
+      -- a tree of one value has one path, which has no literals
       only : (y : Path _) → Contains (([], x) ∷ []) y → ([], x) ≡ y
       only y c = only_one ([], x) y c
 
@@ -96,11 +99,13 @@ module _ (s : Scenario) where
       ((x : T) (y : U) (z : V) → fact_a x → fact_b y → answers x y z → fact z) → Agrees s first fact_a a →
       Agrees s second fact_b b → Agrees s (first ++ second) fact r
   agrees_join answers a b r first second fact_a fact_b fact few same each_a each_b is follows of_a of_b =
+      -- the paths of the two trees that the scenario takes
       let x = the_path a.faults a.paths each_a s few in
       let y = the_path a.faults b.paths each_b s few in
       record {
         value = λ z on.
             follows x.0.1 y.0.1 z.1 (of_a.value x.0 x.1) (of_b.value y.0 y.1) (is.value s x.0 y.0 z few x.1 y.1 on);
+        -- the path's literals say no more than those of the two
         says = λ z on.
             let wide = is.ranges s x.0 y.0 z few x.1 y.1 on in
             let one = of_a.says x.0 x.1 in
@@ -130,8 +135,10 @@ module _ (s : Scenario) where
       let y = the_path chooser.faults b.paths each_b s few in
       let chosen = of_c.value c.0 c.1 in
       record {
+        -- the value is the one that follows
         value = λ z on. follows x.0.1 y.0.1 z.1 (of_a.value x.0 x.1) (of_b.value y.0 y.1)
             (is.on s c.0 x.0 y.0 z few c.1 chosen x.1 y.1 on);
+        -- the path says no more than the three paths, whose literals these are
         says = λ z on.
             let wide = is.on_ranges s c.0 x.0 y.0 z few c.1 chosen x.1 y.1 on in
             let zero = of_c.says c.0 c.1 in
@@ -166,6 +173,7 @@ module _ (s : Scenario) where
       IsJoinWhere answers none chooser a b r → Agrees s given (λ c. c ≡ false) chooser
       → Agrees s given (λ z. z ≡ none) r
   agrees_elsewhere answers none chooser a b r given few each is of_c =
+      -- the path of the chooser that the scenario takes, whose value is false
       let c = the_path chooser.faults chooser.paths each s few in
       let chosen = of_c.value c.0 c.1 in
       record {
@@ -189,14 +197,17 @@ module _ (s : Scenario) where
       IsPick chooser on off r → Agrees s first (λ c. c ≡ b) chooser → Agrees s second fact (if b then on else off) →
       Agrees s (first ++ second) fact r
   agrees_pick {T} chooser on off r b first second fact few same_on same_off each_c each_on each_off is of_c of_picked =
+      -- the path of the scenario in the chooser, and that in the tree that it picks
       let c = the_path chooser.faults chooser.paths each_c s few in
       let chosen : c.0.1 ≡ b = of_c.value c.0 c.1 in
       let x = picked_path b in
       let here : IsOnPath (if c.0.1 then on.paths else off.paths) s x.0 =
       subst (λ (d : Bool). IsOnPath (if d then on.paths else off.paths) s x.0) (sym chosen) x.1 in
       record {
+        -- the value is that of the tree that is picked
         value =
             λ z there. subst fact (sym (is.value s c.0 x.0 z few c.1 here there)) (picked_value b of_picked x.0 x.1);
+        -- the path says no more than these two paths
         says = λ z there.
             let wide = is.ranges s c.0 x.0 z few c.1 here there in
             let one = of_c.says c.0 c.1 in
@@ -208,15 +219,18 @@ module _ (s : Scenario) where
             });
       }
     where
+      -- the tree that is picked has a path for the scenario
       picked_path : (d : Bool) → (x : Path T) × IsOnPath (if d then on.paths else off.paths) s x
       picked_path true = the_path chooser.faults on.paths each_on s few
       picked_path false = the_path chooser.faults off.paths each_off s few
 
+      -- its value has the fact
       picked_value : (d : Bool) → Agrees s second fact (if d then on else off) → (x : Path T) →
           IsOnPath (if d then on.paths else off.paths) s x → fact x.1
       picked_value true a x h = a.value x h
       picked_value false a x h = a.value x h
 
+      -- its path says no more than the second literals
       picked_says : (d : Bool) → Agrees s second fact (if d then on else off) → (x : Path T) →
           IsOnPath (if d then on.paths else off.paths) s x →
           ContainsKept chooser.faults x.0 second
@@ -229,8 +243,10 @@ module _ (s : Scenario) where
       IsNumber v k number t →
       Agrees s (exactly v (number_of s v) ∷ []) (λ x. number x ≡ number_of s v) t
   agrees_number v k number t few most is = record {
+    -- the path of the scenario has the variable's number as its value
     value = λ x on. is.value s x few on;
     says = λ x on. subst (λ m. ContainsKept m x.0 (exactly v (number_of s v) ∷ [])) (sym is.faults) (record {
+      -- a low that isn't 0 is that of the variable, at most its number
       low = λ u. elim (cases_eq u v) [
         | inl e ↦ subst (λ w. low_in x.0 w ≤ kept_low (exactly v (number_of s v) ∷ []) w) (sym e)
             (omega (
@@ -240,6 +256,7 @@ module _ (s : Scenario) where
             ))
         | inr n ↦ omega (arith, is.low s x u few on n)
       ];
+      -- a high that isn't the top is that of the variable, at least its number
       high = λ u. elim (cases_eq u v) [
         | inl e ↦ subst (λ w. kept_high k (exactly v (number_of s v) ∷ []) w ≤ high_in k x.0 w) (sym e)
             (omega (

@@ -66,6 +66,7 @@ use Rattle.cpg_expand.proofs.StartValue.{most, start_value, waited_ends, end_lin
 pub path_column : Path (Option ℕ) → Column
 path_column path = record { time = unwrap_or path.1 0; cube = path.0 }
 
+-- rows that hold, for each item, the paths of its tree as columns
 abbrev pub own_rows : ForestState → List (List Column)
 own_rows f = map (λ (t : TreeState (Option ℕ)). map path_column t.paths) f.times
 
@@ -82,6 +83,7 @@ own_rows_hold g order i f has = record {
   );
 }
   where
+    -- the own row of an item has the paths of its tree
     row : (x : ℕ) → x < item_count g → row_at (own_rows f) x ≡ map path_column (times_of g f x).paths
     row x l = get_or-map (λ (t : TreeState (Option ℕ)). map path_column t.paths) f.times x (no_tree g.faults) []
         (omega (arith, l, has.times))
@@ -96,12 +98,15 @@ module _ (g : Graph) (urgency : List ℕ) (guards : Guards) (a : IsAdmitted g ur
     (old new : ForestState) (before after : List (Option ℕ)) (chooser : TreeState Bool)
     (grown : IsGrown g order (place order p) before old) (trees : HasTrees g new)
     (b : IsBegun g order guards p old new before after chooser) where
+  -- p's guard
   abbrev guard : Guard
   guard = tree_of guards p
 
+  -- it leads to what p does in every outcome
   is_guard : IsGuardOf g urgency p (tree_of guards p)
   is_guard = a.guards.trees p l
 
+  -- each process is on a node of the graph
   nodes : (q : ℕ) → q < process_count g → node_of g q < length g.nodes
   nodes q k = (a.limits.processes q _ k).node
 
@@ -114,19 +119,24 @@ module _ (g : Graph) (urgency : List ℕ) (guards : Guards) (a : IsAdmitted g ur
   waits_before node w =
       record { other = w.other; within = w.within; there = w.there; later = omega (arith, w.later); thawed = w.thawed }
 
+  -- the producer of p's start is p itself
   its_producer : producer g p ≡ p
   its_producer = ap (producer_of_item g) (item_at-start g p l)
 
+  -- an item of an earlier process isn't p's start
   early_apart : (x : ℕ) → IsEarlier g order (place order p) x → x ≢ p
   early_apart x e is = absurd (let at = ap (λ y. place order (producer g y)) is in
       let own = ap (place order) its_producer in omega (arith, e, at, own))
 
+  -- p's start is an item of the graph
   p_item : p < item_count g
   p_item = omega (arith, l)
 
+  -- p has no frozen time yet, since its place isn't passed
   unset : get_or before p None ≡ None
   unset = grown.settled.others p (λ h f e. early_apart p e refl)
 
+  -- items of earlier processes rank before p's start
   later : (y : ℕ) → y < item_count g → IsEarlier g order (place order p) y → moment g order y < moment g order p
   later y h e =
       let at = moment_of_start g order topological p l in
@@ -134,14 +144,17 @@ module _ (g : Graph) (urgency : List ℕ) (guards : Guards) (a : IsAdmitted g ur
       sooner (place order (producer g y)) (place order p) (phase (item_at g y)) (phases g) e (phase_below g y h) in
       omega (arith, at, sooner_it)
 
+  -- once p has begun, what is done is the items of earlier processes, and p's start
   only : (y : ℕ) → IsDone g order p 0 y → IsEarlier g order (place order p) y ⊎ (y ≡ p)
   only y (inl e) = inl e
   only y (inr (inl e)) = inr e
   only y (inr (inr c)) = absurd (Contains-nil y c)
 
+  -- if p's start isn't frozen, p isn't marked as frozen in the graph
   thawed_start_of : is_frozen g p ≡ false → (process_at g p).frozen ≡ false
   thawed_start_of e = sym (ap (is_frozen_item g) (item_at-start g p l)) ∙ e
 
+  -- if it is frozen, p is marked so
   frozen_start_of : is_frozen g p ≡ true → (process_at g p).frozen ≡ true
   frozen_start_of e = sym (ap (is_frozen_item g) (item_at-start g p l)) ∙ e
 
@@ -155,19 +168,24 @@ module _ (g : Graph) (urgency : List ℕ) (guards : Guards) (a : IsAdmitted g ur
       get_or before x None ≡ get_or fs x None) (early : AreEarly fs)
       (rows : List (List Column)) (hold : RowsHold g order (place order p) old rows) (s : Scenario)
       (law : IsScenario g s) (t : Times) (run : IsRun g order fs s t) where
+    -- a scenario of the graph has at most its faults
     few : HasAtMostFaults g.faults s
     few = scenario_few g s law
 
+    -- it has a value for each condition
     long : length s.values ≡ condition_count g
     long = law.values
 
+    -- each time of the run is below 2^59
     small : AreSmall t
     small = run_small g order fs s t a.limits topological law early run
 
+    -- the old trees give the lines of this run up to p's place, since its frozen times agree with those so far
     lines : Lines g order rows s t (place order p) old
     lines = lines_over g order topological rows s (place order p) old before fs same
         (λ u r. grown.lines rows hold s law u r) t run
 
+    -- so the old trees give the run's times of earlier processes, with the literals that are carried
     valued : HasTreeValues g order rows s t (place order p) old
     valued = valued_from_lines g order rows (place order p) old grown.trees hold fs s t run lines
 
@@ -178,9 +196,11 @@ module _ (g : Graph) (urgency : List ℕ) (guards : Guards) (a : IsAdmitted g ur
         law fs t run small old grown.trees p l nodes valued lines guards
         (λ q k. a.guards.trees q k) chooser b.actives from cut
 
+  -- each frozen time so far is below 2^58
   early_before : AreEarly before
   early_before = early_from_low g order before a.limits topological grown.settled.count grown.settled.low
 
+  -- in each run under the frozen times so far, the trees say what p's start waits for
   all_valued : (from : ℕ) → IsCut g order guards (node_of g p) (place order p) from → (s : Scenario) → IsScenario g s →
       (t : Times) →
       IsRun g order before s t →
@@ -188,9 +208,11 @@ module _ (g : Graph) (urgency : List ℕ) (guards : Guards) (a : IsAdmitted g ur
   all_valued from cut s law t run = valued_start before (λ y h e. refl) early_before (own_rows old)
       (own_rows_hold g order (place order p) old grown.trees) s law t run from cut
 
+  -- p's start is active exactly if p is
   acts_as : (values : List Bool) → item_active g values (item_at g p) ≡ active g values p
   acts_as values = ap (item_active g values) (item_at-start g p l)
 
+  -- if p is frozen, its time in `after` is the greatest that it would have in the runs so far
   found : IsFrozenStart g order guards p old before after chooser b.start → IsFound g order before p after
   found f = frozen_found g order topological before p (omega (arith, p_item, grown.settled.count)) unset f.latest
       (λ s law t run on. latest_above g order guards before old chooser b.chooser_tree f.from p topological
@@ -202,9 +224,11 @@ module _ (g : Graph) (urgency : List ℕ) (guards : Guards) (a : IsAdmitted g ur
 
   -- ---- the frozen times
 
+  -- the frozen times stay settled once p's start is done
   new_settled : AreSettledOf g order (IsDone g order p 0) after
   new_settled = by b.starts
     where
+      -- an unfrozen start leaves them as they are, and a frozen one adds its latest time
       by : any_start g order guards p old before after chooser b.start → AreSettledOf g order (IsDone g order p 0) after
       by (inl th) = subst (AreSettledOf g order (IsDone g order p 0)) (sym th.1)
           (settled_idle g order topological a.limits (IsEarlier g order (place order p))
@@ -215,42 +239,52 @@ module _ (g : Graph) (urgency : List ℕ) (guards : Guards) (a : IsAdmitted g ur
           (IsDone g order p 0) before grown.settled p p_item later (λ y e. inl e)
           (inr (inl refl)) only f.0 after r.is r.same r.long
 
+  -- the frozen times of items of earlier processes stay the same
   same_earlier : (x : ℕ) → x < item_count g → IsEarlier g order (place order p) x →
       get_or before x None ≡ get_or after x None
   same_earlier x h e = by b.starts
     where
+      -- by whether p isn't frozen, so that none changes, or is, so that its own alone does
       by : any_start g order guards p old before after chooser b.start → get_or before x None ≡ get_or after x None
       by (inl th) = sym (ap (λ fs. get_or fs x None) th.1)
       by (inr f) = let k = found f.1 in sym (k.same x (early_apart x e))
 
+  -- each of the new frozen times is below 2^58
   early_after : AreEarly after
   early_after = early_from_low g order after a.limits topological new_settled.count new_settled.low
 
   -- ---- the new trees
 
+  -- p's start has the new tree of starts
   new_time : times_of g new p ≡ b.start
   new_time = ap (λ f. times_of g f p) b.is
       ∙ get_or-set_same old.times p b.start (no_tree g.faults) (omega (arith, p_item, grown.trees.times))
 
+  -- all other items keep their trees
   other_time : (x : ℕ) → x ≢ p → times_of g new x ≡ times_of g old x
   other_time x other = ap (λ f. times_of g f x) b.is ∙ get_or-set_other old.times p x b.start (no_tree g.faults) other
 
+  -- p's end has the new tree of ends
   new_end : ends_of g new p ≡ b.end
   new_end = ap (λ f. ends_of g f p) b.is
       ∙ get_or-set_same old.ends p b.end (no_tree g.faults) (omega (arith, l, grown.trees.ends))
 
+  -- all other processes keep their trees of ends
   other_end : (q : ℕ) → q ≢ p → ends_of g new q ≡ ends_of g old q
   other_end q other = ap (λ f. ends_of g f q) b.is ∙ get_or-set_other old.ends p q b.end (no_tree g.faults) other
 
+  -- p's node is ready by p's ends if it goes on after them, and else by the tree that was made
   new_ready : ready_of g new (node_of g p) ≡ goes_on b.end b.ready
   new_ready = ap (ready_by g new) (ap (λ f. ready_at g f (node_of g p)) b.is
       ∙ get_or-set_same old.ready (node_of g p) b.ready (At (no_tree g.faults))
       (let n = nodes p l in omega (arith, n, grown.trees.ready))) ∙ goes b.ready b.ready_after
     where
+      -- whether the node is ready after p's ends or by a tree, its tree is that of when it goes on
       goes : (r : Ready) → IsReadyAfter g p r → ready_by g new r ≡ goes_on b.end r
       goes (After q) e = ap later_tree (ap (ends_of g new) e ∙ new_end)
       goes (At t) is = refl
 
+  -- all other nodes are ready when they were before
   other_ready : (node : ℕ) → node < length g.nodes → node ≢ node_of g p → ready_of g new node ≡ ready_of g old node
   other_ready node within other = ap (ready_by g new) (ap (λ f. ready_at g f node) b.is
       ∙ get_or-set_other old.ready (node_of g p) node b.ready (At (no_tree g.faults)) other) ∙
@@ -262,9 +296,11 @@ module _ (g : Graph) (urgency : List ℕ) (guards : Guards) (a : IsAdmitted g ur
           ap later_tree (other_end q (λ same. other (sym (grown.trees.own node q within e) ∙ ap (node_of g) same)))
       kept (At t) e = refl
 
+  -- no slot is taken by a start, so all nodes have their slots free as before
   same_free : (node : ℕ) → free_of g new node ≡ free_of g old node
   same_free node = ap (λ f. free_of g f node) b.is
 
+  -- rows that hold what the new trees list hold what the old ones list for earlier processes
   hold_old : (rows : List (List Column)) → RowsHold g order (place order p) new rows →
       RowsHold g order (place order p) old rows
   hold_old rows hold = record {
@@ -278,32 +314,41 @@ module _ (g : Graph) (urgency : List ℕ) (guards : Guards) (a : IsAdmitted g ur
   -- `rows`, `hold`: the rows that hold the new trees; `s`, `law`, `t`, `run`: a scenario and its run
   module _ (rows : List (List Column)) (hold : RowsHold g order (place order p) new rows) (s : Scenario)
       (law : IsScenario g s) (t : Times) (run : IsRun g order after s t) where
+    -- these rows hold the old trees
     held : RowsHold g order (place order p) old rows
     held = hold_old rows hold
 
+    -- the scenario has at most the graph's faults
     few_faults : HasAtMostFaults g.faults s
     few_faults = scenario_few g s law
 
+    -- each time of its run is below 2^59
     run_is_small : AreSmall t
     run_is_small = small after same_earlier early_after rows held s law t run
 
+    -- the old trees give the lines of the run up to p's place
     lines_before : Lines g order rows s t (place order p) old
     lines_before = lines after same_earlier early_after rows held s law t run
 
+    -- and the times of all that is before it, with the literals that are carried
     valued_before : HasTreeValues g order rows s t (place order p) old
     valued_before = valued after same_earlier early_after rows held s law t run
 
+    -- p's node was ready by its tree, if p or a later process waits for that
     was_ready : IsWaitedFor g order (place order p) (node_of g p) →
         IsReadyLine g order rows s t (place order p) (node_of g p) (ready_of g old (node_of g p))
     was_ready waited = lines_before.ready (node_of g p) (nodes p l) waited
 
+    -- the conditions that p's guard tests on the way in this scenario are those that decide p
     way_decides : (c : ℕ) → Contains (way guard s.values) c → Contains (deciding g s.values p) c
     way_decides = on_way g a.limits order topological a.joins urgency a.urgency a.topological rows s law.values
         few_faults t run_is_small old p l nodes valued_before guard is_guard
 
+    -- the leaf that the guard leads to is what p does in this scenario
     leads_there : outcome_at guard s.values ≡ activation g s.values p
     leads_there = is_guard.is s.values law.values
 
+    -- if p is active, this run is one by which a frozen start has to be judged
     would : active g s.values p ≡ true → WouldHave g order after p (unfrozen_time g order s t p)
     would on = record { scenario = s; lawful = law; times = t; run = run; active = acts_as s.values ∙ on; has = refl }
 
@@ -314,6 +359,7 @@ module _ (g : Graph) (urgency : List ℕ) (guards : Guards) (a : IsAdmitted g ur
         (λ on. (new_settled.each p p_item is (inr (inl refl))).greatest time (unfrozen_time g order s t p) e (would on))
     frozen_time is None e = by (active g s.values p) refl
       where
+        -- an active p has its frozen time, an inactive one none
         by : (c : Bool) → active g s.values p ≡ c →
             (if active g s.values p then Some 0 else None) ≡ get_or t.times p None
         by true on =
@@ -326,6 +372,7 @@ module _ (g : Graph) (urgency : List ℕ) (guards : Guards) (a : IsAdmitted g ur
     started : HasValueFrom s (carried_at_start g order rows s p) (get_or t.times p None) b.start
     started = by b.starts
       where
+        -- the start's tree gives p's time, whether p isn't frozen or is
         by : any_start g order guards p old before after chooser b.start →
             HasValueFrom s (carried_at_start g order rows s p) (get_or t.times p None) b.start
         by (inl th) =
@@ -342,13 +389,16 @@ module _ (g : Graph) (urgency : List ℕ) (guards : Guards) (a : IsAdmitted g ur
             (frozen_line g order rows s few_faults p guard leads_there way_decides (frozen_start_of f.0) chooser b.start
             (unwrap_or f.1.latest 0) b.chooser_tree b.actives f.1.frozen.made)
 
+    -- p has at most the graph's faults in this scenario
     few_here : fault_of s p ≤ g.faults
     few_here = omega (arith, get_or-le-sum_by (λ (n : ℕ). n) s.faults p 0 (omega (arith, law.faults, l)), law.budget)
 
+    -- the tree of ends gives p's end, since the tree of starts gives its start
     ended : HasValueFrom s (carried_at_end g order rows s p) (get_or t.ends p None) b.end
     ended = end_line g a.limits order after s law t run run_is_small p l few_here rows b.start b.end
         few_faults b.ends started
 
+    -- p's node goes on at p's end if p is active, and else when it was ready
     readied : IsWaitedFor g order (place order p) (node_of g p) →
         IsReadyOnce g old (node_of g p) guard chooser b.end (goes_on b.end b.ready) →
         IsReadyLine g order rows s t (place order p + 1) (node_of g p) (goes_on b.end b.ready)
@@ -367,14 +417,17 @@ module _ (g : Graph) (urgency : List ℕ) (guards : Guards) (a : IsAdmitted g ur
         run_is_small old p l nodes valued_before guard is_guard made.wait made.waits
         was.time was.is was.has_value))
 
+    -- the slots of p's node are free when they were, since p has sent nothing yet
     freed_by : IsFreeLine g order rows s t (place order p) (node_of g p) (free_of g old (node_of g p)) →
         IsFreeOnce g order rows s t p 0 new
     freed_by was_free = record {
       time = was_free.time;
+      -- what the node has sent before p is all that it has sent
       is = most_same (free_after g t) (IsSentBefore g order s (node_of g p) (place order p))
           (IsSentBy g order s p 0) was_free.time
           (λ y h. (h.0, inl h.1))
           (λ y h. (h.0, elim h.1 [ inl less ↦ less | inr c ↦ absurd (Contains-nil y c) ])) was_free.is;
+      -- so the tree has this value, by the same literals
       has_value = subst (λ (tree : TreeState ℕ).
           HasValueFrom s (flat_map (queued g order rows s) (sent_so_far g order p 0)) was_free.time tree)
           (sym (same_free (node_of g p)))
@@ -388,9 +441,11 @@ module _ (g : Graph) (urgency : List ℕ) (guards : Guards) (a : IsAdmitted g ur
           (λ z e. e) was_free.has_value);
     }
 
+    -- so they are, if an item waits for the slots of p's node
     freed : IsQueuedFor g order (place order p) (node_of g p) → IsFreeOnce g order rows s t p 0 new
     freed q = freed_by (lines_before.free (node_of g p) (nodes p l) q)
 
+    -- the new tree of p's start gives its time, with the literals that its row carries
     time_here : HasValueFrom s (carried g order rows s p) (get_or t.times p None) (times_of g new p)
     time_here =
         subst (λ (tree : TreeState (Option ℕ)). HasValueFrom s (carried g order rows s p) (get_or t.times p None) tree)
@@ -402,6 +457,7 @@ module _ (g : Graph) (urgency : List ℕ) (guards : Guards) (a : IsAdmitted g ur
     -- p the time, the end and the readiness that are put
     send_lines : SendLines g order rows s t p 0 new
     send_lines = record {
+      -- times: those of before for other items, and p's own
       times = λ x h done. elim (only x done) [
         | inl e ↦ subst
             (λ (tree : TreeState (Option ℕ)). HasValueFrom s (carried g order rows s x) (get_or t.times x None) tree)
@@ -409,6 +465,7 @@ module _ (g : Graph) (urgency : List ℕ) (guards : Guards) (a : IsAdmitted g ur
         | inr e ↦ subst (λ z. HasValueFrom s (carried g order rows s z) (get_or t.times z None) (times_of g new z))
             (sym e) time_here
       ];
+      -- ends: those of before for other processes, and p's own
       ends = λ q h less. elim (cases_eq q p) [
         | inl e ↦ subst (λ z. HasValueFrom s (carried_at_end g order rows s z) (get_or t.ends z None) (ends_of g new z))
             (sym e)
@@ -418,6 +475,7 @@ module _ (g : Graph) (urgency : List ℕ) (guards : Guards) (a : IsAdmitted g ur
             HasValueFrom s (carried_at_end g order rows s q) (get_or t.ends q None) tree) (sym (other_end q other))
             (lines_before.ends q h (sooner_end q h less other))
       ];
+      -- readiness: p's node as it was put, and others as before
       ready = λ node h w. elim (cases_eq node (node_of g p)) [
         | inl e ↦ subst (λ n. IsReadyLine g order rows s t (place order p + 1) n (ready_of g new n)) (sym e)
             (subst (λ (tree : TreeState ℕ). IsReadyLine g order rows s t (place order p + 1) (node_of g p) tree)
@@ -429,6 +487,7 @@ module _ (g : Graph) (urgency : List ℕ) (guards : Guards) (a : IsAdmitted g ur
             (ready_elsewhere g order topological (place order p) p l refl rows s after t run node other
             (ready_of g old node) (lines_before.ready node h (waits_before node w)))
       ];
+      -- free slots: as before, since p has sent nothing yet
       here = freed;
       free = λ node h other q. subst (λ (tree : TreeState ℕ). IsFreeLine g order rows s t (place order p) node tree)
           (sym (same_free node)) (lines_before.free node h q);
@@ -444,6 +503,7 @@ module _ (g : Graph) (urgency : List ℕ) (guards : Guards) (a : IsAdmitted g ur
               (omega (arith, less, k))))
         ]
 
+  -- items that no process sends still have a tree without times
   new_unsent : LeavesUnsent g new
   new_unsent x big h is = subst (λ (tree : TreeState (Option ℕ)). IsConstant None g.faults tree)
       (sym (other_time x (λ e. absurd (omega (arith, big, e, l))))) (grown.unsent x big h is)

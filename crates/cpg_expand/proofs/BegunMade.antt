@@ -85,6 +85,7 @@ latest_as f from p active latest h k same order other in_order guards found is n
 
 -- ---- what is put
 
+-- after a process begins, its node is ready after its own ends, or by a tree of the graph
 ready_waits : (g : Graph) (p : ℕ) (r : Ready) → p < process_count g → IsReadyAfter g p r → IsWait g r
 ready_waits g p (After q) l e = subst (λ n. n < process_count g) (sym e) l
 ready_waits g p (At t) l is = is
@@ -141,6 +142,7 @@ pub begun_made : (how : Graph → Guard → TreeState Bool → TreeState (Option
     IsBegunBy (how g guard) g order p guard old new chooser
 begun_made how g h same order p guard found the_guard node there old new chooser chooser_tree actives start starts end
     ends ready ready_after readies is =
+    -- by the graph's and the guard's other names
     subst (λ k. IsBegunBy (how k guard) k order p guard old new chooser) same
     (subst (λ t. IsBegunBy (how h t) h order p t old new chooser) the_guard (record {
       chooser_tree = chooser_tree;
@@ -152,6 +154,7 @@ begun_made how g h same order p guard found the_guard node there old new chooser
       ready = ready;
       ready_after = ready_after;
       readies = readies;
+      -- the trees are put in their places
       is = is ∙ ap (λ n. record {
         times = set old.times p start;
         ends = set old.ends p end;

@@ -57,6 +57,7 @@ module _ (g : Graph) (order : List ℕ) (topological : IsTopological g order) (r
     (s : Scenario) where
   -- ---- of ends on the node
 
+  -- what stands before a process on its node, stands before each later one of that node
   before_grows : (p q r : ℕ) → Contains (before_on_node g order p) q → Contains (before_on_node g order q) r →
       Contains (before_on_node g order p) r
   before_grows p q r j i =
@@ -70,17 +71,21 @@ module _ (g : Graph) (order : List ℕ) (topological : IsTopological g order) (r
       (eq-eqb (node_of g r) (node_of g p) (node_r ∙ node_q))
       (Contains-before order r p of_r.0 (omega (arith, of_q.1, of_r.1)))
 
+  -- what a process passes on beside what decides it and what it hears: its inputs' and its own numbers, if it is active
   abbrev more : ℕ → List Literal
   more q = if active g s.values q then executed g rows s q else []
 
+  -- a process passes on what decides it
   passed_decided : (q : ℕ) (l : Literal) → Contains (decided g s q) l → Contains (passed g rows s q) l
   passed_decided q l j = Contains-append_left (decided g s q ++ heard g rows s q) (more q) l
       (Contains-append_left (decided g s q) (heard g rows s q) l j)
 
+  -- it passes on what it hears
   passed_heard : (q : ℕ) (l : Literal) → Contains (heard g rows s q) l → Contains (passed g rows s q) l
   passed_heard q l j = Contains-append_left (decided g s q ++ heard g rows s q) (more q) l
       (Contains-append_right (decided g s q) (heard g rows s q) l j)
 
+  -- it passes on what its execution says, if it is active
   passed_executed : (q : ℕ) (l : Literal) → active g s.values q ≡ true → Contains (executed g rows s q) l →
       Contains (passed g rows s q) l
   passed_executed q l on j = Contains-append_right (decided g s q ++ heard g rows s q) (more q) l
@@ -92,24 +97,30 @@ module _ (g : Graph) (order : List ℕ) (topological : IsTopological g order) (r
       Contains (flat_map (passed g rows s) (before_on_node g order p)) l
   end_carried p q j on l i = by (process_at g q).frozen refl
     where
+      -- a literal that q passes on is among those that are passed before p
       here : Contains (passed g rows s q) l → Contains (flat_map (passed g rows s) (before_on_node g order p)) l
       here k = Contains-flat_map (passed g rows s) (before_on_node g order p) q l j k
 
+      -- q's own fault count is part of what its execution says
       count : (f : Bool) → (process_at g q).frozen ≡ f → Contains (number_known s q ∷ []) l →
           Contains (executed g rows s q) l
       count f e k = Contains-append_right (if (process_at g q).frozen then [] else received g rows s q)
           (number_known s q ∷ []) l k
 
+      -- what q carries at its start, with `ls` if it isn't frozen
       start : List Literal → List Literal
       start ls = if (process_at g q).frozen then decided g s q else ls
 
+      -- all that q carries there if it isn't frozen
       all : List Literal
       all = flat_map (passed g rows s) (before_on_node g order q) ++ decided g s q ++ heard g rows s q
           ++ received g rows s q
 
+      -- what q carries at its end is what it carries at its start, or its own fault count
       split : Contains (start all) l ⊎ Contains (number_known s q ∷ []) l
       split = Contains-append_cases (start all) (number_known s q ∷ []) l i
 
+      -- if q is frozen, what it carries at its start decides it, and is passed on
       frozen_case : (process_at g q).frozen ≡ true → Contains (start all) l →
           Contains (flat_map (passed g rows s) (before_on_node g order p)) l
       frozen_case e k =
@@ -120,6 +131,7 @@ module _ (g : Graph) (order : List ℕ) (topological : IsTopological g order) (r
           Contains (flat_map (passed g rows s) (before_on_node g order p)) l
       parts k e = elim (Contains-append_cases (flat_map (passed g rows s) (before_on_node g order q) ++ decided g s q
           ++ heard g rows s q) (received g rows s q) l k) [
+            -- it was received by q's row, or is one of before q, decided at q or heard by it
             | inr o ↦ here (passed_executed q l on (Contains-append_left (if (process_at g q).frozen then []
                 else received g rows s q) (number_known s q ∷ []) l
                 (subst (λ (f : Bool). Contains (if f then [] else received g rows s q) l) (sym e) o)))
@@ -138,12 +150,14 @@ module _ (g : Graph) (order : List ℕ) (topological : IsTopological g order) (r
                 ]
           ]
 
+      -- the literal is passed on before p: either as q's own count or as one of its start
       by : (f : Bool) → (process_at g q).frozen ≡ f → Contains (flat_map (passed g rows s) (before_on_node g order p)) l
       by f e = elim split [
         | inr k ↦ here (passed_executed q l on (count f e k))
         | inl k ↦ of_start f e k
       ]
         where
+          -- a literal of the start, by whether q is frozen
           of_start : (f : Bool) → (process_at g q).frozen ≡ f → Contains (start all) l →
               Contains (flat_map (passed g rows s) (before_on_node g order p)) l
           of_start true e k = frozen_case e k
@@ -156,6 +170,7 @@ module _ (g : Graph) (order : List ℕ) (topological : IsTopological g order) (r
   heard_support node c = if node_of g (process_of g c) == node then carried_at_end g order rows s (process_of g c)
       else carried_by_row rows s (broadcast_item g c)
 
+  -- a process before another one on the same node is among those before it there
   own_before : (p q : ℕ) → q < process_count g → place order q < place order p → node_of g q ≡ node_of g p →
       Contains (before_on_node g order p) q
   own_before p q l less same = Contains-filter (λ (u : ℕ). node_of g u == node_of g p) (before order p) q
@@ -168,9 +183,11 @@ module _ (g : Graph) (order : List ℕ) (topological : IsTopological g order) (r
         Contains (heard_support (node_of g p) c) l →
         Contains (flat_map (passed g rows s) (before_on_node g order p) ++ heard g rows s p) l
     heard_carried c j l i =
+        -- the condition c, which decides p
         let r = Contains-filter_parts (decides g s.values p) (numbers_below (condition_count g)) c j in
         let low = numbers-Contains (condition_count g) c r.0 in
         elim (cases_eq (node_of g (process_of g c)) (node_of g p)) [
+          -- its process is on the node: its end is carried
           | inl e ↦ Contains-append_left (flat_map (passed g rows s) (before_on_node g order p)) (heard g rows s p) l
               (end_carried p (process_of g c) (own_before p (process_of g c) (process_of_below g c low)
               (decides_earlier g order topological s.values p c low r.1) e)
@@ -178,6 +195,7 @@ module _ (g : Graph) (order : List ℕ) (topological : IsTopological g order) (r
               (subst (λ (b : Bool). Contains (if b then carried_at_end g order rows s (process_of g c)
               else carried_by_row rows s (broadcast_item g c)) l)
               (eq-eqb (node_of g (process_of g c)) (node_of g p) e) i))
+          -- it is heard there by a broadcast
           | inr n ↦ Contains-append_right (flat_map (passed g rows s) (before_on_node g order p)) (heard g rows s p) l
               (Contains-flat_map (λ d. if node_of g (process_of g d) == node_of g p then []
               else carried_by_row rows s (broadcast_item g d)) (deciding g s.values p) c l j
@@ -228,6 +246,7 @@ module _ (g : Graph) (order : List ℕ) (topological : IsTopological g order) (r
       Contains (flat_map (passed g rows s) (before_on_node g order p) ++ received g rows s p) l
   input_carried p e j way low on l i = by (is_message g e) refl way
     where
+      -- a literal of a message is received, and one of an input of the node itself is passed on
       by : (m : Bool) → is_message g e ≡ m → node_of g (source g e) ≡ node_of g p ⊎ (is_message g e ≡ true) →
           Contains (flat_map (passed g rows s) (before_on_node g order p) ++ received g rows s p) l
       by true is w =
@@ -245,6 +264,7 @@ module _ (g : Graph) (order : List ℕ) (topological : IsTopological g order) (r
           else carried_at_end g order rows s (source g e)) l) is i))
       by false is (inr other) = absurd (apart (sym is ∙ other))
         where
+          -- what is excluded: an input of the node that is a message
           apart : false ≡ true → ⊥
           apart e = cc
 
@@ -257,12 +277,15 @@ module _ (g : Graph) (order : List ℕ) (topological : IsTopological g order) (r
       Contains (carried_at_start g order rows s p) l
   start_carried p e l i = subst (λ (f : Bool). Contains (if f then decided g s p else all) l) (sym e) (by i)
     where
+      -- what the processes before p on its node pass on
       on : List Literal
       on = flat_map (passed g rows s) (before_on_node g order p)
 
+      -- all that p carries at its start
       all : List Literal
       all = on ++ decided g s p ++ heard g rows s p ++ received g rows s p
 
+      -- literals of the wait, and those of the inputs, are among all
       by : Contains (on ++ decided g s p ++ heard g rows s p) l ⊎ Contains (on ++ received g rows s p) l →
           Contains all l
       by (inl m) = Contains-append_left (on ++ decided g s p ++ heard g rows s p) (received g rows s p) l m
@@ -308,6 +331,7 @@ module _ (g : Graph) (order : List ℕ) (topological : IsTopological g order) (r
         | inl k ↦ of_start (process_at g q).frozen refl k
       ]
     where
+      -- all that an unfrozen process carries at its start
       all : List Literal
       all = flat_map (passed g rows s) (before_on_node g order q) ++ decided g s q ++ heard g rows s q
           ++ received g rows s q

@@ -14,6 +14,7 @@ use Rattle.cpg_expand.specs.Earlier.{IsAskedOf, IsAskedTree, IsBetween, IsBothTr
 use Rattle.cpg_expand.specs.Guarded.{IsTestedOn, is_tested}
 use Rattle.cpg_expand.proofs.AgreeingTrees.{agrees_constant}
 
+-- what is excluded: a test that passes and fails
 apart : true ≡ false → ⊥
 apart e = cc
 
@@ -57,9 +58,11 @@ module _ (g : Graph) (order : List ℕ) (guards : Guards) (node to : ℕ) where
       inr (z, record { within = b.within; there = b.there; after = omega arith; sooner = b.sooner }, always)
 
 module _ (g : Graph) (order : List ℕ) (guards : Guards) (node from to c : ℕ) where
+  -- the tree is true in the outcomes in which one of the first k processes between the places tests c
   abbrev Asked : ℕ → TreeState Bool → Type 0
   Asked k t = IsAskedTree g order guards node from to c k t
 
+  -- what one of the first k processes tests is tested by one of more
   more : (k n : ℕ) (s : Scenario) → k ≤ n → IsAskedOf g order guards node from to c k s.values →
       IsAskedOf g order guards node from to c n s.values
   more k n s l a =
@@ -104,15 +107,19 @@ module _ (g : Graph) (order : List ℕ) (guards : Guards) (node from to c : ℕ)
       Asked q asked → Asked (q + 1) t
   asked_too q tested always asked t between of_tested of_always of_asked tests is pick asks s few z on = by w.0.1 refl
     where
+      -- the path of the scenario in the tree of what q's guard tests
       w : (x : Path Bool) × IsOnPath tested.paths s x
       w = the_path g.faults tested.paths of_tested.each s few
 
+      -- the scenario has at most that tree's faults
       few_there : HasAtMostFaults tested.faults s
       few_there = subst (λ k. HasAtMostFaults k s) (sym of_tested.faults) few
 
+      -- its value there is whether q's guard tests c
       value : w.0.1 ≡ is_tested (tree_of guards q) s.values c
       value = (tests s few).value w.0 w.1
 
+      -- by whether the guard tests c: then the tree is true, and otherwise it is as it was
       by : (b : Bool) → w.0.1 ≡ b →
           (z.1 ≡ true → IsAskedOf g order guards node from to c (q + 1) s.values) ×
           (IsAskedOf g order guards node from to c (q + 1) s.values → z.1 ≡ true)
@@ -137,9 +144,11 @@ pub both_true : (g : Graph) (a b never t : TreeState Bool) → IsTree g a → Is
     IsBothTree g.faults a b t
 both_true g a b never t of_a of_never is pick s few x y z on_x on_y on_z = by x.1 refl
   where
+    -- the scenario has at most the tree's faults
     few_there : HasAtMostFaults a.faults s
     few_there = subst (λ k. HasAtMostFaults k s) (sym of_a.faults) few
 
+    -- by the value of the first tree: the second one's where that is true, and false elsewhere
     by : (d : Bool) → x.1 ≡ d → z.1 ≡ (x.1 && y.1)
     by true e = pick.value s x y z few_there on_x
         (subst (λ (d : Bool). IsOnPath (if d then b.paths else never.paths) s y) (sym e) on_y) on_z

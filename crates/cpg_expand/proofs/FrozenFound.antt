@@ -22,6 +22,7 @@ pub set_count : (old : List (Option ℕ)) (x : ℕ) (latest : Option ℕ) → le
 set_count old x None = refl
 set_count old x (Some time) = length-set old x (Some time)
 
+-- the times of other items stay
 pub set_other : (old : List (Option ℕ)) (x y : ℕ) (latest : Option ℕ) → y ≢ x →
     get_or (set_if old x latest) y None ≡ get_or old y None
 set_other old x y None other = refl
@@ -57,6 +58,7 @@ pub record IsFound (g : Graph) (order : List ℕ) (old : List (Option ℕ)) (x :
 module _ (g : Graph) (order : List ℕ) (topological : IsTopological g order) (old : List (Option ℕ)) (x : ℕ)
     (within : x < length old) (unset : get_or old x None ≡ None)
     (latest : Option ℕ) (above : IsAbove g order old x latest) (reached : IsReachedBy g order old x latest) where
+  -- the latest time is one that x would have in some run
   reached_there : (time : ℕ) → latest ≡ Some time → WouldHave g order old x time
   reached_there time e =
       let r = reached time e in
@@ -72,9 +74,11 @@ module _ (g : Graph) (order : List ℕ) (topological : IsTopological g order) (o
             (some_same up.0 time (sym up.1 ∙ e)) (r.3 t.0 t.1);
       }
     where
+      -- a time between two equal ones is equal to them
       both_ways : (u m time : ℕ) → u ≤ m → m ≡ time → time ≤ u → u ≡ time
       both_ways u m time h e k = omega (arith, h, e, k)
 
+  -- so it is the greatest time that x would have, or none if x is active in no scenario
   it_is : (o : Option ℕ) → o ≡ latest → IsUnfrozenTime g order old x o
   it_is o is = record {
     reached = λ time e. reached_there time (sym is ∙ e);

@@ -47,16 +47,19 @@ module _ (g : Graph) (order : List ℕ) (rows : List (List Column)) (s : Scenari
       (each_of g chooser.faults chooser of_chooser.faults of_chooser) made
       (λ b z e f. f ∙ ap (time_if time) e) chosen)
     where
+      -- the chooser says whether p is active, by the conditions on the guard's way
       chosen : HasValueFrom s (values_known s (way guard s.values)) (active g s.values p) chooser
       chosen = subst (λ (a : Activation). HasValueFrom s (values_known s (way guard s.values)) (is_active a) chooser)
           leads (actives s few)
 
+      -- the values of these decide p
       in_decided : (l : Literal) → Contains (values_known s (way guard s.values)) l → Contains (decided g s p) l
       in_decided l j =
           let r = Contains-map_parts (value_known s) (way guard s.values) l j in
           subst (Contains (decided g s p)) r.2
           (Contains-map (value_known s) (deciding g s.values p) r.0 (on_way r.0 r.1))
 
+      -- a frozen start carries what decides it
       within : (l : Literal) → Contains (values_known s (way guard s.values)) l →
           Contains (carried_at_start g order rows s p) l
       within l j = subst (λ (f : Bool). Contains (if f then decided g s p else flat_map (passed g rows s)
@@ -75,6 +78,7 @@ frozen_value g order frozen s t run p l time is most =
     ∙ ap (λ (b : Bool). if b then Some (greatest (unfrozen_time g order s t p ∷ option_to_list (get_or frozen p None)))
     else None) (ap (item_active g s.values) (item_at-start g p l)))
   where
+    -- by whether p is active: only then has it a time, and its frozen time is the greatest of what it waits for
     go : (b : Bool) → active g s.values p ≡ b →
         (if b then Some time else None)
         ≡ (if b then Some (greatest (unfrozen_time g order s t p ∷ option_to_list (get_or frozen p None))) else None)

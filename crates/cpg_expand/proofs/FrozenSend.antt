@@ -45,15 +45,18 @@ module _ (g : Graph) (order : List ℕ) (rows : List (List Column)) (s : Scenari
       (few_of g.faults goes.faults s of_tree.faults few) (each_of g goes.faults goes of_tree.faults of_tree) made
       (λ b z e f. f ∙ ap (time_if time) e) of_goes)
     where
+      -- what an unfrozen send would carry beside the value by which it is sent
       all : List Literal
       all = flat_map (queued g order rows s) (queued_before g order x) ++ carried_at_end g order rows s (producer g x)
 
+      -- a frozen send carries what decides its producer, and the value by which it is sent
       frozen_says : (l : Literal) → Contains (decided g s (producer g x) ++ sent_by_value g s x) l →
           Contains (carried_at_send g order rows s x) l
       frozen_says l j =
           subst (λ (f : Bool). Contains ((if f then decided g s (producer g x) else all) ++ sent_by_value g s x) l)
           (sym frozen) j
 
+      -- so is all that the tree says
       within : (l : Literal) → Contains says l → Contains (carried_at_send g order rows s x) l
       within l j = elim (at_most l j) [
         | inl i ↦ frozen_says l (Contains-append_left (decided g s (producer g x)) (sent_by_value g s x) l i)
@@ -69,6 +72,7 @@ pub frozen_send_value : (g : Graph) (order : List ℕ) (frozen : List (Option �
 frozen_send_value g order frozen s t run x l time is most =
     go (item_active g s.values (item_at g x)) refl ∙ sym (time_is g order frozen s t run x l)
   where
+    -- by whether the item is active: only then has it a time, and its frozen time is the greatest of what it waits for
     go : (b : Bool) → item_active g s.values (item_at g x) ≡ b → (if b then Some time else None) ≡
         (if b then Some (greatest (unfrozen_time g order s t x ∷ option_to_list (get_or frozen x None))) else None)
     go true on = ap (λ n. Some n) (

@@ -23,10 +23,12 @@ use Rattle.cpg_expand.specs.Sending.{IsTestedTree, IsLiveTree, IsGoesTree, asked
 use Rattle.cpg_expand.proofs.AgreeingTrees.{agrees_map, agrees_weaker}
 use Rattle.cpg_expand.proofs.GuardTrees.{each_of, few_of}
 
+-- the value that is wanted, if it is true, is the condition's own
 same_true : (b : Bool) → same_bool true b ≡ b
 same_true true = refl
 same_true false = refl
 
+-- and with true changes nothing
 and_true : (b : Bool) → (b && true) ≡ b
 and_true true = refl
 and_true false = refl
@@ -46,12 +48,14 @@ same_valued g chooser t of_chooser made s few b first more valued =
 
 -- ---- what an edge asks for
 
+-- an edge asks nothing if it has no `when`, or if there is no condition
 no_question : (o : Option Bool) (c : Option ℕ) → asked_by o c ≡ None →
     (o ≡ None) ⊎ (((w : Bool) × (o ≡ Some w)) × (c ≡ None))
 no_question None c e = inl refl
 no_question (Some w) None e = inr ((w, refl), refl)
 no_question (Some w) (Some d) e = absurd (none-some (d, w) (sym e))
 
+-- an edge that asks for a value has it as its `when`, and asks for its source's condition
 a_question : (o : Option Bool) (c : Option ℕ) (d : ℕ) (w : Bool) → asked_by o c ≡ Some (d, w) →
     (o ≡ Some w) × (c ≡ Some d)
 a_question None c d w e = absurd (none-some (d, w) e)
@@ -59,10 +63,12 @@ a_question (Some v) None d w e = absurd (none-some (d, w) e)
 a_question (Some v) (Some f) d w e =
     (ap (λ (q : Option (ℕ × Bool)). some_value q) e, ap (λ (q : Option (ℕ × Bool)). some_condition q) e)
   where
+    -- the value that is asked for
     some_value : Option (ℕ × Bool) → Option Bool
     some_value None = None
     some_value (Some q) = Some q.1
 
+    -- the condition that is asked for
     some_condition : Option (ℕ × Bool) → Option ℕ
     some_condition None = None
     some_condition (Some q) = Some q.0
@@ -139,6 +145,7 @@ module _ (g : Graph) (x : ℕ) (chooser t : TreeState Bool) where
       (same_valued g chooser t of_chooser made s few (active g s.values (producer g x)) first
       (if active g s.values (producer g x) then sent_by_value g s x else []) valued)
 
+  -- a start is no item that is sent
   no_start : (p : ℕ) → item_at g x ≡ Start p → is_sent_item g (item_at g x) ≡ true → ⊥
   no_start p is sent = true≢false (sym sent ∙ ap (is_sent_item g) is)
 

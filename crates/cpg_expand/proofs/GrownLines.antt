@@ -109,10 +109,12 @@ module _ (g : Graph) (order : List ℕ) (f : ForestState) (bare : IsBare g f) (h
         (omega (arith, l, has.ready)) bare.ready)));
   }
     where
+      -- a node that is ready by nothing yet is ready from 0 on
       first : (r : Ready) → IsReadyFirst g.faults r → IsConstant 0 g.faults (ready_by g f r)
       first (After q) none = absurd none
       first (At t) is = is
 
+  -- the slots of each node are free from 0 on, and nothing is said of them
   free_first : (node : ℕ) → node < length g.nodes → IsFreeLine g order rows s t 0 node (free_of g f node)
   free_first node l = record {
     time = 0;

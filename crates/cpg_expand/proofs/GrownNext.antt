@@ -35,15 +35,18 @@ use Rattle.cpg_expand.proofs.NextPlace.{kept_on, here_on}
 
 -- ---- which items have times
 
+-- a frozen item is a start or is sent
 frozen_kind : (g : Graph) (x : ℕ) → ItemCases g x → is_frozen g x ≡ true → (x < process_count g) ⊎ (is_sent g x ≡ true)
 frozen_kind g x (inl c) f = inl c.0
 frozen_kind g x (inr (inl c)) f = inr (ap (is_sent_item g) c.3
     ∙ (and_parts (is_message g c.0) (edge_at g c.0).frozen (sym (ap (is_frozen_item g) c.3) ∙ f)).0)
 frozen_kind g x (inr (inr c)) f = absurd (apart (sym (ap (is_frozen_item g) c.3) ∙ f))
   where
+    -- what is excluded: a broadcast or message that is frozen and isn't sent
     apart : false ≡ true → ⊥
     apart e = cc
 
+-- what is no start and isn't sent is active in no scenario
 unsent_idle : (g : Graph) (values : List Bool) (x : ℕ) → process_count g ≤ x → ItemCases g x → is_sent g x ≡ false →
     item_active g values (item_at g x) ≡ false
 unsent_idle g values x big (inl c) h = absurd (let k = c.0 in omega (arith, big, k))
@@ -57,6 +60,7 @@ unsent_idle g values x big (inr (inr c)) h = ap (item_active g values) c.3
 module _ (g : Graph) (order : List ℕ) (topological : IsTopological g order) (p : ℕ) (l : p < process_count g)
     (frozen : List (Option ℕ)) (f : ForestState)
     (sending : IsSending g order p (length (queue_of g p)) frozen f) where
+  -- an item of p or of an earlier process is done, if it has times at all
   done : (x : ℕ) → x < item_count g → (x < process_count g) ⊎ (is_sent g x ≡ true) →
       IsEarlier g order (place order p + 1) x →
       IsDone g order p (length (queue_of g p)) x
@@ -67,12 +71,14 @@ module _ (g : Graph) (order : List ℕ) (topological : IsTopological g order) (p
         (Contains-order (process_count g) order topological.all p l) (omega (arith, sooner, more))))
   ]
     where
+      -- an item of p itself is its start, or one of all that it sends
       by : (x < process_count g) ⊎ (is_sent g x ≡ true) → producer g x ≡ p →
           (x ≡ p) ⊎ Contains (take (length (queue_of g p)) (queue_of g p)) x
       by (inl k) e = inl (sym (ap (producer_of_item g) (item_at-start g x k)) ∙ e)
       by (inr is) e = inr (subst (λ ys. Contains ys x)
           (sym (take_all (length (queue_of g p)) (queue_of g p) (omega arith))) (queue-Contains g p x h is e))
 
+  -- what is done is of p or an earlier process
   its_place : (x : ℕ) → IsDone g order p (length (queue_of g p)) x → IsEarlier g order (place order p + 1) x
   its_place x (inl less) = omega (arith, less)
   its_place x (inr (inl e)) = let at = ap (λ y. place order (producer g y)) e in
@@ -82,6 +88,7 @@ module _ (g : Graph) (order : List ℕ) (topological : IsTopological g order) (p
       let at = ap (place order) q.by in
       omega (arith, at)
 
+  -- the frozen times of all items up to p are settled
   settled_next : AreSettledOf g order (IsEarlier g order (place order p + 1)) frozen
   settled_next = record {
     count = sending.settled.count;
@@ -96,6 +103,7 @@ module _ (g : Graph) (order : List ℕ) (topological : IsTopological g order) (p
   module _ (rows : List (List Column)) (hold : RowsHold g order (place order p + 1) f rows) (s : Scenario) (t : Times)
       (run : IsRun g order frozen s t)
       (lines : SendLines g order rows s t p (length (queue_of g p)) f) where
+    -- what isn't sent has no time, and its tree has none
     unsent_line : (x : ℕ) → process_count g ≤ x → x < item_count g → is_sent g x ≡ false →
         HasValueFrom s (carried g order rows s x) (get_or t.times x None) (times_of g f x)
     unsent_line x big h is = agrees_weaker s (times_of g f x) [] (carried g order rows s x) (λ z. z ≡ None)
@@ -104,6 +112,7 @@ module _ (g : Graph) (order : List ℕ) (topological : IsTopological g order) (p
         ∙ cond-false _ _ _ (unsent_idle g s.values x big (item_cases g x h) is)))
         (agrees_constant s None g.faults (times_of g f x) (λ z. z ≡ None) refl (sending.unsent x big h is))
 
+    -- the trees give the times of all items up to p, whether they are starts, are sent or aren't
     time_line : (x : ℕ) → x < item_count g → IsEarlier g order (place order p + 1) x →
         HasValueFrom s (carried g order rows s x) (get_or t.times x None) (times_of g f x)
     time_line x h sooner = elim (cases_lt x (process_count g)) [
@@ -114,6 +123,7 @@ module _ (g : Graph) (order : List ℕ) (topological : IsTopological g order) (p
       ]
     ]
 
+    -- an item that waits for slots behind p waits for them at p's place, too
     queued_before_it : (node : ℕ) → IsQueuedFor g order (place order p + 1) node →
         IsQueuedFor g order (place order p) node
     queued_before_it node q = record {
@@ -178,6 +188,7 @@ module _ (g : Graph) (order : List ℕ) (topological : IsTopological g order) (p
               (λ z e. e) line.has_value;
         }
 
+    -- the trees give the lines of the run up to the next place
     next_lines : Lines g order rows s t (place order p + 1) f
     next_lines = record {
       times = time_line;
@@ -190,6 +201,7 @@ module _ (g : Graph) (order : List ℕ) (topological : IsTopological g order) (p
       ];
     }
 
+  -- rows that hold the trees up to the next place hold them up to p's
   rows_before : (rows : List (List Column)) → RowsHold g order (place order p + 1) f rows →
       RowsHold g order (place order p) f rows
   rows_before rows hold =

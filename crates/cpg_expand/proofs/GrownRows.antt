@@ -47,6 +47,7 @@ said_of P g h us vs ts rs e f i holds =
 module _ (g : Graph) (urgency : List ℕ) (guards : Guards) (a : IsAdmitted g urgency guards) (order : List ℕ)
     (topological : IsTopological g order) (frozen : List (Option ℕ)) (f : ForestState)
     (grown : IsGrown g order (process_count g) frozen f) where
+  -- each process has a place in the order
   placed : (q : ℕ) → q < process_count g → place order q < process_count g
   placed q l = place_in_order (process_count g) order topological.all q (omega (arith, l))
 
@@ -68,27 +69,34 @@ module _ (g : Graph) (urgency : List ℕ) (guards : Guards) (a : IsAdmitted g ur
     others = λ x off. grown.settled.others x (λ l is early. both_ways _ off is);
   }
 
+  -- the frozen times are those of an order of an admitted graph
   timed : IsTimed g urgency order frozen
   timed = record { admitted = admitted_under g urgency order guards a topological; frozen_times = grown_frozen }
 
+  -- the tree of each item is for the graph's fault count
   faults_of : (x : ℕ) → x < item_count g → (times_of g f x).faults ≡ g.faults
   faults_of x l = (times_tree g f grown.trees x l).faults
 
   module _ (rows : List Row) (are : AreRowsOf g urgency f.times rows) where
+    -- the columns of the rows, row by row
     abbrev columns : List (List Column)
     columns = columns_of_rows rows
 
+    -- each item has a row that is made of its tree
     row_is : (x : ℕ) → x < item_count g → IsRowOf g urgency (times_of g f x) x (get_or rows x no_row)
     row_is x l = are.each x no_row l
 
+    -- the columns of an item are those of its row
     columns_at : (x : ℕ) → x < item_count g → row_at columns x ≡ (get_or rows x no_row).columns
     columns_at x l = get_or-map (λ (row : Row). row.columns) rows x no_row [] (omega (arith, l, are.count))
 
+    -- the row of a start has the paths of its tree, merged
     start_row : (p : ℕ) → p < process_count g → AreMergedOf g urgency (times_of g f p) (row_at columns p)
     start_row p l =
         let inside : p < item_count g = omega (arith, l) in
         subst (AreMergedOf g urgency (times_of g f p)) (sym (columns_at p inside)) ((row_is p inside).start l)
 
+    -- the row of what is sent has the paths of its tree, unmerged
     sent_row : (x : ℕ) → process_count g ≤ x → x < item_count g →
         AreEntriesOf g urgency (times_of g f x) (row_at columns x)
     sent_row x big l = subst (AreEntriesOf g urgency (times_of g f x)) (sym (columns_at x l)) ((row_is x l).send big)
@@ -105,9 +113,11 @@ module _ (g : Graph) (urgency : List ℕ) (guards : Guards) (a : IsAdmitted g ur
           );
     }
 
+    -- in each run the tree of an item gives its time, with the literals that are carried
     tree : (x : ℕ) → x < item_count g → IsTreeOf g order frozen columns x (times_of g f x)
     tree x l s run law ran = (grown.lines columns hold s law run ran).times x l (earlier x l)
 
+    -- each row carries what it has to: that of a start as it is merged, that of a send as it is listed
     carrying_row : (x : ℕ) → x < item_count g → IsCarryingRow g urgency order frozen columns x
     carrying_row x l = elim (cases_lt x (process_count g)) [
       | inl start ↦
@@ -120,6 +130,7 @@ module _ (g : Graph) (urgency : List ℕ) (guards : Guards) (a : IsAdmitted g ur
           (row_at columns x) r.are order frozen timed columns x (tree x l) (faults_of x l) r.by_lows refl
     ]
 
+    -- so all rows do
     carrying : AreCarrying g urgency order frozen columns
     carrying = record {
       count = length-map rows (λ (row : Row). row.columns) ∙ are.count;
@@ -127,6 +138,7 @@ module _ (g : Graph) (urgency : List ℕ) (guards : Guards) (a : IsAdmitted g ur
       merged = λ p l. (start_row p l).merge.merged;
     }
 
+    -- the rows are those of the items, in the order of their numbers
     items : items_of rows ≡ numbers_below (item_count g)
     items = same_number_lists (items_of rows) (numbers_below (item_count g))
         (count ∙ sym (length-range_with_len 0 (item_count g)))
@@ -134,6 +146,7 @@ module _ (g : Graph) (urgency : List ℕ) (guards : Guards) (a : IsAdmitted g ur
         get_or-map (λ (row : Row). row.item) rows x no_row 0 (omega (arith, inside, are.count)) ∙ (row_is x inside).item
         ∙ sym (get_or-range_with_len 0 (item_count g) x 0 inside ∙ omega arith))
       where
+        -- there are as many rows as items
         count : length (items_of rows) ≡ item_count g
         count = length-map rows (λ (row : Row). row.item) ∙ are.count
 

@@ -69,6 +69,7 @@ each_of g m t e is = subst (λ n. HasOnePathEach n t.paths) (sym e) is.each
 pub count_passes : (g : Graph) (p : ℕ) → p < process_count g → is_variable g p ≡ true
 count_passes g p l = ap (λ b. b || (nat_le 128 p && nat_lt p (value_variable (condition_count g)))) (lt-ltb p (process_count g) l)
 
+-- the value of a condition is a variable of the graph
 pub value_passes : (g : Graph) (c : ℕ) → c < condition_count g → is_variable g (128 + c) ≡ true
 value_passes g c l = or_right (nat_lt (128 + c) (process_count g)) (nat_le 128 (128 + c) && nat_lt (128 + c) (value_variable (condition_count g)))
     (and_from (nat_le 128 (128 + c)) (nat_lt (128 + c) (value_variable (condition_count g))) (le-leb 128 (128 + c) (omega arith))
@@ -92,9 +93,11 @@ later_has_value g delay tree t is made s few ls x has_value =
 -- ---- times that are later tell when a node is ready
 
 module _ (delay : ℕ) (s : Scenario) (t : TreeState (Option ℕ)) (ls : List Literal) where
+  -- a path of the tree is one of the later tree, with its time moved
   on_times : (z : Path (Option ℕ)) → IsOnPath t.paths s z → IsOnPath (later_by delay t).paths s (later_path delay z)
   on_times z on = record { stands = Contains-map (later_path delay) t.paths z on.stands; matched = on.matched }
 
+  -- each path of the later tree comes from one of the tree
   of_times : (z : Path ℕ) → IsOnPath (later_by delay t).paths s z → (x : Path (Option ℕ)) × IsOnPath t.paths s x × (later_path delay x ≡ z)
   of_times z on =
       let r = Contains-map_parts (later_path delay) t.paths z on.stands in
@@ -222,6 +225,7 @@ module _ {V : Type 0} (g : Graph) (makes : ℕ → V) (delay d : ℕ) (same_dela
 
 -- ---- the tree that a condition's value picks
 
+-- the number of a condition's variable is that of its value
 number_at : (s : Scenario) (c : ℕ) → number_of s (128 + c) ≡ number_of_value (get_or s.values c false)
 number_at s c = cond-false _ (fault_of s (128 + c)) (number_of_value (get_or s.values (128 + c - 128) false)) (le-ltb (128 + c) 128 (omega arith))
     ∙ ap (λ d. number_of_value (get_or s.values d false)) (let e : 128 + c - 128 ≡ c = omega arith in e)
@@ -255,6 +259,7 @@ pub active_test : (k c : ℕ) (off on : Guard) (f y t : TreeState Bool) → IsAc
     IsActiveTree k (Test c off on) t
 active_test k c off on f y t of_off of_on picks s few = go (get_or s.values c false) refl
   where
+    -- by the value of the first condition: the side that it picks says whether the guard is active
     go : (d : Bool) → get_or s.values c false ≡ d → HasValueFrom s (values_known s (c ∷ (if d then way on s.values else way off s.values)))
         (is_active (if d then outcome_at on s.values else outcome_at off s.values)) t
     go true e = picks s few (values_known s (way on s.values)) (is_active (outcome_at on s.values))
@@ -297,12 +302,15 @@ pub heard_test : (g : Graph) (f : ForestState) (node c : ℕ) (off on : Guard) (
     IsLatest g.faults (later_by (heard_delay g node c) (heard_tree g f node c)) further t → IsHeardTree g f node (Test c off on) t
 heard_test g f node c off on a b further t of_off of_on picks latest s few support time valued = go (get_or s.values c false) refl
   where
+    -- how long after its frame is sent, or its process ends, the node has heard a condition
     delay : ℕ → ℕ
     delay = heard_delay g node
 
+    -- the tree of when c is heard, a delay later than that of its times
     first : HasValueFrom s (support c) (time_later (delay c) (time c)) (later_by (delay c) (heard_tree g f node c))
     first = to_times (delay c) s (heard_tree g f node c) (support c) (time c) (valued c (Contains-first c _))
 
+    -- the later of that and of when the conditions behind c are heard: when all of them are, by the literals of all
     joined : (ws : List ℕ) → HasValueFrom s (value_known s c ∷ support_of s support ws) (latest_of delay time ws) further
         → HasValueFrom s (support_of s support (c ∷ ws)) (latest_of delay time (c ∷ ws)) t
     joined ws second = agrees_weaker s t (support c ++ value_known s c ∷ support_of s support ws) (support_of s support (c ∷ ws))
@@ -311,6 +319,7 @@ heard_test g f node c off on a b further t of_off of_on picks latest s few suppo
         (λ z e. e ∙ sym (latest-cons delay time c ws))
         (latest s few (support c) (value_known s c ∷ support_of s support ws) (time_later (delay c) (time c)) (latest_of delay time ws) first second)
 
+    -- by the value of c: the conditions that are tested behind it are those of the side that it picks
     go : (d : Bool) → get_or s.values c false ≡ d → HasValueFrom s (support_of s support (c ∷ (if d then way on s.values else way off s.values)))
         (latest_of delay time (c ∷ (if d then way on s.values else way off s.values))) t
     go true e = joined (way on s.values) (picks s few (support_of s support (way on s.values)) (latest_of delay time (way on s.values))
@@ -342,6 +351,7 @@ own_early : (g : Graph) (time : ℕ → Option ℕ) (x e : ℕ) (es : List ℕ) 
 own_early g time x e es own there = subst (λ (b : Bool). time_later (if b then slot_length g (home g (message_item g e)) else 0) (time e) ≤ x)
     (sym own) (there e (Contains-first e es) own)
 
+-- if all inputs are from the node itself, the latest is there once the node is ready
 own_latest : (g : Graph) (time : ℕ → Option ℕ) (x : ℕ) (es : List ℕ) → All (λ e. is_message g e ≡ false) es → AreThere g time x es →
     latest_of (input_delay g) time es ≤ x
 own_latest g time x [] own there = omega arith
@@ -386,6 +396,7 @@ module _ (g : Graph) (f : ForestState) (s : Scenario) (first : List Literal) whe
   one_input few wait there both t release e es later latest starts base x has_value support time ready valued =
       let at = time_later (input_delay g e) (time e) in
       let others = latest_of (input_delay g) time es in
+      -- the later of the wait and the input, by the literals of both
       let joined : HasValueFrom s (base ++ support e) (max x at) both =
       latest s few base (support e) x at has_value (later s few (support e) (time e) (valued e (Contains-first e es))) in
       agrees_weaker s t (first ++ ((base ++ support e) ++ flat_map support es)) (first ++ (base ++ flat_map support (e ∷ es)))
@@ -396,9 +407,11 @@ module _ (g : Graph) (f : ForestState) (s : Scenario) (first : List Literal) whe
       (λ y d. d ∙ ap Some (let same : max (max (max x at) release) others ≡ max (max x release) (latest_of (input_delay g) time (e ∷ es)) =
       omega (arith, latest-cons (input_delay g) time e es) in
       same))
+      -- with it as the wait, the other inputs are waited for
       (starts (base ++ support e) (max x at) joined support time (λ d j own. let h = ready d (Contains-rest e es d j) own in omega (arith, h))
       (λ d j. valued d (Contains-rest e es d j)))
     where
+      -- the literals of the wait, of e and of the other inputs are those of the wait and of all inputs
       within : (l : Literal) → Contains (base ++ support e) l ⊎ Contains (flat_map support es) l → Contains (base ++ flat_map support (e ∷ es)) l
       within l (inr j) = Contains-append_right base (support e ++ flat_map support es) l (Contains-append_right (support e) (flat_map support es) l j)
       within l (inl j) =
@@ -481,12 +494,15 @@ pub start_test : (g : Graph) (f : ForestState) (wait : TreeState ℕ) (release :
 start_test g f wait release inputs c off on a b t of_off of_on picks s few base x has_value support time there valued =
     go (get_or s.values c false) refl
   where
+    -- the literals by which a guard leads to a start in this scenario
     says : Guard → List Literal
     says guard = values_known s (way guard s.values) ++ start_says base support inputs (outcome_at guard s.values)
 
+    -- the start to which it leads
     at : Guard → Option ℕ
     at guard = start_at x release (input_delay g) time inputs (outcome_at guard s.values)
 
+    -- by the value of c: the start is that of the side that it picks
     go : (d : Bool) → get_or s.values c false ≡ d →
         HasValueFrom s (values_known s (c ∷ (if d then way on s.values else way off s.values))
         ++ start_says base support inputs (if d then outcome_at on s.values else outcome_at off s.values))
@@ -544,6 +560,7 @@ read_end g v tree t is of made each known =
     )
 
 module _ (g : Graph) (f : ForestState) (node c : ℕ) (further t : TreeState ℕ) where
+  -- by whether the node has the condition's process: its end is heard at once, a frame at its end
   heard_if : (d : Bool) → (node_of g (process_of g c) == node) ≡ d →
       IsLatest g.faults (later_by (if d then 0 else slot_length g (home g (broadcast_item g c)))
       (if d then ends_of g f (process_of g c) else times_of g f (broadcast_item g c))) further t →
@@ -609,6 +626,7 @@ ready_valued g active end wait after t of_active of_end of_wait later each known
     (each_of g active.faults wait of_active.faults of_wait) made of_b
     (picked b refl)
   where
+    -- by whether the process is active: the node is ready at the end, or when the wait is over
     picked : (d : Bool) → b ≡ d → Agrees s second (λ z. z ≡ v) (if d then after else wait)
     picked true e = let both = ends e in
         subst (λ n. Agrees s second (λ z. z ≡ n) after) (sym both.1) (later_has_value g 0 end after of_end later s few second x both.0)
@@ -686,10 +704,12 @@ module _ (g : Graph) (active : TreeState Bool) (of_active : IsTree g active) (s 
       (each_of g active.faults active of_active.faults of_active) (each_of g active.faults y_tree of_active.faults of_y)
       (each_of g active.faults f of_active.faults of_f) made of_b (by b refl)
     where
+      -- by whether the chooser is true: the first tree's value, or the other's without further literals
       by : (d : Bool) → b ≡ d → Agrees s (if d then second else []) (λ z. z ≡ (if d then x else y)) (if d then y_tree else f)
       by true e = valued e
       by false e = other
 
+-- a value if a test passes, and else false, is both together
 and_if : (b v : Bool) → (if b then v else false) ≡ (b && v)
 and_if true v = refl
 and_if false v = refl
@@ -703,6 +723,7 @@ pub tested_valued : (g : Graph) (c : ℕ) (wanted : Bool) (active value is never
     HasOnePathEach never.faults never.paths → DoPathsPass (is_variable g) never.paths → IsPick active is never t →
     IsTestedTree g.faults c wanted active t
 tested_valued g c wanted active value is never t of_active number each same each_is known_is none each_never known_never made s few b first of_b =
+    -- the condition's value in the scenario, which the tree of its number gives by the value's literal
     let v : Bool = get_or s.values c false in
     let valued : Agrees s (exactly (128 + c) (number_of s (128 + c)) ∷ []) (λ (d : Bool). number_of_value d ≡ number_of s (128 + c)) value =
     agrees_number s (128 + c) g.faults number_of_value value few (number_le_top g.faults s few (128 + c)) number in
@@ -711,6 +732,7 @@ tested_valued g c wanted active value is never t of_active number each same each
     (λ (d : Bool). d ≡ same_bool wanted v)
     (few_of g.faults value.faults s number.faults few) each same
     (λ x z e f. f ∙ ap (same_bool wanted) (one_value x v (e ∙ number_at s c))) valued in
+    -- where the other tree is true the value is compared with the wanted one; elsewhere the tree is false
     subst (λ (d : Bool). HasValueFrom s (first ++ (if b then value_known s c ∷ [] else [])) d t) (and_if b (same_bool wanted v))
     (picked_has_value g active of_active s few b first of_b is never t (value_known s c ∷ []) (same_bool wanted v) false
     (same_tree g value is number.faults same.faults each_is known_is)
@@ -730,11 +752,13 @@ sent_valued g share goes end free slots never t of_goes of_end of_free joined ea
     picked_has_value g goes of_goes s few b first of_b slots never t (second ++ third) (slot_from share y x) None
     (same_tree g end slots of_end.faults joined.faults each_slots known_slots)
     (constant_tree g None g.faults never refl each_never none known_never) made
+    -- where the item goes: the first slot behind the end and what is free, by the literals of both
     (λ e. let both = valued e in
     agrees_join s (λ x y z. z ≡ slot_from share y x) end free slots second third (λ z. z ≡ x) (λ z. z ≡ y) (λ z. z ≡ slot_from share y x)
     (few_of g.faults end.faults s of_end.faults few)
     (of_free.faults ∙ sym of_end.faults) (each_of g end.faults end of_end.faults of_end) (each_of g end.faults free of_end.faults of_free) joined
     (λ m n z d f i. i ∙ ap₂ (λ p q. slot_from share q p) d f) both.0 both.1)
+    -- elsewhere: no time
     (agrees_constant s None g.faults never (λ z. z ≡ None) refl none)
 
 -- if the item always goes, the tree of free slots says when it is sent
@@ -777,6 +801,7 @@ free_valued g turn goes sent free after t of_goes of_sent of_free later each kno
     (each_of g goes.faults goes of_goes.faults of_goes) (each_of g goes.faults after of_goes.faults of_after)
     (each_of g goes.faults free of_goes.faults of_free) made of_b (picked b refl)
   where
+    -- by whether the item goes: the slots are free a round after it, or as before
     picked : (d : Bool) → b ≡ d → Agrees s second (λ z. z ≡ v) (if d then after else free)
     picked true e = let both = sends e in
         subst (λ n. Agrees s second (λ z. z ≡ n) after) (sym both.1) (later_has_value g turn sent after of_sent later s few second x both.0)

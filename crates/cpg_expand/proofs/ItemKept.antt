@@ -19,12 +19,15 @@ module _ (g : Graph) (order : List ℕ) (chooser : TreeState Bool) (x : ℕ) (ol
   other_times y other = ap (λ (f : ForestState). times_of g f y) added.is
       ∙ get_or-set_other old.times x y added.sent (no_tree g.faults) other
 
+  -- the trees of ends stay as they were
   pub same_ends : (q : ℕ) → ends_of g new q ≡ ends_of g old q
   same_ends q = ap (λ (f : ForestState). ends_of g f q) added.is
 
+  -- so do the trees of when nodes are ready
   pub same_ready : (node : ℕ) → ready_of g new node ≡ ready_of g old node
   same_ready node = ap (λ (f : ForestState). ready_of g f node) added.is ∙ kept (ready_at g old node)
     where
+      -- whether a node is ready after a process's ends or by a tree of its own
       kept : (r : Ready) →
           ready_by g
           (record { times = set old.times x added.sent; ends = old.ends; ready = old.ready; free = set old.free (home g x) added.freed; wide = old.wide }) r

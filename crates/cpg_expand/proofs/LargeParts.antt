@@ -14,6 +14,7 @@ use Rattle.cpg_expand.proofs.LargeShown.{shown_as}
 -- given: a guard, what makes a leaf of it too large, and a fault
 module _ {T : Type 0} (large : Activation → Type 0) (fits : Guard → TreeState T → Type 0) (wide : Option ℕ)
     (fault : BuildFault) (guard : Guard) where
+  -- the fault says that a tree on the way down a part of the guard is too large
   abbrev IsShown : Guard → Type 0
   IsShown part = ShowsLarge wide (IsLargeDown large fits part) fault
 
@@ -23,10 +24,12 @@ module _ {T : Type 0} (large : Activation → Type 0) (fits : Guard → TreeStat
 
   -- a fault for one side of a test, or for the test's own tree, is one for the guard
   module _ (c : ℕ) (off on : Guard) (is : guard ≡ Test c off on) where
+    -- a fault for the side of `false` is one for the guard
     pub large_off : IsShown off → IsShown guard
     large_off h = subst IsShown (sym is)
         (shown_as (IsLargeDown large fits off) (IsLargeDown large fits (Test c off on)) wide fault (λ x. inl x) h)
 
+    -- a fault for the side of `true` is one for the guard
     pub large_on : IsShown on → IsShown guard
     large_on h = subst IsShown (sym is)
         (shown_as (IsLargeDown large fits on) (IsLargeDown large fits (Test c off on)) wide fault (λ x. inr (inl x)) h)
@@ -41,6 +44,7 @@ module _ {T : Type 0} (large : Activation → Type 0) (fits : Guard → TreeStat
 -- `whole`, `e`, `es`, `is`: the inputs, with the first one apart
 module _ (g : Graph) (f : ForestState) (wait : TreeState ℕ) (wide : Option ℕ) (fault : BuildFault) (whole : List ℕ)
     (e : ℕ) (es : List ℕ) (is : whole ≡ e ∷ es) where
+  -- the fault says that a tree made with some of these inputs is too large
   abbrev IsShownWith : List ℕ → Type 0
   IsShownWith edges = ShowsLarge wide (IsLargeWith g f wait edges) fault
 
@@ -56,6 +60,7 @@ module _ (g : Graph) (f : ForestState) (wait : TreeState ℕ) (wide : Option ℕ
     large_both h = subst IsShownWith (sym is)
         (shown_as (IsLarge both) (IsLargeWith g f wait (e ∷ es)) wide fault (λ x. inr (both, made, inl x)) h)
 
+    -- a fault for the inputs behind e, once e is joined to the wait, is one for all
     pub large_later : ShowsLarge wide (IsLargeWith g f both es) fault → IsShownWith whole
     large_later h = subst IsShownWith (sym is)
         (shown_as (IsLargeWith g f both es) (IsLargeWith g f wait (e ∷ es)) wide fault (λ x. inr (both, made, inr x)) h)

@@ -48,6 +48,7 @@ pub none_named : (A : Type 0) (is_shown : ℕ → Type 0) (fault : BuildFault) �
     ShowsBuildFault is_shown fault
 none_named A is_shown (TooWide x) h = absurd (no_name x h.0)
   where
+    -- what is excluded: a name where there is none
     no_name : (x : ℕ) → None ≡ Some x → ⊥
     no_name x e = cc
 none_named A is_shown OutOfMemory h = tt
@@ -80,6 +81,7 @@ module _ (g : Graph) (urgency : List ℕ) (guards : Guards) (are : AreGuardsOf g
     (lawful : IsOrder order) (k p : ℕ) (within : k < length order)
     (at : p ≡ get_or order k 0)
     (frozen : List (Option ℕ)) (f : ForestState) where
+  -- p stands at the place k
   stands : place order p ≡ k
   stands = ap (place order) at ∙ place_at order lawful k within
 
@@ -99,6 +101,7 @@ module _ (g : Graph) (urgency : List ℕ) (guards : Guards) (are : AreGuardsOf g
   -- a tree that is too large once the process has sent is one along the order
   pub large_left : (node_of g p < length g.nodes) → IsGrown g order (k + 1) frozen f → IsLargeLeft g order p f →
       HasLargeTree g urgency order
+  -- a tree of an item that p sends, which stands before the place reached
   large_left there grown (inl large) =
       let q = in_queue g p large.item large.sent in
       let by_p : place order (producer g large.item) ≡ k = ap (place order) q.by ∙ stands in
@@ -111,6 +114,7 @@ module _ (g : Graph) (urgency : List ℕ) (guards : Guards) (are : AreGuardsOf g
         grown = grown;
         large = inl (large.item, q.within, omega (arith, by_p), large.large);
       }
+  -- a tree of the free slots of p's node
   large_left there grown (inr large) = record {
     guards = guards;
     are = are;

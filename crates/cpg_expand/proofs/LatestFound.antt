@@ -79,6 +79,7 @@ module _ (g : Graph) (A B : ℕ → Scenario → Type 0) where
     ];
   }
     where
+      -- a number by either cause is no later than `last`
       by : (n : ℕ) (s : Scenario) → IsScenario g s → A n s ⊎ B n s → n ≤ last
       by n s law (inl h) = omega (arith, before.above n s law h, one.from)
       by n s law (inr h) = one.above n s law h
@@ -99,18 +100,22 @@ later_raised g tree wanted latest delay (Some time) top = record {
   found = by (later_or latest (time_later delay (Some time)));
 }
   where
+    -- a number no later than another is no later than any maximum with that
     no_later : (n a b latest : ℕ) → n ≡ a → a ≤ b → n ≤ max latest b
     no_later n a b latest e l = omega (arith, e, l)
 
+    -- a delay keeps the order of times
     delayed : (a b d : ℕ) → a ≤ b → time_later d (Some a) ≤ time_later d (Some b)
     delayed a b d l = omega (arith, l)
 
+    -- a maximum is one of the two
     later_or : (a b : ℕ) → (max a b ≡ a) ⊎ (max a b ≡ b)
     later_or a b = elim (cases_lt a b) [
       | inl l ↦ inr (let e : max a b ≡ b = omega (arith, l) in e)
       | inr l ↦ inl (let e : max a b ≡ a = omega (arith, l) in e)
     ]
 
+    -- the new latest time is the old one, or that of the scenario in which the tree has its greatest time
     by : (max latest (time_later delay (Some time)) ≡ latest) ⊎
         (max latest (time_later delay (Some time)) ≡ time_later delay (Some time)) →
         (max latest (time_later delay (Some time)) ≡ latest) ⊎
@@ -121,6 +126,7 @@ later_raised g tree wanted latest delay (Some time) top = record {
 -- ---- conditions
 
 module _ (g : Graph) (f : ForestState) (node c : ℕ) (wanted : TreeState Bool) (old new : ℕ) where
+  -- by whether the condition's process is on the node: its ends without delay, or the frame's times and its length
   heard_if : (d : Bool) → (node_of g (process_of g c) == node) ≡ d →
       IsRaised g (HasLater (if d then ends_of g f (process_of g c) else times_of g f (broadcast_item g c)) wanted
       (if d then 0 else slot_length g (home g (broadcast_item g c)))) old new →
@@ -159,12 +165,14 @@ module _ (g : Graph) (order : List ℕ) (guards : Guards) (f : ForestState) (act
       raised_as g (HasLater (heard_tree g f node c) wanted (heard_delay g node c))
       (HasHeard g order guards f active node from to c) back forth old new r
     where
+      -- when a condition is heard by a tested process is a time of its tree where the test and the activity are true
       back : (n : ℕ) (s : Scenario) → IsScenario g s → HasHeard g order guards f active node from to c n s →
           HasLater (heard_tree g f node c) wanted (heard_delay g node c) n s
       back n s law h =
           let few = scenario_few g s law in
           let x = the_path g.faults asked.paths of_asked.each s few in
           let z = the_path g.faults wanted.paths of_wanted.each s few in
+          -- where the process is active and the test is asked, the wanted tree is true
           record {
             time = h.time;
             has = record {
@@ -179,6 +187,7 @@ module _ (g : Graph) (order : List ℕ) (guards : Guards) (f : ForestState) (act
             is = h.is;
           }
 
+      -- the other way: such a time is one at which a tested condition is heard
       forth : (n : ℕ) (s : Scenario) → IsScenario g s →
           HasLater (heard_tree g f node c) wanted (heard_delay g node c) n s →
           HasHeard g order guards f active node from to c n s
@@ -212,6 +221,7 @@ module _ (g : Graph) (order : List ℕ) (guards : Guards) (f : ForestState) (act
   none_heard first = raised_by_none g (HasHeardOf g order guards f active node from to 0)
       (HasHeardOf g order guards f active node from to 0) (λ n s h. below n s h) first
     where
+      -- no condition is below 0
       below : (n : ℕ) (s : Scenario) → HasHeardOf g order guards f active node from to 0 n s → ⊥
       below n s h = omega (arith, h.below)
 
@@ -225,6 +235,7 @@ module _ (g : Graph) (order : List ℕ) (guards : Guards) (f : ForestState) (act
       (λ n s h. record { condition = h.condition; below = omega (arith, h.below); there = h.there })
       (λ n s h. record { condition = c; below = omega arith; there = h }) first mid last
     where
+      -- a condition below c + 1 is below c, or is c
       split : (n : ℕ) (s : Scenario) → HasHeardOf g order guards f active node from to (c + 1) n s →
           HasHeardOf g order guards f active node from to c n s ⊎
           HasHeard g order guards f active node from to c n s
@@ -255,6 +266,7 @@ module _ (g : Graph) (order : List ℕ) (f : ForestState) (active : TreeState Bo
   none_ended first = raised_by_none g (HasEndedOf g order f active node from to 0)
       (HasEndedOf g order f active node from to 0) (λ n s h. below n s h) first
     where
+      -- no process is below 0
       below : (n : ℕ) (s : Scenario) → HasEndedOf g order f active node from to 0 n s → ⊥
       below n s h = omega (arith, h.below)
 
@@ -267,6 +279,7 @@ module _ (g : Graph) (order : List ℕ) (f : ForestState) (active : TreeState Bo
       (λ n s h. record { process = h.process; below = omega (arith, h.below); there = h.there })
       (λ n s h. record { process = q; below = omega arith; there = h }) first mid last
     where
+      -- a process below q + 1 is below q, or is q
       split : (n : ℕ) (s : Scenario) → HasEndedOf g order f active node from to (q + 1) n s →
           HasEndedOf g order f active node from to q n s ⊎ HasEnded g order f active node from to q n s
       split n s h = elim (cases_lt h.process q) [
@@ -284,6 +297,7 @@ module _ (g : Graph) (order : List ℕ) (f : ForestState) (goes : TreeState Bool
   not_queued y latest off = raised_by_none g (HasQueued g order f goes x y) (HasQueued g order f goes x y)
       (λ n s h. apart (sym h.before ∙ off)) latest
     where
+      -- what is excluded: an item that stands before x and doesn't
       apart : true ≡ false → ⊥
       apart e = cc
 
@@ -299,6 +313,7 @@ module _ (g : Graph) (order : List ℕ) (f : ForestState) (goes : TreeState Bool
   none_queued first =
       raised_by_none g (HasQueuedOf g order f goes x 0) (HasQueuedOf g order f goes x 0) (λ n s h. below n s h) first
     where
+      -- no item is below 0
       below : (n : ℕ) (s : Scenario) → HasQueuedOf g order f goes x 0 n s → ⊥
       below n s h = omega (arith, h.below)
 
@@ -311,6 +326,7 @@ module _ (g : Graph) (order : List ℕ) (f : ForestState) (goes : TreeState Bool
       (λ n s h. record { item = h.item; below = omega (arith, h.below); there = h.there })
       (λ n s h. record { item = y; below = omega arith; there = h }) first mid last
     where
+      -- an item below y + 1 is below y, or is y
       split : (n : ℕ) (s : Scenario) → HasQueuedOf g order f goes x (y + 1) n s →
           HasQueuedOf g order f goes x y n s ⊎ HasQueued g order f goes x y n s
       split n s h = elim (cases_lt h.item y) [
@@ -327,6 +343,7 @@ module _ (g : Graph) (f : ForestState) (active : TreeState Bool) where
   not_raised e latest off =
       raised_by_none g (HasInput g f active e) (HasInput g f active e) (λ n s h. apart (sym h.message ∙ off)) latest
     where
+      -- what is excluded: an input of the node that is a message
       apart : true ≡ false → ⊥
       apart i = cc
 
@@ -340,6 +357,7 @@ module _ (g : Graph) (f : ForestState) (active : TreeState Bool) where
       else ends_of g f (source g e)) active (if b then slot_length g (home g (message_item g e)) else 0)) latest
       last) (sym on) is)
     where
+      -- the input raises the time by its tree, since it is a message
       by_tree : is_message g e ≡ true → IsRaised g (HasLater (input_tree g f e) active (input_delay g e)) latest last →
           IsRaised g (HasInput g f active e) latest last
       by_tree m = raised_as g (HasLater (input_tree g f e) active (input_delay g e)) (HasInput g f active e)

@@ -30,12 +30,15 @@ use Rattle.cpg_expand.proofs.FrozenFound.{some_same}
 
 -- ---- later times have later slots
 
+-- in rounds that take no time, all slots are at the same time
 no_turn : (j k turn off : ℕ) → turn ≡ 0 → j * turn + off ≤ k * turn + off
 no_turn j k turn off e = subst (λ n. j * n + off ≤ k * n + off) (sym e) (omega arith)
 
+-- a slot of a later round is later
 more_turns : (j k turn off : ℕ) → j ≤ k → j * turn + off ≤ k * turn + off
 more_turns j k turn off l = omega (arith, mul-le-mul_right turn l)
 
+-- the first slot from a later time on is no earlier
 next_slot_later : (g : Graph) (node first second : ℕ) → first ≤ second →
     next_slot g node first ≤ next_slot g node second
 next_slot_later g node first second l = elim (cases_lt 0 (round g)) [
@@ -76,44 +79,55 @@ module _ (g : Graph) (order : List ℕ) (frozen : List (Option ℕ)) (topologica
   -- ---- in one scenario
 
   module _ (s : Scenario) (law : IsScenario g s) (t : Times) (run : IsRun g order frozen s t) where
+    -- what the trees say of the send in this run
     here : IsSendByTrees g order f goes end x s t
     here = valued s law t run
 
+    -- the scenario has at most the graph's faults
     few : HasAtMostFaults g.faults s
     few = scenario_few g s law
 
+    -- the latest time that an unfrozen send waits for
     abbrev bounds : ℕ
     bounds = greatest (send_bounds g order s t x)
 
+    -- if the tree says that the item goes, it is active
     acts : HasValueAt goes.paths true s → item_active g s.values (item_at g x) ≡ true
     acts h = sym (here.acts h.0 h.1) ∙ h.2
 
+    -- if the item is active, the tree says that it goes
     goes_there : item_active g s.values (item_at g x) ≡ true → HasValueAt goes.paths true s
     goes_there on = let c = the_path g.faults goes.paths of_goes.each s few in (c.0, c.1, here.acts c.0 c.1 ∙ on)
 
+    -- then the tree of its producer's ends has the end where it goes
     end_there : item_active g s.values (item_at g x) ≡ true → HasWhere end goes (end_in t (producer g x)) s
     end_there on =
         let e = the_path g.faults end.paths of_end.each s few in
         record { has = (e.0, e.1, here.ends e.0 e.1 ∙ here.ended on); there = goes_there on }
 
+    -- an end that this tree has there is the run's
     end_is : (last : ℕ) → HasWhere end goes last s → last ≡ end_in t (producer g x)
     end_is last h =
         some_same last (end_in t (producer g x)) (sym h.has.2 ∙ here.ends h.has.0 h.has.1 ∙ here.ended (acts h.there))
 
+    -- the first slot after the end is one of the bounds
     slot_in : next_slot g (home g x) (end_in t (producer g x)) ≤ bounds
     slot_in = greatest_above (send_bounds g order s t x) (next_slot g (home g x) (end_in t (producer g x)))
         (Contains-first _ _)
 
+    -- a time at which an item queued before it leaves the slots free is no later than the bounds
     queued_below : (m : ℕ) → HasQueuedOf g order f goes x (item_count g) m s → m ≤ bounds
     queued_below m h = omega
         (arith, h.there.there.is, here.came h.item h.there.there.time h.below h.there.before h.there.there.has.has)
 
+    -- what is within the bounds is no later than the send if it weren't frozen
     by_bounds : (m : ℕ) → m ≤ bounds → m ≤ unfrozen_time g order s t x
     by_bounds m h = omega (arith, h, here.value)
 
   -- ---- in all
 
   module _ (m : ℕ) (r : IsSlotAt g order f (share_of g (home g x)) goes end x m) where
+    -- the latest end is one of a run, and so less than 2^59
     last_early : r.last < 2 ^ 59
     last_early =
         let t = a_run g order frozen r.ends.scenario topological in
@@ -123,6 +137,7 @@ module _ (g : Graph) (order : List ℕ) (frozen : List (Option ℕ)) (topologica
           (here r.ends.scenario r.ends.lawful t.0 t.1).early,
         )
 
+    -- the share of the item's node gives the first slot after it
     slot_is : slot_at (share_of g (home g x)) (Some r.last) ≡ next_slot g (home g x) r.last
     slot_is = cond-true _ (next_slot g (home g x) r.last) 0 (lt-ltb r.last (2 ^ 59) last_early)
 
@@ -131,6 +146,7 @@ module _ (g : Graph) (order : List ℕ) (frozen : List (Option ℕ)) (topologica
         item_active g s.values (item_at g x) ≡ true →
         greatest (send_bounds g order s t x) ≤ m
     slot_above s law t run on = send_bounds_le g order s t x m
+        -- the slot from the producer's end on
         (omega (
           arith,
           next_slot_later g (home g x) (end_in t (producer g x)) r.last
@@ -138,6 +154,7 @@ module _ (g : Graph) (order : List ℕ) (frozen : List (Option ℕ)) (topologica
           slot_is,
           r.raised.from,
         ))
+        -- a round after each item before it
         (λ y c a.
         let k = (here s law t run).sent y c a in
         omega (
@@ -147,10 +164,12 @@ module _ (g : Graph) (order : List ℕ) (frozen : List (Option ℕ)) (topologica
               (record { item = y; below = k.3; there = record { before = k.4; there = record { time = k.0; has = record { has = k.1; there = goes_there s law t run on }; is = refl } } }),
         ))
 
+    -- some scenario in which the item is active sends it no earlier than m
     abbrev Reached : Type 0
     Reached = (s : Scenario) × IsScenario g s × (item_active g s.values (item_at g x) ≡ true) ×
         ((t : Times) → IsRun g order frozen s t → m ≤ unfrozen_time g order s t x)
 
+    -- if the tree says that the item goes in a scenario, it is active there
     acts_there : (s : Scenario) → IsScenario g s → HasValueAt goes.paths true s →
         item_active g s.values (item_at g x) ≡ true
     acts_there s law h = let t = a_run g order frozen s topological in acts s law t.0 t.1 h
@@ -159,12 +178,14 @@ module _ (g : Graph) (order : List ℕ) (frozen : List (Option ℕ)) (topologica
     -- end
     slot_reached : Reached
     slot_reached = elim r.raised.found [
+      -- a queued item has raised it: in the scenario in which that is sent as late
       | inr h ↦ (
         h.0,
         h.1,
         acts_there h.0 h.1 h.2.there.there.has.there,
         λ t run. by_bounds h.0 h.1 t run m (queued_below h.0 h.1 t run m h.2),
       )
+      -- nothing has raised it: in the scenario with the latest end
       | inl same ↦ (
         r.ends.scenario,
         r.ends.lawful,
@@ -178,6 +199,7 @@ module _ (g : Graph) (order : List ℕ) (frozen : List (Option ℕ)) (topologica
       )
     ]
       where
+        -- from the slot of the latest end to the send: each is no later than the next
         by_slot : (m a b c all : ℕ) → m ≡ a → a ≡ b → b ≡ c → c ≤ all → m ≤ all
         by_slot m a b c all e f i h = omega (arith, e, f, i, h)
 
@@ -188,6 +210,7 @@ module _ (g : Graph) (order : List ℕ) (frozen : List (Option ℕ)) (topologica
       (unfrozen_time g order s t x ≤ m)
   send_above s law t run on = by latest refl top
     where
+      -- there is a latest time, since the item goes in this scenario, and no run sends it later
       by : (o : Option ℕ) → latest ≡ o → IsLatestSend g order f (share_of g (home g x)) goes end x o →
           (m : ℕ) × (latest ≡ Some m) × (unfrozen_time g order s t x ≤ m)
       by None e none = absurd (none (end_in t (producer g x)) s law (end_there s law t run on))

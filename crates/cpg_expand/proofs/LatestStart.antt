@@ -94,31 +94,38 @@ module _ (g : Graph) (order : List ℕ) (guards : Guards) (frozen : List (Option
   -- ---- in one scenario
 
   module _ (s : Scenario) (law : IsScenario g s) (t : Times) (run : IsRun g order frozen s t) where
+    -- what the trees say of the start in this run
     here : IsStartByTrees g order guards f chooser from p s t
     here = valued s law t run
 
+    -- the latest time that an unfrozen start waits for
     abbrev bounds : ℕ
     bounds = greatest (start_bounds g order s t p)
 
+    -- the tree of when the node is ready at the earliest has the release everywhere
     ready_value : (x : Path (Option ℕ)) → IsOnPath top.ready.paths s x → x.1 ≡ Some (process_at g p).release
     ready_value x on = (agrees_constant s (Some (process_at g p).release) g.faults top.ready
         (λ y. y ≡ Some (process_at g p).release) refl top.at).value x on
 
+    -- if p is active, the chooser is true in this scenario
     acts_there : active g s.values p ≡ true → HasValueAt chooser.paths true s
     acts_there on = let c = the_path g.faults chooser.paths of_chooser.each s (scenario_few g s law) in
         (c.0, c.1, here.acts c.0 c.1 ∙ on)
 
+    -- then the release is a time of that tree where p is active
     ready_there : active g s.values p ≡ true → HasWhere top.ready chooser (process_at g p).release s
     ready_there on =
         let x = the_path g.faults top.ready.paths top.each s (scenario_few g s law) in
         record { has = (x.0, x.1, ready_value x.0 x.1); there = acts_there on }
 
+    -- if the chooser is true in this scenario, p is active
     acts : HasValueAt chooser.paths true s → active g s.values p ≡ true
     acts h = sym (here.acts h.0 h.1) ∙ h.2
 
     -- nothing ends, is heard or comes later than the latest of all
     module _ (m : ℕ) (r : IsLatestAt g order guards f (node_of g p) from (place order p) top.ready
         (inputs g p) chooser m) (on : active g s.values p ≡ true) where
+      -- the release is no later than the latest of all
       release_under : (process_at g p).release ≤ m
       release_under = omega
           (arith, r.top.above (process_at g p).release s law (ready_there on), r.ends.from, r.hears.from, r.raised.from)
@@ -142,6 +149,7 @@ module _ (g : Graph) (order : List ℕ) (guards : Guards) (frozen : List (Option
         r.raised.from,
       )
 
+      -- a condition is heard no later, whether by an end before p or by its own tree
       heard_under : (c : ℕ) →
           HasEndAt g order f from p s (heard_there g t (node_of g p) c) ⊎ IsHeardAt g order guards f from p s t c →
           heard_there g t (node_of g p) c ≤ m
@@ -154,6 +162,7 @@ module _ (g : Graph) (order : List ℕ) (guards : Guards) (frozen : List (Option
         r.raised.from,
       )
 
+      -- a live input is there no later, whether it is a message or of the node itself
       input_under : (e : ℕ) → Contains (inputs g p) e → live g s.values e ≡ true → (b : Bool) → is_message g e ≡ b →
           input_there g t e ≤ m
       input_under e c lives true is =
@@ -167,6 +176,7 @@ module _ (g : Graph) (order : List ℕ) (guards : Guards) (frozen : List (Option
           )
       input_under e c lives false is = end_under (input_there g t e) (here.own e c is lives)
 
+      -- so all that the start waits for is no later
       all_under : bounds ≤ m
       all_under = start_bounds_le g order s t p m release_under
           (λ e c lives. input_under e c lives (is_message g e) refl) (λ q c a. end_under (end_in t q) (here.ends q c a))
@@ -178,6 +188,7 @@ module _ (g : Graph) (order : List ℕ) (guards : Guards) (frozen : List (Option
     ended_below m h =
         omega (arith, h.there.there.is, here.ended h.process h.there.there.time h.there.between h.there.there.has.has)
 
+    -- the time at which a tested condition is heard is one of the bounds
     hearing_below : (m : ℕ) →
         HasHeardOf g order guards f chooser (node_of g p) from (place order p + 1) (condition_count g) m s → m ≤ bounds
     hearing_below m h = omega (arith, h.there.is, here.heard h.condition h.there.time h.there.asked h.there.has)
@@ -199,9 +210,11 @@ module _ (g : Graph) (order : List ℕ) (guards : Guards) (frozen : List (Option
         (time_later (input_delay g e) (Some i.time)) (greatest (input_bounds g s t p)) bounds i.is r.2
         (ap (λ n. time_later (input_delay g e) (Some n)) same) bound (inputs_in g order topological s t p)
       where
+        -- from the input's time to the bounds: each is no later than the next
         under : (m there a b last all : ℕ) → m ≡ b → there ≡ a → a ≡ b → there ≤ last → last ≤ all → m ≤ all
         under m there a b last all e i j k v = omega (arith, e, i, j, k, v)
 
+    -- what is within the bounds is no later than the start if it weren't frozen
     by_bounds : (m : ℕ) → m ≤ bounds → m ≤ unfrozen_time g order s t p
     by_bounds m h = omega (arith, h, here.value)
 
@@ -213,6 +226,7 @@ module _ (g : Graph) (order : List ℕ) (guards : Guards) (frozen : List (Option
       (m : ℕ) × (latest ≡ Some m) × (unfrozen_time g order s t p ≤ m)
   latest_above s law t run on = by latest refl top.is
     where
+      -- there is a latest start, since p is active in this scenario, and no run starts it later
       by : (o : Option ℕ) → latest ≡ o →
           IsLatestOf g order guards f (node_of g p) from (place order p) top.ready (inputs g p) chooser o →
           (m : ℕ) × (latest ≡ Some m) ×
@@ -227,6 +241,7 @@ module _ (g : Graph) (order : List ℕ) (guards : Guards) (frozen : List (Option
   latest_reached m e = by
       (subst (IsLatestOf g order guards f (node_of g p) from (place order p) top.ready (inputs g p) chooser) e top.is)
     where
+      -- if the chooser is true in a scenario, p is active there
       active_there : (s : Scenario) → IsScenario g s → HasValueAt chooser.paths true s → active g s.values p ≡ true
       active_there s law h = let r = a_run g order frozen s topological in acts s law r.0 r.1 h
 
@@ -238,16 +253,21 @@ module _ (g : Graph) (order : List ℕ) (guards : Guards) (frozen : List (Option
       found m n s law on same below =
           (s, law, active_there s law on, λ t run. by_bounds s law t run m (omega (arith, same, below t run)))
 
+      -- the latest start is that of what raised it last: an input, a condition, an end or the release
       by : IsLatestAt g order guards f (node_of g p) from (place order p) top.ready (inputs g p) chooser m →
           (s : Scenario) × IsScenario g s × (active g s.values p ≡ true) ×
           ((t : Times) → IsRun g order frozen s t → m ≤ unfrozen_time g order s t p)
       by r = elim r.raised.found [
+        -- an input
         | inr h ↦ found m m h.0 h.1 h.2.there.has.there refl (λ t run. input_below h.0 h.1 t run m h.2)
         | inl as_heard ↦ elim r.hears.found [
+          -- a condition that is heard
           | inr h ↦ found m r.heard h.0 h.1 h.2.there.acts as_heard (λ t run. hearing_below h.0 h.1 t run r.heard h.2)
           | inl as_ended ↦ elim r.ends.found [
+            -- the end of a process
             | inr h ↦ found m r.ended h.0 h.1 h.2.there.there.has.there (as_heard ∙ as_ended)
                 (λ t run. ended_below h.0 h.1 t run r.ended h.2)
+            -- when the node is ready, or the release
             | inl as_first ↦
                 found m r.first r.top.scenario r.top.lawful r.top.there.there (as_heard ∙ as_ended ∙ as_first)
                 (λ t run.

@@ -18,14 +18,17 @@ use Rattle.cpg_expand.specs.Guarded.{IsByBelow, LeadsBelow}
 
 -- ---- an activation by an input is by one of the graph
 
+-- the first of some edges below n is below n
 first_below : (n : ℕ) (es : List ℕ) → ((e : ℕ) → Contains es e → e < n) → IsByBelow n (by_first es)
 first_below n [] h = tt
 first_below n (e ∷ es) h = h e (Contains-first e es)
 
+-- an activation without an edge is by none that isn't below n
 all_below : (n : ℕ) (b : Bool) → IsByBelow n (if b then Plain else Inactive)
 all_below n true = tt
 all_below n false = tt
 
+-- so is an activation by the live ones of some inputs below n, of a join or not
 by_below : (n : ℕ) (join : Bool) (es : List ℕ) (live : ℕ → Bool) → ((e : ℕ) → Contains es e → e < n) →
     IsByBelow n (activation_by join es live)
 by_below n join [] live h = tt
@@ -33,6 +36,7 @@ by_below n true (e ∷ es) live h =
     first_below n (filter live (e ∷ es)) (λ d c. h d (Contains-filter_parts live (e ∷ es) d c).0)
 by_below n false (e ∷ es) live h = all_below n (list_all live (e ∷ es))
 
+-- what a process does in an outcome is by an edge of the graph, if by one
 activation_below : (g : Graph) (order : List ℕ) → IsTopological g order → (o : List Bool) (p : ℕ) →
     p < process_count g →
     IsByBelow (edge_count g) (activation g o p)
@@ -47,10 +51,12 @@ module _ (g : Graph) (order : List ℕ) (n : ℕ) where
   abbrev SameBefore : ℕ → List Bool → List Bool → Type 0
   SameBefore k o other = (d : ℕ) → place order (process_of g d) < k → get_or other d false ≡ get_or o d false
 
+  -- the outcomes that agree with this one before the place k lead the guard to edges below n
   abbrev LeadsFrom : ℕ → Guard → List Bool → Type 0
   LeadsFrom k guard o = (other : List Bool) → length other ≡ condition_count g → SameBefore k o other →
       IsByBelow n (outcome_at guard other)
 
+  -- if that is so for all outcomes, each leaf of the guard is by an edge below n
   leads_from : (k : ℕ) (guard : Guard) → IsOrderedFrom g order k guard → (o : List Bool) →
       length o ≡ condition_count g → LeadsFrom k guard o →
       LeadsBelow n guard
@@ -64,10 +70,12 @@ module _ (g : Graph) (order : List ℕ) (n : ℕ) where
         (here true other same) (h other far (earlier true other same))),
   )
     where
+      -- an outcome that agrees with one in which c is set has this value of c
       here : (b : Bool) (other : List Bool) → SameBefore (place order (process_of g c) + 1) (set o c b) other →
           get_or other c false ≡ b
       here b other same = same c (omega arith) ∙ get_or-set_same o c b false (omega (arith, ordered.0, long))
 
+      -- and it agrees with the one before c's place, since the test there is of an earlier condition
       earlier : (b : Bool) (other : List Bool) → SameBefore (place order (process_of g c) + 1) (set o c b) other →
           SameBefore k o other
       earlier b other same d l = same d (omega (arith, l, ordered.1)) ∙ get_or-set_other o c d b false

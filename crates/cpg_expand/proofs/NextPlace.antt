@@ -38,12 +38,15 @@ module _ (g : Graph) (order : List ℕ) (topological : IsTopological g order) (i
     (at : place order p ≡ i) where
   -- ---- what a node carries on
 
+  -- p is in the order
   stands : Contains order p
   stands = Contains-order (process_count g) order topological.all p l
 
+  -- its place is one of the order's
   inside : i < length order
   inside = let k = place-lt order p stands in omega (arith, at, k)
 
+  -- it is the process there
   here : p ≡ get_or order i 0
   here = sym (get_or-place order p 0 stands) ∙ ap (λ n. get_or order n 0) at
 
@@ -63,6 +66,7 @@ module _ (g : Graph) (order : List ℕ) (topological : IsTopological g order) (i
   same_before = ap (λ n. filter (λ q. node_of g q == node_of g p) (take n order)) at
 
   module _ (rows : List (List Column)) (s : Scenario) where
+    -- what p and those before it on its node pass on is what the node carries on at the next place
     then_on : (x : Literal) → Contains (flat_map (passed g rows s) (before_on_node g order p) ++ passed g rows s p) x →
         Contains (flat_map (passed g rows s) (on_node g order (i + 1) (node_of g p))) x
     then_on x j =
@@ -91,9 +95,11 @@ module _ (g : Graph) (order : List ℕ) (topological : IsTopological g order) (i
             (λ z. z ≡ v) then_on (λ z e. e) has_value;
       }
         where
+          -- when the node is ready then: at p's end if it is active, and else once it has heard what decides p
           v : ℕ
           v = if active g s.values p then end_in t p else max r h
 
+          -- by whether p is active
           by : (b : Bool) → active g s.values p ≡ b → IsReady g order s t (i + 1) (node_of g p) v
           by true e = ready_active g order topological frozen s t run i p l at r h v e
               (ap (λ (b : Bool). if b then end_in t p else max r h) e)
@@ -155,7 +161,9 @@ module _ (g : Graph) (order : List ℕ) (topological : IsTopological g order) (w
   -- for x, the frozen time is the one set; for any other item that is done, what it waits for has the times of
   -- before, so its frozen time stays right; `low`: the time set is low enough, as x's unfrozen time in a run is
   settled_more is_one more is same count = record {
+    -- there is an entry for each item
     count = count ∙ settled.count;
+    -- x has the time that is set, and what was done keeps its own
     each = λ y h f done. elim (cases_eq y x) [
       | inl e ↦ subst (IsFrozenTime g order more) (sym e) (frozen_time_set g order topological frozen more x l
           (λ z w m. sym (same z (λ e. omega (arith, ap (moment g order) e)))) is)
@@ -166,9 +174,11 @@ module _ (g : Graph) (order : List ℕ) (topological : IsTopological g order) (w
             (settled.each y h f d)
       ]
     ];
+    -- no other item gets a time
     others = λ y no. same y
         (λ e. no (subst (λ z. z < item_count g) (sym e) l) (ap (is_frozen g) e ∙ is_one) (subst More (sym e) one))
         ∙ settled.others y (λ h f done. no h f (grows y done));
+    -- each time is low: x's as an unfrozen time of a run, all others as before
     low = record {
       low = λ y time w e. elim (cases_eq y x) [
         | inl at ↦

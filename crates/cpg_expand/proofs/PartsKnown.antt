@@ -69,6 +69,7 @@ module _ {T : Type 0} where
     found_has_value (k ∷ known) g (At i) r all h is = known_at (k ∷ known) i g r all h is k
     found_has_value known g (Alone t) r all h is = (subst made (sym is) h.0, subst (fits g) (sym is) h.1)
 
+    -- a list of one tree that is made and fits its guard has only such trees
     one_known : (k : KnownGuard T) → made k.tree → fits k.guard.now k.tree → AreKnown made fits (k ∷ [])
     one_known k m t = search rules
 
@@ -106,6 +107,7 @@ module _ {T : Type 0} where
     -- given: a tree that was found before more trees were added
     module _ (first second slice : List (KnownGuard T)) (kept : AreKept first second) (is : slice ≡ second) (g : Guard)
         (found : Source T) (h : IsFound made fits first g found) where
+      -- the tree is still found in the list with more trees
       still : IsFound made fits slice g found
       still = subst (λ (xs : List (KnownGuard T)). IsFound made fits xs g found) (sym is)
           (found_still first second g found kept h)
@@ -114,5 +116,6 @@ module _ {T : Type 0} where
       pub still_there : IsThere slice found
       still_there = found_there slice g found still
 
+      -- what was found before is still there, and its tree still fits the guard
       pub still_has_value : AreKnown made fits second → (r : TreeState T) → IsTreeOf slice found r → made r × fits g r
       still_has_value all r of = found_has_value slice g found r (subst (AreKnown made fits) (sym is) all) still of

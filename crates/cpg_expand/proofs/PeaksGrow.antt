@@ -43,6 +43,7 @@ later_or_first a b c h = elim (cases_eq a b) [
   | inr n ↦ inl (ltb-true a b (sym (cond-false (a == b) c (nat_lt a b) (ne_eqb a b n)) ∙ h))
 ]
 
+-- a time that doesn't go before another is less, or equal with its scenario not first
 sooner_or_not_first : (a b : ℕ) (c : Bool) → (if a == b then c else nat_lt a b) ≡ false →
     (b < a) ⊎ ((a ≡ b) × (c ≡ false))
 sooner_or_not_first a b c h = elim (cases_eq a b) [
@@ -54,6 +55,7 @@ sooner_or_not_first a b c h = elim (cases_eq a b) [
   ]
 ]
   where
+    -- of two numbers that differ, the one that isn't greater is less
     less : (a b : ℕ) → b ≤ a → (a ≡ b → ⊥) → b < a
     less a b l n = elim (cases_lt b a) [ inl m ↦ m | inr m ↦ absurd (n (omega arith)) ]
 
@@ -74,14 +76,17 @@ module _ (g : Graph) (urgency : List ℕ) (n : ℕ) (has : ℕ → ℕ → Scena
       (time ≤ peak.time) × (time ≡ peak.time → is_before g urgency s peak.scenario ≡ false)) →
       IsPeakBy g urgency (n + 1) has peak o
   stays peak None a none some = record {
+    -- no process had a time, and the next one has none
     time = a.time;
     scenario = a.scenario;
     none = λ q time s l law h.
         elim (of_next q time s l h) [ inl m ↦ a.none q time s m law h | inr k ↦ none refl time s law k ];
   }
   stays peak (Some p) a none some = record {
+    -- no greater time comes from the next process
     most = λ q time s l law h.
         elim (of_next q time s l h) [ inl m ↦ a.most q time s m law h | inr k ↦ (some p refl time s law k).0 ];
+    -- nor an earlier scenario
     least = record {
       lawful = a.least.lawful;
       holds = (a.least.holds.0, omega (arith, a.least.holds.1), a.least.holds.2);
@@ -90,6 +95,7 @@ module _ (g : Graph) (urgency : List ℕ) (n : ℕ) (has : ℕ → ℕ → Scena
         | inr k ↦ (some p refl peak.time t law k).1 refl
       ];
     };
+    -- so p stays the first process
     there = omega (arith, a.there);
     is = a.is;
     first = a.first;
@@ -108,6 +114,7 @@ module _ (g : Graph) (urgency : List ℕ) (n : ℕ) (has : ℕ → ℕ → Scena
       (there : (time : ℕ) (s : Scenario) → IsGreatestOf g urgency paths time s → has n time s) where
     -- ---- the next process has no time
 
+    -- if no path has a time, the process has none in any scenario
     none_of_paths : All (λ (p : Path (Option ℕ)). p.1 ≡ None) paths → (time : ℕ) (s : Scenario) → IsScenario g s →
         has n time s → ⊥
     none_of_paths none time s law h = let v = into time s law h in
@@ -116,15 +123,19 @@ module _ (g : Graph) (urgency : List ℕ) (n : ℕ) (has : ℕ → ℕ → Scena
     -- ---- the next process has the greatest time
 
     module _ (time : ℕ) (scenario : Scenario) (greatest : IsGreatestOf g urgency paths time scenario) where
+      -- the peak that the next process is by its greatest time
       abbrev new : Peak
       new = record { time = time; scenario = scenario; process = Some n }
 
+      -- no time of the next process is greater
       at_most : (other : ℕ) (s : Scenario) → IsScenario g s → has n other s → other ≤ time
       at_most other s law h = let v = into other s law h in greatest.most v.0 other v.1.stands v.2
 
+      -- no scenario before it has this time
       not_earlier : (s : Scenario) → IsScenario g s → has n time s → is_before g urgency s scenario ≡ false
       not_earlier s law h = greatest.least.least s law (into time s law h)
 
+      -- the next process has this time in this scenario
       here : has n time scenario
       here = there time scenario greatest
 
@@ -146,18 +157,22 @@ module _ (g : Graph) (urgency : List ℕ) (n : ℕ) (has : ℕ → ℕ → Scena
         first = first;
       }
 
+      -- if its time goes before the old peak's, the next process is the peak
       goes : (peak : Peak) (o : Option ℕ) → IsPeakBy g urgency n has peak o →
           goes_before_by g urgency peak time scenario o ≡ true →
           IsPeakOf g urgency (n + 1) has new n
+      -- there was no peak, so no process has a time
       goes peak None a t = comes
           (λ q other s l law h. absurd (a.none q other s l law h))
           (λ q s l law h. absurd (a.none q time s l law h))
           (λ q l h. a.none q time scenario l greatest.least.lawful h)
       goes peak (Some p) a t = elim (later_or_first peak.time time (is_before g urgency scenario peak.scenario) t) [
+        -- the time is greater
         | inl less ↦ comes
             (λ q other s l law h. omega (arith, less, a.most q other s l law h))
             (λ q s l law h. absurd (omega (arith, less, a.most q time s l law h)))
             (λ q l h. absurd (omega (arith, less, a.most q time scenario l greatest.least.lawful h)))
+        -- it is the same, and the scenario comes first
         | inr same ↦ comes
             (λ q other s l law h. omega (arith, same.0, a.most q other s l law h))
             (λ q s l law h. not_before_transitive g urgency scenario peak.scenario s
@@ -171,14 +186,17 @@ module _ (g : Graph) (urgency : List ℕ) (n : ℕ) (has : ℕ → ℕ → Scena
       keeps : (peak : Peak) (o : Option ℕ) → IsPeakBy g urgency n has peak o →
           goes_before_by g urgency peak time scenario o ≡ false →
           IsPeakBy g urgency (n + 1) has peak o
+      -- where there is no peak, any time goes before it
       keeps peak None a f = absurd (both_ways (goes_before_by g urgency peak time scenario None) f refl)
       keeps peak (Some p) a f =
           elim (sooner_or_not_first peak.time time (is_before g urgency scenario peak.scenario) f) [
+            -- the peak's time is greater
             | inl less ↦ stays peak (Some p) a (λ e. absurd (none-some p (sym e)))
                 (λ q e other s law h. (
                   omega (arith, less, at_most other s law h),
                   λ i. absurd (omega (arith, less, at_most other s law h, i)),
                 ))
+            -- it is the same, and the scenario doesn't come first
             | inr same ↦ stays peak (Some p) a (λ e. absurd (none-some p (sym e)))
                 (λ q e other s law h. (
                   omega (arith, same.0, at_most other s law h),
@@ -279,6 +297,7 @@ module _ (g : Graph) (urgency : List ℕ) (trees : List (TreeState (Option ℕ))
     excess_value s law x z on_x on_z =
         is.made.value s x z (few_of g.faults end.faults s of_end.faults (scenario_few g s law)) on_x on_z
 
+    -- what process n is past its due in a scenario, the tree of excesses has
     excess_into : (time : ℕ) (s : Scenario) → IsScenario g s → EndsPast g trees n time s →
         HasValueAt is.tree.paths (Some time) s
     excess_into time s law h =
@@ -287,6 +306,7 @@ module _ (g : Graph) (urgency : List ℕ) (trees : List (TreeState (Option ℕ))
         let z = the_path g.faults is.tree.paths is.of.each s (scenario_few g s law) in
         (z.0, z.1, excess_value s law v.0 z.0 v.1 z.1 ∙ ap (time_past (due g n)) v.2 ∙ h.2)
 
+    -- what the tree has, process n is past its due
     excess_from : (time : ℕ) (s : Scenario) → IsScenario g s → HasValueAt is.tree.paths (Some time) s →
         EndsPast g trees n time s
     excess_from time s law v =

@@ -27,6 +27,7 @@ use Rattle.cpg_expand.proofs.PeaksGrow.{past_end}
 
 -- ---- how far a time is past its due
 
+-- a time that is past its due by x is x later, and x isn't 0
 past_is : (o : Option ℕ) (due x : ℕ) → time_past due o ≡ Some x → (0 < x) × (unwrap_or o 0 - due ≡ x)
 past_is None due x e = absurd (none-some x e)
 past_is (Some end) due x e = elim (cases_lt due end) [
@@ -36,6 +37,7 @@ past_is (Some end) due x e = elim (cases_lt due end) [
   | inr l ↦ absurd (none-some x (sym (cond-false (nat_lt due end) (Some (end - due)) None (le-ltb due end l)) ∙ e))
 ]
 
+-- the other way: a time that is later than the due by x, which isn't 0, is past it by x
 past_from : (o : Option ℕ) (due x : ℕ) → 0 < x → unwrap_or o 0 - due ≡ x → time_past due o ≡ Some x
 past_from None due x pos e = absurd (omega (arith, pos, e))
 past_from (Some end) due x pos e =
@@ -71,6 +73,7 @@ module _ (g : Graph) (order : List ℕ) (top : IsTopological g order) (frozen : 
   -- scenario
   module _ (value : Times → ℕ → Option ℕ) (most : Times → ℕ) (m : IsMost value most) (has : ℕ → ℕ → Scenario → Type 0)
       (are : AreValues value has) (urgency : List ℕ) (peak : Peak) where
+    -- no run has a greater number than the peak's time
     run_below : (o : Option ℕ) → IsPeakBy g urgency (process_count g) has peak o → (s : Scenario) (t : Times) →
         IsScenario g s → IsRun g order frozen s t →
         most t ≤ peak.time
@@ -88,6 +91,7 @@ module _ (g : Graph) (order : List ℕ) (top : IsTopological g order) (frozen : 
     run_least : (o : Option ℕ) → IsPeakBy g urgency (process_count g) has peak o →
         IsLeast g urgency (RunHas most peak.time) peak.scenario
     run_least None a =
+        -- no process has a value: the first scenario of all, whose greatest value is 0
         let law : IsScenario g peak.scenario = subst (IsScenario g) (sym a.scenario) (zero_lawful g) in
         let r = a_run g order frozen peak.scenario top in
         record {
@@ -96,6 +100,7 @@ module _ (g : Graph) (order : List ℕ) (top : IsTopological g order) (frozen : 
           least = λ u lawful h. subst (λ z. is_before g urgency u z ≡ false) (sym a.scenario) (zero_first g urgency u);
         }
     run_least (Some p) a =
+        -- process p has the greatest value, in the peak's scenario
         let law = a.least.lawful in
         let r = a_run g order frozen peak.scenario top in
         let there = are.into peak.scenario r.0 law r.1 p peak.time a.there a.is in
@@ -111,6 +116,7 @@ module _ (g : Graph) (order : List ℕ) (top : IsTopological g order) (frozen : 
             ),
           );
           least = λ u lawful h.
+              -- a run with as great a value has it by some process, so its scenario doesn't come before
               let q = m.reached u h.0 r.0 h.1 p a.there (there ∙ ap (λ n. Some n) (sym h.2)) in
               a.least.least u lawful
               (q.0, q.1, subst (λ n. has q.0 n u) h.2 (are.from u h.0 lawful h.1 q.0 (most h.0) q.1 q.2));
@@ -118,6 +124,7 @@ module _ (g : Graph) (order : List ℕ) (top : IsTopological g order) (frozen : 
 
   -- ---- ends
 
+  -- the finish of a run is the greatest of its ends
   ends_most : IsMost (λ t q. get_or t.ends q None) (λ t. t.finish)
   ends_most = record {
     above = λ s t run q x l e. end_below g order frozen s t run q x e;
@@ -130,9 +137,11 @@ module _ (g : Graph) (order : List ℕ) (top : IsTopological g order) (frozen : 
 
   -- ---- how far ends are past their dues
 
+  -- by how much a process ends past its due in a run, if it does
   abbrev past_of : Times → ℕ → Option ℕ
   past_of t q = time_past (due g q) (get_or t.ends q None)
 
+  -- the excess of a run is 0, or that of one of its processes
   past_either : (t : Times) →
       (excess_in_run g t ≡ 0) ⊎ ((q : ℕ) × (q < process_count g) × (past_of t q ≡ Some (excess_in_run g t)))
   past_either t = elim (cases_lt 0 (excess_in_run g t)) [
@@ -149,6 +158,7 @@ module _ (g : Graph) (order : List ℕ) (top : IsTopological g order) (frozen : 
     ]
   ]
 
+  -- the excess of a run is the greatest of those of its processes
   past_most : IsMost past_of (excess_in_run g)
   past_most = record {
     above = λ s t run q x l e.
@@ -170,9 +180,11 @@ module _ (g : Graph) (order : List ℕ) (top : IsTopological g order) (frozen : 
 
   module _ (trees : List (TreeState (Option ℕ))) (all : All (IsTree g) trees) (count : length trees ≡ process_count g)
       (support : GiveEnds g order frozen trees) where
+    -- each process has a tree of its ends
     tree_of : (q : ℕ) → q < process_count g → IsTree g (tree_at g trees q)
     tree_of q l = All-get_or (IsTree g) trees q (no_tree g.faults) (omega (arith, l, count)) all
 
+    -- the trees' values are the ends of the runs
     ends_values : AreValues (λ t q. get_or t.ends q None) (EndsAt g trees)
     ends_values = record {
       into = λ s t law run q x l h. sym (support s t law run q l h.0 h.1) ∙ h.2;
@@ -181,6 +193,7 @@ module _ (g : Graph) (order : List ℕ) (top : IsTopological g order) (frozen : 
           (p.0, p.1, support s t law run q l p.0 p.1 ∙ e);
     }
 
+    -- so what they are past the dues is what the ends of the runs are past them
     past_values : AreValues past_of (EndsPast g trees)
     past_values = record {
       into = λ s t law run q x l h. ap (time_past (due g q)) (ends_values.into s t law run q h.0 l h.1) ∙ h.2;

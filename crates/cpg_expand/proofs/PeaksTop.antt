@@ -25,6 +25,7 @@ use Rattle.cpg_expand.specs.declared.measuring.Peak.{Peak}
 
 -- ---- the bar is 0 or some process's
 
+-- the bar is 0, or the top of some process
 bar_cases : (tops : List (Option ℕ)) →
     (bar_of tops ≡ 0) ⊎ ((q : ℕ) × (q < length tops) × (get_or tops q None ≡ Some (bar_of tops)))
 bar_cases tops = elim (greatest_cases (map (λ o. unwrap_or o 0) tops)) [
@@ -32,6 +33,7 @@ bar_cases tops = elim (greatest_cases (map (λ o. unwrap_or o 0) tops)) [
   | inr c ↦ let r = Contains-map_parts (λ (o : Option ℕ). unwrap_or o 0) tops (bar_of tops) c in at r.0 r.1 r.2
 ]
   where
+    -- for a top that is the bar: it is one of a process unless it is none
     at : (o : Option ℕ) → Contains tops o → unwrap_or o 0 ≡ bar_of tops →
         (bar_of tops ≡ 0) ⊎ ((q : ℕ) × (q < length tops) × (get_or tops q None ≡ Some (bar_of tops)))
     at None m e = inl (sym e)
@@ -52,12 +54,15 @@ module _ (g : Graph) (urgency : List ℕ) (n : ℕ) (has : ℕ → ℕ → Scena
         none r.0 (bar_of tops) top.scenario within top.lawful (record { from = omega arith; is = top.there })
   ]
 
+  -- the peak of the times from the bar on is that of all, whether some process has it or none
   by : (o : Option ℕ) → IsPeakBy g urgency n (HasFrom (bar_of tops) has) peak o → IsPeakBy g urgency n has peak o
+  -- no process has a time from the bar on, so none has any
   by None a = record {
     time = a.time;
     scenario = a.scenario;
     none = λ q time s l law h. none_at_all q time s l law h a.none;
   }
+  -- the peak is from the bar on, and times under the bar are less
   by (Some p) a = record {
     most = λ q time s l law h. elim (cases_lt time (bar_of tops)) [
       | inl under ↦ omega (arith, under, a.is.from)
@@ -91,6 +96,7 @@ top_from t (Some m) none some = some
 module _ (g : Graph) (processes : process_count g ≤ 128) (trees : List (TreeState (Option ℕ)))
     (all : All (IsTree g) trees) (tops : List (Option ℕ)) (are : AreTops trees (length trees) tops)
     (count : length trees ≡ process_count g) where
+  -- the top of a tree of ends is the greatest end that its process has
   top_of : (q : ℕ) → IsTree g (tree_at g trees q) → (o : Option ℕ) → IsTopOf (tree_at g trees q) o →
       IsTop g (EndsAt g trees q) o
   top_of q tree None none = λ time s law h. none-some time
@@ -119,6 +125,7 @@ pub tops_more : (trees : List (TreeState (Option ℕ))) (n : ℕ) (tops new : Li
     AreTops trees (n + 1) new
 tops_more trees n tops new tree o are within is top more = subst (AreTops trees (n + 1)) (sym more) (record {
   count = length-append tops (o ∷ []) ∙ ap (λ m. m + 1) are.count;
+  -- the trees so far keep their tops, and the last is of the new tree
   each = λ q d l. elim (cases_lt q n) [
     | inl m ↦ subst (IsTopOf (get_or trees q d))
         (sym (get_or_append_left tops (o ∷ []) None q (omega (arith, m, are.count)))) (are.each q d m)
@@ -130,12 +137,14 @@ tops_more trees n tops new tree o are within is top more = subst (AreTops trees 
   ];
 })
   where
+    -- the last of the tops is the one that is added
     last : get_or (tops ++ o ∷ []) n None ≡ o
     last = get_or-append_right tops (o ∷ []) n n None are.count (omega arith)
         ∙ ap (λ i. get_or (o ∷ []) i None) (let e : n - n ≡ 0 = omega arith in e)
 
 -- ---- how far they are past their dues
 
+-- a time is past its due by as much as it is later
 past_later : (due time x : ℕ) → time_past due (Some time) ≡ Some x → (due < time) × (x ≡ time - due)
 past_later due time x e = elim (cases_lt due time) [
   | inl l ↦ (l, same_Some _ _ (sym e ∙ cond-true (nat_lt due time) (Some (time - due)) None (lt-ltb due time l)))
@@ -143,10 +152,13 @@ past_later due time x e = elim (cases_lt due time) [
 ]
 
 module _ (g : Graph) (trees : List (TreeState (Option ℕ))) where
+  -- the top of what is past the dues is the top of the ends, past the due
   past_top : (q : ℕ) (o : Option ℕ) → IsTop g (EndsAt g trees q) o →
       IsTop g (EndsPast g trees q) (time_past (due g q) o)
+  -- the process has no end, so none that is past
   past_top q None is = λ time s law h. is h.0 s law h.1
   past_top q (Some top) is = elim (cases_lt (due g q) top) [
+    -- its top is past the due
     | inl l ↦
         let later : time_past (due g q) (Some top) ≡ Some (top - due g q) =
         cond-true (nat_lt (due g q) top) (Some (top - due g q)) None (lt-ltb (due g q) top l) in
@@ -157,6 +169,7 @@ module _ (g : Graph) (trees : List (TreeState (Option ℕ))) where
           lawful = is.lawful;
           there = (top, is.there, later);
         })
+    -- its top isn't past the due, and no other end is
     | inr l ↦ subst (IsTop g (EndsPast g trees q))
         (sym (cond-false (nat_lt (due g q) top) (Some (top - due g q)) None (le-ltb (due g q) top l)))
         (λ time s law h. let past = past_later (due g q) h.0 time h.2 in

@@ -35,9 +35,11 @@ module _ (g : Graph) (order : List ℕ) (topological : IsTopological g order) (r
     (guard : Guard)
     (leads : outcome_at guard s.values ≡ activation g s.values p)
     (on_way : (c : ℕ) → Contains (way guard s.values) c → Contains (deciding g s.values p) c) where
+  -- the literals of the wait: what earlier processes of the node passed on, what decides p, and what it hears
   abbrev wait_says : List Literal
   wait_says = flat_map (passed g rows s) (before_on_node g order p) ++ decided g s p ++ heard g rows s p
 
+  -- what the node carries on after p: what earlier processes and p itself pass on
   abbrev then_says : List Literal
   then_says = flat_map (passed g rows s) (before_on_node g order p) ++ passed g rows s p
 
@@ -52,16 +54,20 @@ module _ (g : Graph) (order : List ℕ) (topological : IsTopological g order) (r
       (readies s few (active g s.values p) (values_known s (way guard s.values)) second
       (get_or t.ends p None) waited v chosen by_end by_wait)
     where
+      -- what says when the node goes on: p's end if it is active, and else the wait
       second : List Literal
       second = if active g s.values p then carried_at_end g order rows s p else wait_says
 
+      -- when it goes on: at p's end if it is active, and else when the wait is over
       v : ℕ
       v = if active g s.values p then end_in t p else waited
 
+      -- the chooser says whether p is active, by the conditions on the guard's way
       chosen : HasValueFrom s (values_known s (way guard s.values)) (active g s.values p) chooser
       chosen = subst (λ (a : Activation). HasValueFrom s (values_known s (way guard s.values)) (is_active a) chooser)
           leads (actives s few)
 
+      -- if p is active, its end decides
       by_end : active g s.values p ≡ true →
           HasValueFrom s second (get_or t.ends p None) end × (v ≡ time_later 0 (get_or t.ends p None))
       by_end e = (
@@ -71,6 +77,7 @@ module _ (g : Graph) (order : List ℕ) (topological : IsTopological g order) (r
             ∙ (let exact = later_exact (get_or t.ends p None) 0 (small.ends p) (omega arith) in omega (arith, exact)),
       )
 
+      -- if it isn't, the wait does
       by_wait : active g s.values p ≡ false → HasValueFrom s second waited wait × (v ≡ waited)
       by_wait e = (
         subst (λ (b : Bool). HasValueFrom s (if b then carried_at_end g order rows s p else wait_says) waited wait)
@@ -78,6 +85,7 @@ module _ (g : Graph) (order : List ℕ) (topological : IsTopological g order) (r
         ap (λ (b : Bool). if b then end_in t p else waited) e,
       )
 
+      -- both are carried on by the node
       of_second : (b : Bool) → active g s.values p ≡ b → (x : Literal) →
           Contains (if b then carried_at_end g order rows s p else wait_says) x →
           Contains then_says x
@@ -87,6 +95,7 @@ module _ (g : Graph) (order : List ℕ) (topological : IsTopological g order) (r
       ]
       of_second false e x j = ready_carried g order topological rows s p x (inr j)
 
+      -- so is all that the tree says
       within : (x : Literal) → Contains (values_known s (way guard s.values) ++ second) x → Contains then_says x
       within x j = elim (Contains-append_cases (values_known s (way guard s.values)) second x j) [
         | inl i ↦ let r = Contains-map_parts (value_known s) (way guard s.values) x i in

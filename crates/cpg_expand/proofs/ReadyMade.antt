@@ -43,9 +43,11 @@ none_waits g order node at k b before is off q below there behind thawed = elim 
   | inr more ↦ by (let e : q ≡ k = omega (arith, below, more) in e)
 ]
   where
+    -- what is excluded: a process that waits and doesn't
     apart : true ≡ false → ⊥
     apart e = cc
 
+    -- the process that waits isn't the next one
     by : q ≡ k → ⊥
     by e = apart (sym (and_from (node_of g k == node) (nat_lt at (place order k) && not (is_frozen g k))
         (eq-eqb (node_of g k) node (ap (node_of g) (sym e) ∙ there))
@@ -65,9 +67,11 @@ none_goes_by g order node at k b before is off y below sent there behind thawed 
   | inr more ↦ by (let e : y ≡ k = omega (arith, below, more) in e)
 ]
   where
+    -- what is excluded: an item that waits and doesn't
     apart : true ≡ false → ⊥
     apart e = cc
 
+    -- the item that waits isn't the next one
     by : y ≡ k → ⊥
     by e = apart (sym
         (and_from (is_sent g k && not (is_frozen g k)) ((home g k == node) && nat_le at (place order (producer g k)))

@@ -25,6 +25,7 @@ use Rattle.cpg_expand.proofs.WideRowsMade.{tables_fit}
 module _ (g : Graph) (urgency : List ℕ) (guards : Guards) (a : IsAdmitted g urgency guards) (order : List ℕ)
     (topological : IsTopological g order) (r : BuiltRows)
     (are : AreBuiltRows g urgency order r) where
+  -- the graph is admitted under this order, too
   admitted : Admitted g urgency order
   admitted = admitted_under g urgency order guards a topological
 
@@ -32,6 +33,7 @@ module _ (g : Graph) (urgency : List ℕ) (guards : Guards) (a : IsAdmitted g ur
   pub built_writable : AreWritable g r.rows.items
   built_writable = found_rows_are_writable g urgency order r.frozen r.rows.items a.limits admitted are.found are.fit
 
+  -- there is a row for each item
   count : length r.rows.items ≡ item_count g
   count = sym (length-map r.rows.items (λ (row : Row). row.item)) ∙ ap length are.found.items
       ∙ length-range_with_len 0 (item_count g)

@@ -30,6 +30,7 @@ rows_more g urgency times n rows more row a new is = record {
   ];
 }
 
+-- a list with an element isn't empty
 cons_nil : {T : Type 0} (x : T) (rest : List T) → x ∷ rest ≡ [] → ⊥
 cons_nil x rest e = cc
 

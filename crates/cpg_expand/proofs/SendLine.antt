@@ -27,10 +27,12 @@ module _ (g : Graph) (order : List ℕ) (rows : List (List Column)) (s : Scenari
   decided_at_end p l j =
       Contains-append_left (carried_at_start g order rows s p) (number_known s p ∷ []) l (by (process_at g p).frozen)
     where
+      -- all that an unfrozen process carries at its start
       all : List Literal
       all = flat_map (passed g rows s) (before_on_node g order p) ++ decided g s p ++ heard g rows s p
           ++ received g rows s p
 
+      -- whether the process is frozen or not, what decides it is among what it carries
       by : (f : Bool) → Contains (if f then decided g s p else all) l
       by true = j
       by false = Contains-append_left (flat_map (passed g rows s) (before_on_node g order p) ++ decided g s p
@@ -48,12 +50,15 @@ module _ (g : Graph) (order : List ℕ) (rows : List (List Column)) (s : Scenari
       (of_goes : HasValueFrom s says (item_active g s.values (item_at g x)) goes)
       (at_most : (l : Literal) → Contains says l → Contains (decided g s (producer g x)) l ⊎
       ((active g s.values (producer g x) ≡ true) × Contains (sent_by_value g s x) l)) where
+    -- what is queued before x carries
     abbrev before_it : List Literal
     before_it = flat_map (queued g order rows s) (queued_before g order x)
 
+    -- what x carries beside its send, if it isn't frozen and but for what its producer's value says
     abbrev unfrozen_says : List Literal
     unfrozen_says = before_it ++ carried_at_end g order rows s (producer g x)
 
+    -- these literals and that value's are carried by an item that isn't frozen
     thawed_says : is_frozen g x ≡ false → (l : Literal) → Contains (unfrozen_says ++ sent_by_value g s x) l →
         Contains (carried_at_send g order rows s x) l
     thawed_says e l j = subst (λ (f : Bool).
@@ -77,6 +82,8 @@ module _ (g : Graph) (order : List ℕ) (rows : List (List Column)) (s : Scenari
         (sends s few (item_active g s.values (item_at g x)) says
         (carried_at_end g order rows s (producer g x)) before_it ended y of_goes (λ on. (ends on, frees)))
       where
+        -- the literals of where x goes are carried: those that decide its producer, and those of a value by which it is
+        -- sent
         of_says : (l : Literal) →
             Contains (decided g s (producer g x)) l ⊎
             ((active g s.values (producer g x) ≡ true) × Contains (sent_by_value g s x) l) →
@@ -86,6 +93,7 @@ module _ (g : Graph) (order : List ℕ) (rows : List (List Column)) (s : Scenari
             (decided_at_end (producer g x) l j)))
         of_says l (inr j) = thawed_says thawed l (Contains-append_right unfrozen_says (sent_by_value g s x) l j.1)
 
+        -- so are the literals of the time: those of the producer's end and of what is queued before x
         of_time : (b : Bool) (l : Literal) →
             Contains (if b then carried_at_end g order rows s (producer g x) ++ before_it else []) l →
             Contains (carried_at_send g order rows s x) l
@@ -93,11 +101,13 @@ module _ (g : Graph) (order : List ℕ) (rows : List (List Column)) (s : Scenari
         of_time true l j = thawed_says thawed l (Contains-append_left unfrozen_says (sent_by_value g s x) l
             (swapped l (Contains-append_cases (carried_at_end g order rows s (producer g x)) before_it l j)))
           where
+            -- the same two parts in the other order
             swapped : (l : Literal) → Contains (carried_at_end g order rows s (producer g x)) l ⊎ Contains before_it l →
                 Contains unfrozen_says l
             swapped l (inl i) = Contains-append_right before_it (carried_at_end g order rows s (producer g x)) l i
             swapped l (inr i) = Contains-append_left before_it (carried_at_end g order rows s (producer g x)) l i
 
+        -- so is all that the tree of the send says
         within : (l : Literal) →
             Contains (says ++ (if item_active g s.values (item_at g x)
             then carried_at_end g order rows s (producer g x) ++ before_it else [])) l →
@@ -119,12 +129,15 @@ module _ (g : Graph) (order : List ℕ) (rows : List (List Column)) (s : Scenari
         (λ z. z ≡ v) within (λ z e. e)
         (frees s few (item_active g s.values (item_at g x)) says second time y v of_goes by_send by_wait)
       where
+        -- what says when the slots are free: the send's literals if x goes, and else those of what is queued before it
         second : List Literal
         second = if item_active g s.values (item_at g x) then carried_at_send g order rows s x else before_it
 
+        -- when they are free: `turn` after the send if x goes, and else as before
         v : ℕ
         v = if item_active g s.values (item_at g x) then time_later turn time else y
 
+        -- if x goes, its time in the run decides
         by_send : item_active g s.values (item_at g x) ≡ true →
             HasValueFrom s second time sent × (v ≡ time_later turn time)
         by_send e = (
@@ -134,6 +147,7 @@ module _ (g : Graph) (order : List ℕ) (rows : List (List Column)) (s : Scenari
               (λ (b : Bool). if b then time_later turn time else y) e,
         )
 
+        -- if x doesn't go, the slots are free when they were before
         by_wait : item_active g s.values (item_at g x) ≡ false → HasValueFrom s second y free × (v ≡ y)
         by_wait e = (
           subst (λ (b : Bool). HasValueFrom s (if b then carried_at_send g order rows s x else before_it) y free)
@@ -141,19 +155,23 @@ module _ (g : Graph) (order : List ℕ) (rows : List (List Column)) (s : Scenari
           ap (λ (b : Bool). if b then time_later turn time else y) e,
         )
 
+        -- the literals of the value by which an active producer sends x
         value_part : List Literal
         value_part = if active g s.values (producer g x) then sent_by_value g s x else []
 
+        -- the literals of the producer's end, if x goes and isn't frozen
         end_part : List Literal
         end_part = if item_active g s.values (item_at g x) && not (is_frozen g x)
             then carried_at_end g order rows s (producer g x) else []
 
+        -- what decides the producer is left to the items behind x
         by_decided : (l : Literal) → Contains (decided g s (producer g x)) l →
             Contains (before_it ++ queued g order rows s x) l
         by_decided l j = Contains-append_right before_it (queued g order rows s x) l
             (Contains-append_left (decided g s (producer g x) ++ value_part) end_part l
             (Contains-append_left (decided g s (producer g x)) value_part l j))
 
+        -- so is the value by which it sends x
         by_value : active g s.values (producer g x) ≡ true → (l : Literal) → Contains (sent_by_value g s x) l →
             Contains (before_it ++ queued g order rows s x) l
         by_value on l j = Contains-append_right before_it (queued g order rows s x) l
@@ -161,6 +179,7 @@ module _ (g : Graph) (order : List ℕ) (rows : List (List Column)) (s : Scenari
             (Contains-append_right (decided g s (producer g x)) value_part l
             (subst (λ (b : Bool). Contains (if b then sent_by_value g s x else []) l) (sym on) j)))
 
+        -- so is what its end carries, if x goes and isn't frozen
         by_end : item_active g s.values (item_at g x) ≡ true → is_frozen g x ≡ false → (l : Literal) →
             Contains (carried_at_end g order rows s (producer g x)) l →
             Contains (before_it ++ queued g order rows s x) l
@@ -169,6 +188,7 @@ module _ (g : Graph) (order : List ℕ) (rows : List (List Column)) (s : Scenari
             (subst (λ (b : Bool). Contains (if b then carried_at_end g order rows s (producer g x) else []) l)
             (sym (ap₂ (λ b c. b && not c) on thawed)) j))
 
+        -- so is all that the send of x carries, by whether x is frozen
         of_sent : item_active g s.values (item_at g x) ≡ true → (f : Bool) → is_frozen g x ≡ f → (l : Literal) →
             Contains ((if f then decided g s (producer g x) else unfrozen_says) ++ sent_by_value g s x) l →
             Contains (before_it ++ queued g order rows s x) l
@@ -184,12 +204,14 @@ module _ (g : Graph) (order : List ℕ) (rows : List (List Column)) (s : Scenari
           ]
         ]
 
+        -- so is what says when the slots are free, by whether x goes
         of_second : (b : Bool) → item_active g s.values (item_at g x) ≡ b → (l : Literal) →
             Contains (if b then carried_at_send g order rows s x else before_it) l →
             Contains (before_it ++ queued g order rows s x) l
         of_second true e l j = of_sent e (is_frozen g x) refl l j
         of_second false e l j = Contains-append_left before_it (queued g order rows s x) l j
 
+        -- so is what says where x goes
         of_says : (l : Literal) →
             Contains (decided g s (producer g x)) l ⊎
             ((active g s.values (producer g x) ≡ true) × Contains (sent_by_value g s x) l) →
@@ -197,6 +219,7 @@ module _ (g : Graph) (order : List ℕ) (rows : List (List Column)) (s : Scenari
         of_says l (inl j) = by_decided l j
         of_says l (inr j) = by_value j.0 l j.1
 
+        -- so is all that the tree of the free slots says
         within : (l : Literal) → Contains (says ++ second) l → Contains (before_it ++ queued g order rows s x) l
         within l j = elim (Contains-append_cases says second l j) [
           | inl i ↦ of_says l (at_most l i)

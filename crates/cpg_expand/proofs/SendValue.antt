@@ -32,6 +32,7 @@ module _ (g : Graph) (order : List ℕ) (topological : IsTopological g order) (s
     (l : p < process_count g) (frozen : List (Option ℕ)) (t : Times) (run : IsRun g order frozen s t)
     (k : ℕ) (inside : k < length (queue_of g p)) (free : ℕ) (is_free : IsMost (IsSentBy g order s p k)
     (free_after g t) free) (thawed : get_or frozen (get_or (queue_of g p) k 0) None ≡ None) where
+  -- the k-th item that p sends
   abbrev here : ℕ
   here = get_or (queue_of g p) k 0
 
@@ -49,14 +50,17 @@ module _ (g : Graph) (order : List ℕ) (topological : IsTopological g order) (s
       else None) ≡ get_or t.times here None
   send_value small acts_by = go (item_active g s.values (item_at g here)) refl
     where
+      -- it is an item of the graph
       within : here < item_count g
       within = (in_queue g p here (here_sent g order topological s p l k inside)).within
 
+      -- if p is active, it has an end in the run
       has_its_end : active g s.values p ≡ true → get_or t.ends p None ≡ Some (end_in t p)
       has_its_end acts =
           let is = has_end g order frozen s t run p l acts in
           is ∙ ap (λ n. Some n) (sym (ap (λ o. unwrap_or o 0) is))
 
+      -- by whether the item is active: only then is it sent, in the first free slot after p's end
       go : (b : Bool) → item_active g s.values (item_at g here) ≡ b →
           (if b then slot_from (share_of g (node_of g p)) free (get_or t.ends p None) else None)
           ≡ get_or t.times here None

@@ -80,6 +80,7 @@ chosen_valued g urgency is_urgency urgent p guard is_guard chooser actives s law
     (λ z e. e ∙ ap (λ (a : Activation). is_active a) (is_guard.is s.values law.values))
     (actives s (scenario_few g s law))
   where
+    -- each of the graph's conditions that decides the process, in the urgency order, is one that decides it
     decides_it : (c : ℕ) → Contains (way guard s.values) c → Contains (deciding g s.values p) c
     decides_it c j =
         let r = Contains-filter_parts (decides g s.values p) (conditions_along g urgency) c
@@ -108,42 +109,54 @@ module _ (g : Graph) (limits : IsWithinLimits g) (order : List ℕ) (topological
   module _ (k : ℕ) (inside : k < length (queue_of g p)) (old new : ForestState) (before after : List (Option ℕ))
       (sending : IsSending g order p k before old)
       (added : IsItemAdded g order chooser (get_or (queue_of g p) k 0) old new before after) where
+    -- the item that is sent next
     abbrev here : ℕ
     here = get_or (queue_of g p) k 0
 
+    -- it is in the queue of p's items
     in_here : Contains (queue_of g p) here
     in_here = here_sent g order topological (record { faults = []; values = [] }) p l k inside
 
+    -- it is an item of the graph
     within : here < item_count g
     within = (in_queue g p here in_here).within
 
+    -- p sends it
     by_p : producer g here ≡ p
     by_p = (in_queue g p here in_here).by
 
+    -- it is sent over the bus
     goes_over : is_sent g here ≡ true
     goes_over = (in_queue g p here in_here).sent
 
+    -- with its two new trees the forest still has all its trees
     trees : HasTrees g new
     trees = has_put g old new here
         (home g here) added.sent added.freed sending.trees added.sent_tree added.freed_tree added.is
 
+    -- what is done by then ranks before it
     later : (y : ℕ) → y < item_count g → IsDone g order p k y → moment g order y < moment g order here
     later = done_sooner g order topological p l k inside
 
+    -- it has no frozen time yet
     unset : get_or before here None ≡ None
     unset = sending.settled.others here (λ h f done. let m = later here within done in absurd (omega (arith, m)))
 
+    -- it isn't among what is done
     apart : (y : ℕ) → y < item_count g → IsDone g order p k y → y ≢ here
     apart y h done e = let m = later y h done in let same = ap (moment g order) e in absurd (omega (arith, m, same))
 
+    -- what is done stays done
     grows : (y : ℕ) → IsDone g order p k y → IsDone g order p (k + 1) y
     grows y (inl e) = inl e
     grows y (inr (inl e)) = inr (inl e)
     grows y (inr (inr c)) = inr (inr (in_next (queue_of g p) k y inside (inl c)))
 
+    -- with it, it is done itself
     one_more : IsDone g order p (k + 1) here
     one_more = inr (inr (in_next (queue_of g p) k here inside (inr refl)))
 
+    -- the first k + 1 items of the queue are the first k and this one
     last_of : (y : ℕ) → Contains (take (k + 1) (queue_of g p)) y → Contains (take k (queue_of g p)) y ⊎ (y ≡ here)
     last_of y c =
         let is : take (k + 1) (queue_of g p) ≡ take k (queue_of g p) ++ here ∷ [] =
@@ -154,17 +167,21 @@ module _ (g : Graph) (limits : IsWithinLimits g) (order : List ℕ) (topological
           | inr i ↦ elim (Contains-cases here [] y i) [ inl e ↦ inr (sym e) | inr j ↦ absurd (Contains-nil y j) ]
         ]
 
+    -- so what is done with it was done before, or is it
     only : (y : ℕ) → IsDone g order p (k + 1) y → IsDone g order p k y ⊎ (y ≡ here)
     only y (inl e) = inl (inl e)
     only y (inr (inl e)) = inl (inr (inl e))
     only y (inr (inr c)) = elim (last_of y c) [ inl i ↦ inl (inr (inr i)) | inr e ↦ inr e ]
 
+    -- it is active only if p is
     acts : (s : Scenario) → item_active g s.values (item_at g here) ≡ true → active g s.values p ≡ true
     acts s on = ap (active g s.values) (sym by_p) ∙ producer_active g s.values (item_at g here) on
 
+    -- p's end ranks before the next place
     p_ends : place order p < place order p + 1
     p_ends = omega arith
 
+    -- each frozen time so far is below 2^58
     early_before : AreEarly before
     early_before = early_from_low g order before limits topological sending.settled.count sending.settled.low
 
@@ -180,10 +197,12 @@ module _ (g : Graph) (limits : IsWithinLimits g) (order : List ℕ) (topological
           | inr i ↦ inr (inr i)
         ]
 
+    -- what is queued before it are items of the graph
     within_before : (y : ℕ) → Contains (queued_before g order here) y → y < item_count g
     within_before y c = numbers-Contains (item_count g) y
         (Contains-filter_parts (λ y. is_queued_before g order y here) (numbers_below (item_count g)) y c).0
 
+    -- what is queued before it is sent by the same node, and stands before it
     by_places : (y : ℕ) → Contains (queued_before g order here) y → stands_before g order y here ≡ true
     by_places y c =
         let b = and_parts (is_sent g y && (home g y == home g here)) _
@@ -194,6 +213,7 @@ module _ (g : Graph) (limits : IsWithinLimits g) (order : List ℕ) (topological
         (λ e. or_right _ _ e)
         (or_cases _ _ b.1))
 
+    -- the other way: an item that stands before it is queued before it
     from_places : (y : ℕ) → y < item_count g → stands_before g order y here ≡ true →
         Contains (queued_before g order here) y
     from_places y h is =
@@ -212,21 +232,26 @@ module _ (g : Graph) (limits : IsWithinLimits g) (order : List ℕ) (topological
     valued_send s law t run =
         let rows : List (List Column) = own_rows old in
         let few = scenario_few g s law in
+        -- what the trees so far say of the run, whose times are below 2^59
         let lines = sending.lines rows (own_rows_hold g order (place order p) old sending.trees) s law t run in
         let small = run_small g order before s t limits topological law early_before run in
+        -- where the item goes, and when its producer ends
         let goes = added.goes_where s few (decided g s (producer g here))
         (subst (λ q. HasValueFrom s (decided g s q) (active g s.values q) chooser) (sym by_p) (chosen s law)) in
         let ends =
         subst (λ q. HasValueFrom s (carried_at_end g order rows s q) (get_or t.ends q None) (ends_of g old q))
         (sym by_p) (lines.ends p l p_ends) in
         record {
+          -- the item is active where the tree says that it goes
           acts = λ c on. goes.value c on;
           ends = λ e on. ends.value e on;
+          -- its producer has ended then
           ended = λ on. subst (λ q. get_or t.ends q None ≡ Some (end_in t q)) (sym by_p)
               (let is = has_end g order before s t run p l (acts s on) in
               is ∙ ap (λ n. Some n) (sym (ap (λ o. unwrap_or o 0) is)));
           early = small.ends (producer g here);
           value = unfrozen_sent g order before s t run here goes_over;
+          -- each active item before it in the queue has its time by its tree
           sent = λ y c a.
               let h = within_before y c in
               let w = the_path g.faults (times_of g old y).paths (times_tree g old sending.trees y h).each s few in (
@@ -236,6 +261,7 @@ module _ (g : Graph) (limits : IsWithinLimits g) (order : List ℕ) (topological
                 h,
                 by_places y c,
               );
+          -- the other way: such a time is one of those that the send waits for
           came = λ y time h is v.
               let c = from_places y h is in
               let r = time_parts g order before s t run y time
@@ -247,9 +273,11 @@ module _ (g : Graph) (limits : IsWithinLimits g) (order : List ℕ) (topological
               omega (arith, r.2, bound);
         }
 
+    -- the ends of its producer have a tree of the graph
     of_ends : IsTree g (ends_of g old (producer g here))
     of_ends = subst (λ q. IsTree g (ends_of g old q)) (sym by_p) (ends_tree g old sending.trees p l)
 
+    -- if it is frozen, its time in `after` is the greatest that it would have in the runs so far
     found : IsFrozenSend g order added.goes here old before after added.sent → IsFound g order before here after
     found f = frozen_found g order topological before here (omega (arith, within, sending.settled.count)) unset f.latest
         (send_above g order before topological old added.goes added.goes_tree
@@ -259,9 +287,11 @@ module _ (g : Graph) (limits : IsWithinLimits g) (order : List ℕ) (topological
 
     -- ---- the frozen times
 
+    -- the frozen times stay settled with it
     settled_then : AreSettledOf g order (IsDone g order p (k + 1)) after
     settled_then = by added.sends
       where
+        -- an unfrozen item leaves them as they are, and a frozen one adds its latest time
         by : IsSentFor g order added.goes here old before after added.sent →
             AreSettledOf g order (IsDone g order p (k + 1)) after
         by (inl th) = subst (AreSettledOf g order (IsDone g order p (k + 1))) (sym th.1)
@@ -272,18 +302,22 @@ module _ (g : Graph) (limits : IsWithinLimits g) (order : List ℕ) (topological
             settled_more g order topological limits (IsDone g order p k) (IsDone g order p (k + 1)) before
             sending.settled here within later grows one_more only f.0 after r.is r.same r.long
 
+    -- all other items keep their frozen times
     same_others : (x : ℕ) → x ≢ here → get_or before x None ≡ get_or after x None
     same_others x other = by added.sends
       where
+        -- by whether it isn't frozen, so that none changes, or is, so that its own alone does
         by : IsSentFor g order added.goes here old before after added.sent → get_or before x None ≡ get_or after x None
         by (inl th) = sym (ap (λ fs. get_or fs x None) th.1)
         by (inr f) = let r = found f.1 in sym (r.same x other)
 
+    -- each of the new frozen times is below 2^58
     early_after : AreEarly after
     early_after = early_from_low g order after limits topological settled_then.count settled_then.low
 
     -- ---- the lines
 
+    -- rows that hold what the new trees list hold what the old ones list
     hold_old : (rows : List (List Column)) → RowsHold g order (place order p) new rows →
         RowsHold g order (place order p) old rows
     hold_old rows hold = record {
@@ -296,6 +330,8 @@ module _ (g : Graph) (limits : IsWithinLimits g) (order : List ℕ) (topological
     -- `rows`, `hold`: the rows that hold the new trees; `s`, `law`, `t`, `run`: a scenario and its run
     module _ (rows : List (List Column)) (hold : RowsHold g order (place order p) new rows) (s : Scenario)
         (law : IsScenario g s) (t : Times) (run : IsRun g order after s t) where
+      -- the old trees give the lines of this run, since its times agree before the item with those under the old frozen
+      -- times
       old_lines : SendLines g order rows s t p k old
       old_lines =
           let r = a_run g order before s topological in
@@ -304,9 +340,11 @@ module _ (g : Graph) (limits : IsWithinLimits g) (order : List ℕ) (topological
           (λ x h m. same_others x (λ e. let same = ap (moment g order) e in absurd (omega (arith, m, same)))))
           rows old (sending.lines rows (hold_old rows hold) s law r.0 r.1)
 
+      -- each time of the run is below 2^59
       small : AreSmall t
       small = run_small g order after s t limits topological law early_after run
 
+      -- the new tree of the item gives its time, with the literals that its row carries
       valued_here : HasValueFrom s (carried g order rows s here) (get_or t.times here None) (times_of g new here)
       valued_here = subst (λ ls. HasValueFrom s ls (get_or t.times here None) (times_of g new here))
           (sym (carried_sent g order rows s here (item_at g here) goes_over))
@@ -315,6 +353,7 @@ module _ (g : Graph) (limits : IsWithinLimits g) (order : List ℕ) (topological
           (λ on. old_lines.ends p l p_ends) old_lines.here refl (omega (arith, within, sending.settled.count)) unset
           (λ is. settled_then.each here within is one_more))
 
+      -- the new tree of free slots says when they are free once it is sent, if a later item waits for that
       freed : IsQueuedFor g order (place order p) (node_of g p) → IsFreeOnce g order rows s t p (k + 1) new
       freed q = free_once g limits order topological rows s law (scenario_few g s law) after t run small p l k inside
           chooser old new before after sending.trees added on_node (chosen s law)
@@ -325,6 +364,7 @@ module _ (g : Graph) (limits : IsWithinLimits g) (order : List ℕ) (topological
       -- the time that is put
       send_lines : SendLines g order rows s t p (k + 1) new
       send_lines = record {
+        -- another item's tree is as before, and this one's has its time
         times = λ x h done. elim (only x done) [
           | inl d ↦ subst
               (λ (tree : TreeState (Option ℕ)). HasValueFrom s (carried g order rows s x) (get_or t.times x None) tree)
@@ -333,6 +373,7 @@ module _ (g : Graph) (limits : IsWithinLimits g) (order : List ℕ) (topological
           | inr e ↦ subst (λ z. HasValueFrom s (carried g order rows s z) (get_or t.times z None) (times_of g new z))
               (sym e) valued_here
         ];
+        -- the ends, and when nodes are ready, are as before
         ends = λ q h less. subst (λ (tree : TreeState (Option ℕ)).
             HasValueFrom s (carried_at_end g order rows s q) (get_or t.ends q None) tree)
             (sym (same_ends g order chooser here old new before after added q)) (old_lines.ends q h less);
@@ -340,17 +381,20 @@ module _ (g : Graph) (limits : IsWithinLimits g) (order : List ℕ) (topological
             (sym (same_ready g order chooser here old new before after added node))
             (old_lines.ready node h w);
         here = freed;
+        -- the slots of other nodes are free as before
         free = λ node h other q. subst (λ (tree : TreeState ℕ). IsFreeLine g order rows s t (place order p) node tree)
             (sym (other_free g order chooser here old new before after added node
             (λ e. other (e ∙ ap (node_of g) by_p)))) (old_lines.free node h other q);
       }
 
+    -- items that no process sends still have a tree without times
     unsent_then : LeavesUnsent g new
     unsent_then x big h is =
         subst (λ (tree : TreeState (Option ℕ)). IsConstant None g.faults tree)
         (sym (other_times g order chooser here old new before after added x
         (λ e. absurd (not_both (sym (ap (is_sent g) e ∙ goes_over) ∙ is))))) (sending.unsent x big h is)
       where
+        -- what is excluded: an item that is sent and isn't
         not_both : true ≡ false → ⊥
         not_both e = cc
 
@@ -370,10 +414,12 @@ module _ (g : Graph) (limits : IsWithinLimits g) (order : List ℕ) (topological
       IsSending g order p k before old → AreItemsAdded g order chooser xs old new before after →
       IsSending g order p (length (queue_of g p)) after new
   rest_sent [] k count is old new before after sending none =
+      -- all that the process sends is sent
       let all : k ≡ length (queue_of g p) = omega (arith, count) in
       subst (λ n. IsSending g order p n after new) all (subst (λ f. IsSending g order p k after f) (sym none.0)
       (subst (λ h. IsSending g order p k h old) (sym none.1) sending))
   rest_sent (x ∷ xs) k count is old new before after sending more =
+      -- the next item is the one at place k of its queue
       let inside : k < length (queue_of g p) = omega (arith, count) in
       let first : x ≡ get_or (queue_of g p) k 0 =
       is 0 (omega arith) ∙ ap (λ n. get_or (queue_of g p) n 0) (let e : k + 0 ≡ k = omega arith in e) in

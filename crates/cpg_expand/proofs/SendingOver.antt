@@ -33,9 +33,11 @@ use Rattle.cpg_expand.specs.Grown.{SendLines, IsDone}
 -- `order`, `topological`: an order of the graph; `p`, `l`: a process; `k`, `inside`: the k-th item that it sends
 module _ (g : Graph) (order : List ℕ) (topological : IsTopological g order) (p : ℕ) (l : p < process_count g) (k : ℕ)
     (inside : k < length (queue_of g p)) where
+  -- the k-th item that p sends
   abbrev here : ℕ
   here = get_or (queue_of g p) k 0
 
+  -- it is in the queue of p's items
   in_here : Contains (queue_of g p) here
   in_here = Contains-get_or (queue_of g p) k 0 inside
 
@@ -65,10 +67,12 @@ module _ (g : Graph) (order : List ℕ) (topological : IsTopological g order) (p
 
   -- given: two times of a scenario that agree before the item
   module _ (s : Scenario) (t u : Times) (a : AgreeBefore g order t u (moment g order here)) where
+    -- the times agree up to p's place, which ranks before the item
     before_place : AgreeBefore g order t u (place order p * phases g)
     before_place = let at = moment_of_sent here in_here in
         agree_sooner g order t u (place order p * phases g) (moment g order here) (omega (arith, at)) a
 
+    -- the end of p, or of a process before it, ranks before the item
     end_before : (q : ℕ) → place order q < place order p + 1 → moment_of_end g order q < moment g order here
     end_before q less =
         let at = moment_of_sent here in_here in
@@ -80,9 +84,11 @@ module _ (g : Graph) (order : List ℕ) (topological : IsTopological g order) (p
               omega (arith, at, e)
         ]
 
+    -- so both times have the same such ends
     end_over : (q : ℕ) → q < process_count g → place order q < place order p + 1 → end_in t q ≡ end_in u q
     end_over q h less = ap (λ o. unwrap_or o 0) (a.ends q h (end_before q less))
 
+    -- by both a node hears a condition that decides such a process at the same time
     heard_over : (node q c : ℕ) → place order q < place order p + 1 → c < condition_count g →
         decides g s.values q c ≡ true →
         heard_there g t node c ≡ heard_there g u node c
@@ -94,6 +100,7 @@ module _ (g : Graph) (order : List ℕ) (topological : IsTopological g order) (p
         (ap (λ o. unwrap_or o 0 + slot_length g (home g (broadcast_item g c)))
         (before_place.items (broadcast_item g c) (omega arith) (broadcast_sooner g order topological p c up)))
 
+    -- by both a node is ready at the same time
     ready_over : (node v : ℕ) → IsReady g order s t (place order p + 1) node v →
         IsReady g order s u (place order p + 1) node v
     ready_over node v r = record {
@@ -103,13 +110,16 @@ module _ (g : Graph) (order : List ℕ) (topological : IsTopological g order) (p
           (λ q c h less on k d. subst (λ n. n ≤ b) (sym (heard_over node q c less k d)) (y q c h less on k d));
     }
 
+    -- after an item that is sent before this one, the slots are free at the same time by both
     after_over : (y : ℕ) → IsSentBy g order s p k y → free_after g t y ≡ free_after g u y
     after_over y b = ap (λ o. unwrap_or o 0 + round g) (a.items y b.0.within (done_sooner y b.0.within (done b.1)))
       where
+        -- an item of an earlier process, or one of p's first k, is done
         done : (place order (producer g y) < place order p) ⊎ Contains (take k (queue_of g p)) y → IsDone g order p k y
         done (inl e) = inl e
         done (inr c) = inr (inr c)
 
+    -- so by both the slots are free at the same time before this item
     free_over : (v : ℕ) → IsMost (IsSentBy g order s p k) (free_after g t) v →
         IsMost (IsSentBy g order s p k) (free_after g u) v
     free_over v m = record {

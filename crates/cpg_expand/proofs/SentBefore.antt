@@ -31,9 +31,11 @@ use Rattle.cpg_expand.proofs.AgreeingTrees.{agrees_weaker}
 -- `order`, `topological`, `s`: an order and a scenario; `p`, `l`, `k`, `inside`: the k-th item that process p sends
 module _ (g : Graph) (order : List ℕ) (topological : IsTopological g order) (s : Scenario) (p : ℕ)
     (l : p < process_count g) (k : ℕ) (inside : k < length (queue_of g p)) where
+  -- the k-th item that p sends
   abbrev here : ℕ
   here = get_or (queue_of g p) k 0
 
+  -- it is in the queue of p's items
   in_here : Contains (queue_of g p) here
   in_here = here_sent g order topological s p l k inside
 
@@ -42,6 +44,7 @@ module _ (g : Graph) (order : List ℕ) (topological : IsTopological g order) (s
   so_far_queued y j =
       let x = in_queue g p here in_here in
       elim (Contains-append_cases (sent_before g order (place order p) (node_of g p)) (take k (queue_of g p)) y j) [
+        -- sent for an earlier process of the node
         | inl i ↦
             let r = Contains-flat_map_parts (queue_of g) (before_on_node g order p) y i in
             let q = in_queue g r.0 y r.2 in
@@ -56,6 +59,7 @@ module _ (g : Graph) (order : List ℕ) (topological : IsTopological g order) (s
             (Contains-order (process_count g) order topological.all (producer g y)
             (producer_in_range g order topological y q.within))
             (omega (arith, o.1, ap (place order) q.by, ap (place order) x.by)))))
+        -- sent before it by the same process
         | inr first ↦
             let q = in_queue g p y (Contains-take k (queue_of g p) y first) in
             let same : (home g y == home g here) ≡ true = eq-eqb _ _ (ap (node_of g) (q.by ∙ sym x.by)) in
@@ -69,11 +73,13 @@ module _ (g : Graph) (order : List ℕ) (topological : IsTopological g order) (s
   pub queued_so_far : (y : ℕ) → Contains (queued_before g order here) y → Contains (sent_so_far g order p k) y
   queued_so_far y j =
       let f = Contains-filter_parts (λ y. is_queued_before g order y here) (numbers_below (item_count g)) y j in
+      -- y is an item of the node that is sent, and stands before this one
       let m : y < item_count g = numbers-Contains (item_count g) y f.0 in
       let b = and_parts _ _ f.1 in
       let d = and_parts _ _ b.0 in
       let x = in_queue g p here in_here in
       ⊎_elim
+      -- by the place of its producer
       (λ (e : comes_before order (producer g y) (producer g here) ≡ true).
       let less = places_from_comes_before order (producer g y) (producer g here) e in
       let in_order = Contains-order (process_count g) order topological.all (producer g y)
@@ -84,6 +90,7 @@ module _ (g : Graph) (order : List ℕ) (topological : IsTopological g order) (s
       (eq-eqb _ _ (eqb-true _ _ d.1 ∙ ap (node_of g) x.by))
       (Contains-before order (producer g y) p in_order (omega (arith, less, ap (place order) x.by))))
       (queue-Contains g (producer g y) y m d.0 refl)))
+      -- or by its own rank, if they have one producer
       (λ (e : ((producer g y == producer g here) && ltb (rank_of_item (item_at g y)) (rank_of_item (item_at g here))) ≡ true).
       let w = and_parts (producer g y == producer g here) _ e in
       Contains-append_right (sent_before g order (place order p) (node_of g p)) (take k (queue_of g p)) y
@@ -92,6 +99,7 @@ module _ (g : Graph) (order : List ℕ) (topological : IsTopological g order) (s
       (or_cases _ _ b.1)
 
   module _ (rows : List (List Column)) where
+    -- all that some items leave to those behind them
     abbrev support_all : List ℕ → List Literal
     support_all = flat_map (queued g order rows s)
 
@@ -116,6 +124,7 @@ module _ (g : Graph) (order : List ℕ) (topological : IsTopological g order) (s
         (support_all (sent_so_far g order p (k + 1))) (λ z. z ≡ y) (λ z. z ≡ y)
         within (λ z e. e)
       where
+        -- what is sent before the item is sent before the next one, too
         grown : (z : ℕ) → Contains (sent_so_far g order p k) z → Contains (sent_so_far g order p (k + 1)) z
         grown z j = elim (Contains-append_cases (sent_before g order (place order p) (node_of g p))
             (take k (queue_of g p)) z j) [
@@ -126,6 +135,7 @@ module _ (g : Graph) (order : List ℕ) (topological : IsTopological g order) (s
                   (take (k + 1) (queue_of g p)) z (in_next (queue_of g p) k z inside (inl i))
             ]
 
+        -- what stands before the item, and the item itself, are all that is sent by then
         within : (m : Literal) → Contains (support_all (queued_before g order here) ++ queued g order rows s here) m →
             Contains (support_all (sent_so_far g order p (k + 1))) m
         within m j =

@@ -53,21 +53,27 @@ module _ (g : Graph) (limits : IsWithinLimits g) (order : List ℕ) (topological
     (few : HasAtMostFaults g.faults s)
     (frozen : List (Option ℕ)) (t : Times) (run : IsRun g order frozen s t) (small : AreSmall t) (p : ℕ)
     (l : p < process_count g) (k : ℕ) (inside : k < length (queue_of g p)) where
+  -- the k-th item that p sends
   abbrev here : ℕ
   here = get_or (queue_of g p) k 0
 
+  -- it is in the queue of p's items
   in_here : Contains (queue_of g p) here
   in_here = here_sent g order topological s p l k inside
 
+  -- it is an item of the graph
   within : here < item_count g
   within = (in_queue g p here in_here).within
 
+  -- p sends it
   by : producer g here ≡ p
   by = (in_queue g p here in_here).by
 
+  -- whether it goes in this scenario
   abbrev Sent : Bool
   Sent = item_active g s.values (item_at g here)
 
+  -- if it goes, its producer is active
   acts : item_active g s.values (item_at g here) ≡ true → active g s.values (producer g here) ≡ true
   acts = producer_active g s.values (item_at g here)
 
@@ -89,16 +95,20 @@ module _ (g : Graph) (limits : IsWithinLimits g) (order : List ℕ) (topological
       (long : here < length before)
       (unset : get_or before here None ≡ None)
       (settled : is_frozen g here ≡ true → IsFrozenTime g order frozen here) where
+    -- the literals of the value by which an active producer sends it
     value_part : List Literal
     value_part = if active g s.values (producer g here) then sent_by_value g s here else []
 
+    -- what says whether it goes: what decides its producer, and the value by which that sends it
     abbrev says : List Literal
     says = decided g s (producer g here) ++ (if active g s.values (producer g here) then sent_by_value g s here else [])
 
+    -- the tree of where it goes agrees with these literals
     of_goes : HasValueFrom s says (item_active g s.values (item_at g here)) added.goes
     of_goes = added.goes_where s few (decided g s (producer g here))
         (subst (λ q. HasValueFrom s (decided g s q) (active g s.values q) chooser) (sym by) chosen)
 
+    -- each of them decides the producer, or is of a value by which an active producer sends it
     at_most : (m : Literal) → Contains says m →
         Contains (decided g s (producer g here)) m ⊎
         ((active g s.values (producer g here) ≡ true) × Contains (sent_by_value g s here) m)
@@ -108,6 +118,7 @@ module _ (g : Graph) (limits : IsWithinLimits g) (order : List ℕ) (topological
           | inr i ↦ inr (of_value (active g s.values (producer g here)) refl i)
         ]
       where
+        -- by whether the producer is active: only then are there literals of a value
         of_value : (b : Bool) → active g s.values (producer g here) ≡ b →
             Contains (if b then sent_by_value g s here else []) m →
             (active g s.values (producer g here) ≡ true) ×
@@ -115,6 +126,7 @@ module _ (g : Graph) (limits : IsWithinLimits g) (order : List ℕ) (topological
         of_value true e i = (e, i)
         of_value false e i = absurd (Contains-nil m i)
 
+    -- if it goes, the old trees give the end of its producer
     ends_valued : item_active g s.values (item_at g here) ≡ true →
         HasValueFrom s (carried_at_end g order rows s (producer g here)) (get_or t.ends p None)
         (ends_of g old (producer g here))
@@ -122,6 +134,7 @@ module _ (g : Graph) (limits : IsWithinLimits g) (order : List ℕ) (topological
         subst (λ q. HasValueFrom s (carried_at_end g order rows s q) (get_or t.ends p None) (ends_of g old q)) (sym by)
         (ended (ap (active g s.values) (sym by) ∙ acts on))
 
+    -- the old tree of free slots says when what is queued before it leaves them free
     waits : (o : IsFreeOnce g order rows s t p k old) →
         HasValueFrom s (flat_map (queued g order rows s) (queued_before g order here)) o.time
         (free_of g old (home g here))
@@ -147,6 +160,7 @@ module _ (g : Graph) (limits : IsWithinLimits g) (order : List ℕ) (topological
         (ends_of g old (producer g here)) (free_of g old (home g here)) added.sent
         (get_or t.ends p None) o.time slots ends_valued (waits o))
 
+    -- if it goes, this run is one by which a frozen item has to be judged
     would : item_active g s.values (item_at g here) ≡ true →
         WouldHave g order frozen here (unfrozen_time g order s t here)
     would on = record { scenario = s; lawful = law; times = t; run = run; active = on; has = refl }
@@ -172,9 +186,11 @@ module _ (g : Graph) (limits : IsWithinLimits g) (order : List ℕ) (topological
       thawed = thawed;
     }
 
+    -- the tree of its send gives its time in the run
     sends_valued : HasValueFrom s (carried_at_send g order rows s here) (get_or t.times here None) added.sent
     sends_valued = by added.sends
       where
+        -- by whether it isn't frozen, or is sent at its frozen time
         by : IsSentFor g order added.goes here old before after added.sent →
             HasValueFrom s (carried_at_send g order rows s here) (get_or t.times here None) added.sent
         by (inl th) = of_thawed (once (queued_here th.0)) th.0 th.1 th.2
@@ -184,6 +200,7 @@ module _ (g : Graph) (limits : IsWithinLimits g) (order : List ℕ) (topological
             (frozen_send_line g order rows s few here says added.goes of_goes at_most f.0 added.sent
             (unwrap_or f.1.latest 0) added.goes_tree f.1.frozen.made)
 
+    -- the new forest has this tree at the item
     times_is : times_of g new here ≡ added.sent
     times_is = ap (λ (f : ForestState). times_of g f here) added.is
         ∙ get_or-set_same old.times here added.sent (no_tree g.faults) (omega (arith, within, trees.times))
@@ -196,15 +213,18 @@ module _ (g : Graph) (limits : IsWithinLimits g) (order : List ℕ) (topological
 
     -- ---- when the slots are free then
 
+    -- and the new tree of free slots at p's node
     free_is : free_of g new (node_of g p) ≡ added.freed
     free_is = ap (λ (f : ForestState). free_of g f (node_of g p)) added.is
         ∙ ap (λ n. get_or (set old.free n added.freed) (node_of g p) (no_tree g.faults)) (ap (node_of g) by)
         ∙ get_or-set_same old.free (node_of g p) added.freed (no_tree g.faults) (omega (arith, on_node, trees.free))
 
+    -- when the slots are free with it: a round after its time if it goes, and else as before
     abbrev free_then : IsFreeOnce g order rows s t p k old → ℕ
     free_then o = if item_active g s.values (item_at g here)
         then time_later (round g) (get_or t.times here None) else o.time
 
+    -- the new tree of free slots is made of the old one and the send, if a later item waits for it
     frees_here : IsQueuedFor g order (place order p) (node_of g p) →
         IsFreeTree g.faults (round g) added.goes added.sent (free_of g old (home g here)) added.freed
     frees_here q = added.frees (subst (λ r. IsQueuedFor g order (place order r) (node_of g r)) (sym by) q)

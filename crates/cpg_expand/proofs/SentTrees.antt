@@ -73,6 +73,7 @@ item_added g order chooser x at there old new before after goes goes_tree goes_w
       freed = freed;
       freed_tree = freed_tree;
       frees = frees;
+      -- the trees are put in their places
       is = is ∙ ap (λ n. record {
         times = set old.times x sent;
         ends = old.ends;
@@ -89,6 +90,7 @@ module _ (g : Graph) (order : List ℕ) (chooser : TreeState Bool) where
   pub none_added : (f : ForestState) (frozen : List (Option ℕ)) → AreItemsAdded g order chooser [] f f frozen frozen
   none_added f frozen = (refl, refl)
 
+  -- an item that is added after those of a list is added with the list one longer
   one_more : (xs : List ℕ) (x : ℕ) (old mid new : ForestState) (before between after : List (Option ℕ)) →
       AreItemsAdded g order chooser xs old mid before between →
       IsItemAdded g order chooser x mid new between after →

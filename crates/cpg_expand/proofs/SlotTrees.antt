@@ -9,11 +9,13 @@ use Rattle.cpg_tree.specs.Tree.{Path, TreeState, IsOnPath, HasOnePathEach, IsAsW
 use Rattle.cpg_tree.proofs.OnePath.{the_path}
 use Rattle.cpg_expand.specs.Values.{slot_at, slot_if, slot_from}
 
+-- the slot asked for, then the later of it and `free`, then that if there is an end: this is the first free slot
 slot_steps : (share : ShareState) (free : ℕ) (time : Option ℕ) →
     slot_if (max (slot_at share time) free) time ≡ slot_from share free time
 slot_steps share free None = refl
 slot_steps share free (Some time) = by_late (nat_lt time (2 ^ 59))
   where
+    -- by whether the end is early enough for a slot to be asked for
     by_late : (early : Bool) →
         (if early then Some (max (if early then next_of share time else 0) free) else None)
         ≡ (if early then Some (max (next_of share time) free) else None)
@@ -43,16 +45,20 @@ module _ (share : ShareState) (end : TreeState (Option ℕ)) (free asked both : 
   module _ (s : Scenario) (few : HasAtMostFaults end.faults s) (x : Path (Option ℕ)) (on_x : IsOnPath end.paths s x)
       (y : Path ℕ) (on_y : IsOnPath free.paths s y) (z : Path (Option ℕ))
       (on_z : IsOnPath r.paths s z) where
+    -- the scenario has at most the faults of the tree of slots asked for
     few_asked : HasAtMostFaults asked.faults s
     few_asked = subst (λ (n : ℕ). HasAtMostFaults n s) (sym first.faults) few
 
+    -- its path in that tree
     asked_path : (a : Path ℕ) × IsOnPath asked.paths s a
     asked_path = the_path asked.faults asked.paths each_asked s few_asked
 
+    -- its path in the tree of the later of both
     both_path : (b : Path ℕ) × IsOnPath both.paths s b
     both_path = the_path both.faults both.paths each_both s
         (subst (λ (n : ℕ). HasAtMostFaults n s) (sym second.faults) few_asked)
 
+    -- the value of the last tree is the first free slot after the end
     slot_value : z.1 ≡ slot_from share y.1 x.1
     slot_value =
         let a = asked_path in
@@ -62,6 +68,7 @@ module _ (share : ShareState) (end : TreeState (Option ℕ)) (free asked both : 
         ∙ ap (λ (n : ℕ). max n y.1) (first.value s x a.0 few on_x a.1))
         ∙ slot_steps share y.1 x.1
 
+    -- its path says as much as those of the end and of the free slots
     slot_ranges : IsAsWideAsBoth end.faults z.0 x.0 y.0
     slot_ranges =
         let a = asked_path in

@@ -60,9 +60,11 @@ heard_each : (g : Graph) (f : ForestState) → HasTrees g f → (node c : ℕ) �
     HasOnePathEach g.faults (heard_tree g f node c).paths
 heard_each g f has node c low = by (node_of g (process_of g c) == node)
   where
+    -- the broadcast of a condition is an item of the graph
     within : broadcast_item g c < item_count g
     within = omega (arith, low)
 
+    -- by whether the condition's process is on the node: its ends or the frame's times are trees of the graph
     by : (b : Bool) →
         HasOnePathEach g.faults (if b then ends_of g f (process_of g c) else times_of g f (broadcast_item g c)).paths
     by true = (ends_tree g f has (process_of g c) (process_of_below g c low)).each
@@ -75,6 +77,7 @@ always_acts (Test c off on) o e =
     let parts = and_parts (is_always off) (is_always on) e in
     by (get_or o c false) (always_acts on o parts.1) (always_acts off o parts.0)
   where
+    -- the leaf is active, whichever side of the test the outcome takes
     by : (b : Bool) → is_active (outcome_at on o) ≡ true → is_active (outcome_at off o) ≡ true →
         is_active (if b then outcome_at on o else outcome_at off o) ≡ true
     by true high low = high
@@ -99,23 +102,28 @@ module _ (g : Graph) (limits : IsWithinLimits g) (order : List ℕ) (topological
     (guards : Guards) (are : (q : ℕ) → q < process_count g → IsGuardOf g urgency q (tree_of guards q))
     (chooser : TreeState Bool) (actives : IsActiveTree g.faults (tree_of guards p) chooser)
     (from : ℕ) (cut : IsCut g order guards (node_of g p) (place order p) from) where
+  -- the scenario has at most the graph's faults
   few : HasAtMostFaults g.faults s
   few = scenario_few g s law
 
   -- ---- what ends before it on its node
 
   module _ (q : ℕ) (k : q < process_count g) (sooner : place order q < place order p) where
+    -- a process that has an end in the run is active
     acts_end : (time : ℕ) → get_or t.ends q None ≡ Some time → active g s.values q ≡ true
     acts_end time is = by (get_or t.times q None) refl
       where
+        -- by the time of its start, which it has if it has an end
         by : (o : Option ℕ) → get_or t.times q None ≡ o → active g s.values q ≡ true
         by (Some y) e = acts_start g order frozen s t run q k (time_parts g order frozen s t run q y e).1
         by None e = absurd (none-some time (sym (end_is g order frozen s t run q k
             ∙ ap (option_map (λ start. start + duration g q (fault_of s q))) e) ∙ is))
 
+    -- a time that the tree of its ends gives is its end in the run
     ended_is : (time : ℕ) → HasValueAt (ends_of g f q).paths (Some time) s → get_or t.ends q None ≡ Some time
     ended_is time h = sym ((lines.ends q k sooner).value h.0 h.1) ∙ h.2
 
+    -- if it is active, the tree gives its end
     end_path : active g s.values q ≡ true → HasValueAt (ends_of g f q).paths (Some (end_in t q)) s
     end_path on =
         let x = the_path g.faults (ends_of g f q).paths (ends_tree g f has q k).each s few in (
@@ -151,9 +159,12 @@ module _ (g : Graph) (limits : IsWithinLimits g) (order : List ℕ) (topological
     )
   ]
 
+  -- in the run no active process ends before it starts
   time_before_end : (z : ℕ) → z < process_count g → active g s.values z ≡ true → time_in t z ≤ end_in t z
   time_before_end z k on = omega (arith, end_active g order frozen s t run z k on)
 
+  -- an active process before p on its node has ended once one from the cut on has: that one itself, or one that is
+  -- waited for
   before_ended : (q : ℕ) → q < process_count g → place order q < place order p → node_of g q ≡ node_of g p →
       active g s.values q ≡ true →
       HasEndAt g order f from p s (end_in t q)
@@ -171,16 +182,20 @@ module _ (g : Graph) (limits : IsWithinLimits g) (order : List ℕ) (topological
   ]
 
   module _ (e : ℕ) (c : Contains (inputs g p) e) where
+    -- the edge is one of the graph, and leads to p
     parts : (e < edge_count g) × (target g e ≡ p)
     parts = inputs_parts g p e c
 
+    -- its message is an item of the graph
     item_within : message_item g e < item_count g
     item_within = let n = parts.0 in omega arith
 
+    -- the process that sends it stands before p
     earlier : place order (producer g (message_item g e)) < place order p
     earlier = let n = ap (place order) (producer_of_message g e parts.0) in
         omega (arith, n, input_goes_up g order topological p e c)
 
+    -- an input that is active as an item and comes from another node is live
     item_is : item_active g s.values (item_at g (message_item g e)) ≡ true → is_message g e ≡ true →
         live g s.values e ≡ true
     item_is acts m = (and_parts (is_message g e) (live g s.values e)
@@ -188,10 +203,12 @@ module _ (g : Graph) (limits : IsWithinLimits g) (order : List ℕ) (topological
 
     -- given: an input from another node
     module _ (m : is_message g e ≡ true) where
+      -- if the input is live, its message is active
       acts : live g s.values e ≡ true → item_active g s.values (item_at g (message_item g e)) ≡ true
       acts lives = subst (λ x. item_active g s.values x ≡ true) (sym (item_at-message g e parts.0))
           (and_from (is_message g e) (live g s.values e) m lives)
 
+      -- a live message has a time, and is there a frame's length after it
       comes : live g s.values e ≡ true →
           (time : ℕ) × (get_or t.times (message_item g e) None ≡ Some time) ×
           (input_there g t e ≡ time_later (input_delay g e) (Some time))
@@ -204,12 +221,14 @@ module _ (g : Graph) (limits : IsWithinLimits g) (order : List ℕ) (topological
                 else get_or t.ends (source g e) None) m ∙ is),
           )
 
+      -- the tree of the input gives the message's time
       its_value : (x : Path (Option ℕ)) → IsOnPath (input_tree g f e).paths s x →
           x.1 ≡ get_or t.times (message_item g e) None
       its_value x on = (lines.times (message_item g e) item_within earlier).value x
           (subst (λ (b : Bool).
           IsOnPath (if b then times_of g f (message_item g e) else ends_of g f (source g e)).paths s x) m on)
 
+      -- the tree has such a path in this scenario
       its_path : (x : Path (Option ℕ)) × IsOnPath (input_tree g f e).paths s x ×
           (x.1 ≡ get_or t.times (message_item g e) None)
       its_path =
@@ -221,15 +240,18 @@ module _ (g : Graph) (limits : IsWithinLimits g) (order : List ℕ) (topological
 
     -- given: a live input of the node itself
     module _ (own : is_message g e ≡ false) (lives : live g s.values e ≡ true) where
+      -- what is excluded: an input from another node that is none
       untrue : true ≡ false → ⊥
       untrue i = cc
 
+      -- its source is on p's node
       same_node : node_of g (source g e) ≡ node_of g p
       same_node = elim (cases_eq (node_of g (source g e)) (node_of g p)) [
         | inl same ↦ same
         | inr other ↦ absurd (untrue (sym (message_at g p e parts.1 other) ∙ own))
       ]
 
+      -- it is there at the end of its source, by which a process before p on its node has ended
       own_there : HasEndAt g order f from p s (input_there g t e)
       own_there =
           let is : input_there g t e ≡ end_in t (source g e) =
@@ -240,12 +262,14 @@ module _ (g : Graph) (limits : IsWithinLimits g) (order : List ℕ) (topological
 
   -- a condition on the way of a process at its place or before it
   module _ (q : ℕ) (k : q < process_count g) (no_later : place order q ≤ place order p) where
+    -- the trees give the times of what is before q, since that is before p too
     valued_there : HasTreeValues g order rows s t (place order q) f
     valued_there = record {
       ends = λ z h less on. valued.ends z h (omega (arith, less, no_later)) on;
       sends = λ x h big less on. valued.sends x h big (omega (arith, less, no_later)) on;
     }
 
+    -- a condition that decides q is tested by q's guard in this scenario
     on_its_way : (c : ℕ) → c < condition_count g → decides g s.values q c ≡ true →
         Contains (way (tree_of guards q) s.values) c
     on_its_way c low d = subst (λ cs. Contains cs c)
@@ -255,15 +279,18 @@ module _ (g : Graph) (limits : IsWithinLimits g) (order : List ℕ) (topological
 
   module _ (q : ℕ) (k : q < process_count g) (no_later : place order q ≤ place order p) (c : ℕ)
       (j : Contains (way (tree_of guards q) s.values) c) where
+    -- a condition that q's guard tests on the way decides q
     decides_there : Contains (deciding g s.values q) c
     decides_there = on_way g limits order topological joins urgency is_urgency urgent rows s law.values few t small f q
         k nodes (valued_there q k no_later) (tree_of guards q) (are q k) c j
 
+    -- so it is one of the graph's conditions
     decides_it : (c < condition_count g) × (decides g s.values q c ≡ true)
     decides_it =
         let r = Contains-filter_parts (decides g s.values q) (numbers_below (condition_count g)) c decides_there in
         (numbers-Contains (condition_count g) c r.0, r.1)
 
+    -- the tree of when q's node hears it gives the run's time
     line_of : HasValueFrom s (heard_support g order topological rows s (node_of g q) c)
         (heard_time g limits t small (node_of g q) c) (heard_tree g f (node_of g q) c)
     line_of = heard_valued g limits order topological joins urgency is_urgency urgent rows s law.values few t small f q
@@ -273,6 +300,7 @@ module _ (g : Graph) (limits : IsWithinLimits g) (order : List ℕ) (topological
     when_heard : (time : ℕ) × (heard_time g limits t small (node_of g q) c ≡ Some time)
     when_heard = by (node_of g (process_of g c) == node_of g q) refl
       where
+        -- by whether the condition's process is on that node: its end or the time of its broadcast
         by : (b : Bool) → (node_of g (process_of g c) == node_of g q) ≡ b →
             (time : ℕ) ×
             ((if b then get_or t.ends (process_of g c) None else get_or t.times (broadcast_item g c) None) ≡ Some time)
@@ -288,6 +316,7 @@ module _ (g : Graph) (limits : IsWithinLimits g) (order : List ℕ) (topological
               (deciding_is_active g urgency is_urgency urgent s.values q c decides_it.0 decides_it.1) e),
         )
 
+    -- the tree has that time in this scenario, and the condition is heard a delay later
     heard_path : (time : ℕ) × HasValueAt (heard_tree g f (node_of g q) c).paths (Some time) s ×
         (heard_there g t (node_of g q) c ≡ time_later (heard_delay g (node_of g q) c) (Some time))
     heard_path =
@@ -299,6 +328,7 @@ module _ (g : Graph) (limits : IsWithinLimits g) (order : List ℕ) (topological
           sym (heard_exact g limits t small (node_of g q) c) ∙ ap (time_later (heard_delay g (node_of g q) c)) r.1,
         )
 
+    -- any time that the tree has in this scenario is the one
     heard_value : (time : ℕ) → HasValueAt (heard_tree g f (node_of g q) c).paths (Some time) s →
         heard_there g t (node_of g q) c ≡ time_later (heard_delay g (node_of g q) c) (Some time)
     heard_value time h = sym (heard_exact g limits t small (node_of g q) c)
@@ -310,6 +340,7 @@ module _ (g : Graph) (limits : IsWithinLimits g) (order : List ℕ) (topological
   module _ (q : ℕ) (k : q < process_count g) (there : node_of g q ≡ node_of g p)
       (no_later : place order q ≤ place order p) (c : ℕ) (low : c < condition_count g)
       (d : decides g s.values q c ≡ true) where
+    -- the tree of when a node hears c has a time in this scenario, and the node has heard c a delay after it
     abbrev Heard : ℕ → Type 0
     Heard node = (time : ℕ) × HasValueAt (heard_tree g f node c).paths (Some time) s ×
         (heard_there g t node c ≡ time_later (heard_delay g node c) (Some time))
@@ -334,6 +365,7 @@ module _ (g : Graph) (limits : IsWithinLimits g) (order : List ℕ) (topological
           is = r.2;
         }
 
+    -- for q before the cut: c is heard by the end of a process from the cut on, which waits for q
     heard_before : place order q < from → HasEndAt g order f from p s (heard_there g t (node_of g p) c)
     heard_before less =
         let z = cut_at q less in
@@ -350,6 +382,7 @@ module _ (g : Graph) (limits : IsWithinLimits g) (order : List ℕ) (topological
           time_before_end z.0 z.1.within z.2,
         ))
 
+    -- so p's node hears c by such an end, or by the tree of c
     heard_either : HasEndAt g order f from p s (heard_there g t (node_of g p) c) ⊎
         IsHeardAt g order guards f from p s t c
     heard_either = elim (cases_lt (place order q) from) [
@@ -357,6 +390,7 @@ module _ (g : Graph) (limits : IsWithinLimits g) (order : List ℕ) (topological
       | inr after ↦ inr (heard_at after)
     ]
 
+  -- each condition that decides p or a process before it on its node is heard in one of these two ways
   what_hears : (c : ℕ) → Contains (flat_map (deciding g s.values) (before_on_node g order p ++ p ∷ [])) c →
       HasEndAt g order f from p s (heard_there g t (node_of g p) c) ⊎
       IsHeardAt g order guards f from p s t c
@@ -386,6 +420,7 @@ module _ (g : Graph) (limits : IsWithinLimits g) (order : List ℕ) (topological
         (Contains-append_right (before_on_node g order p) (p ∷ []) p (Contains-first p []))
   ]
 
+  -- a time at which a tested condition is heard is one of those that p's start waits for
   heard_in : (c time : ℕ) →
       IsAskedOf g order guards (node_of g p) from (place order p + 1) c (process_count g) s.values →
       HasValueAt (heard_tree g f (node_of g p) c).paths (Some time) s →
@@ -401,6 +436,7 @@ module _ (g : Graph) (limits : IsWithinLimits g) (order : List ℕ) (topological
       (heard_value q b.within no_later c j time) h in
       omega (arith, is, heard_in_bounds g order topological s t p q c (among q b.within b.there b.sooner) d.0 d.1)
 
+  -- an end of a process before p on its node is one of those too
   ended_in : (q time : ℕ) → IsBetween g order (node_of g p) from (place order p) q →
       HasValueAt (ends_of g f q).paths (Some time) s →
       time_later 0 (Some time) ≤ greatest (start_bounds g order s t p)

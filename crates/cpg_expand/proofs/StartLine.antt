@@ -47,14 +47,17 @@ use Rattle.cpg_expand.proofs.AgreeingTrees.{agrees_weaker}
 use Rattle.cpg_expand.proofs.CarriedOn.{heard_support, input_support, tests_carried, input_carried, start_carried}
 use Rattle.cpg_expand.proofs.StartTimes.{input_time, later_exact, heard_time, latest_heard, awaits_live, start_exact}
 
+-- an inactive process awaits no input
 idle_awaits : (inputs : List ℕ) (a : Activation) → is_active a ≡ false → (e : ℕ) → Contains (awaited inputs a) e → ⊥
 idle_awaits inputs Inactive is e j = Contains-nil e j
 idle_awaits inputs Plain is e j = absurd (off is)
   where
+    -- a plain leaf is active, so this case doesn't occur
     off : true ≡ false → ⊥
     off e = cc
 idle_awaits inputs (By d) is e j = absurd (off is)
   where
+    -- nor does a leaf of a join that is active by one input
     off : true ≡ false → ⊥
     off e = cc
 
@@ -76,6 +79,7 @@ frame_sent g s p l nodes c low acts e = subst (λ x. item_active g s.values x �
     (nodes (process_of g c) (process_of_below g c low)) (nodes p l)
     (λ i. apart (sym (eq-eqb (node_of g (process_of g c)) (node_of g p) i) ∙ e)))) acts)
   where
+    -- what is excluded: a condition that is broadcast and isn't
     apart : true ≡ false → ⊥
     apart e = cc
 
@@ -108,22 +112,28 @@ module _ (g : Graph) (limits : IsWithinLimits g) (order : List ℕ) (topological
       (heard_tree g f (node_of g p) c)
   heard_valued c j = by (node_of g (process_of g c) == node_of g p) refl
     where
+      -- a condition on the way decides the process
       decides_it : Contains (deciding g s.values p) c
       decides_it = on_way c j
 
+      -- it is one of the graph's conditions
       low : c < condition_count g
       low = numbers-Contains (condition_count g) c (Contains-filter_parts (decides g s.values p) _ c decides_it).0
 
+      -- it decides the process in this scenario
       decided_true : decides g s.values p c ≡ true
       decided_true = (Contains-filter_parts (decides g s.values p) _ c decides_it).1
 
+      -- its own process is active
       acts : active g s.values (process_of g c) ≡ true
       acts = deciding_is_active g urgency is_urgency urgent s.values p c low decided_true
 
+      -- if that is on another node, the broadcast is sent
       sent_at : (node_of g (process_of g c) == node_of g p) ≡ false →
           item_active g s.values (item_at g (broadcast_item g c)) ≡ true
       sent_at e = frame_sent g s p l nodes c low acts e
 
+      -- by whether the condition's process is on the node: its end or the time of its broadcast
       by : (b : Bool) → (node_of g (process_of g c) == node_of g p) ≡ b →
           HasValueFrom s
           (if b then carried_at_end g order rows s (process_of g c) else carried_by_row rows s (broadcast_item g c))
@@ -139,12 +149,15 @@ module _ (g : Graph) (limits : IsWithinLimits g) (order : List ℕ) (topological
       HasValueFrom s (input_support g order topological rows s e) (input_time g limits t small e) (input_tree g f e)
   input_valued e j on = by (is_message g e) refl
     where
+      -- the edge is one of the graph, and leads to the process
       parts : (e < edge_count g) × (target g e ≡ p)
       parts = inputs_parts g p e j
 
+      -- its source stands before the process
       earlier : place order (source g e) < place order p
       earlier = input_goes_up g order topological p e j
 
+      -- by whether the input is a message: the message's time or its source's end
       by : (b : Bool) → is_message g e ≡ b →
           HasValueFrom s
           (if b then carried_by_row rows s (message_item g e) else carried_at_end g order rows s (source g e))
@@ -161,9 +174,12 @@ module _ (g : Graph) (limits : IsWithinLimits g) (order : List ℕ) (topological
       (is_ready : IsReady g order s t (place order p) (node_of g p) r)
       (ready : HasValueFrom s (flat_map (passed g rows s) (before_on_node g order p)) r
       (ready_of g f (node_of g p))) where
+    -- until when the process waits on its node: the node is ready, and all conditions on the way are heard
     abbrev waited : ℕ
     waited = max r (greatest (map (heard_there g t (node_of g p)) (way guard s.values)))
 
+    -- the literals that are carried there: what earlier processes of the node passed on, what decides p, and what it
+    -- hears
     abbrev wait_says : List Literal
     wait_says = flat_map (passed g rows s) (before_on_node g order p) ++ decided g s p ++ heard g rows s p
 
@@ -178,6 +194,7 @@ module _ (g : Graph) (limits : IsWithinLimits g) (order : List ℕ) (topological
         (heard_support g order topological rows s (node_of g p))
         (heard_time g limits t small (node_of g p)) heard_valued)
       where
+        -- no literal of the tree goes beyond these
         within : (x : Literal) →
             Contains (flat_map (passed g rows s) (before_on_node g order p)
             ++ support_of s (heard_support g order topological rows s (node_of g p)) (way guard s.values)) x →
@@ -195,6 +212,7 @@ module _ (g : Graph) (limits : IsWithinLimits g) (order : List ℕ) (topological
     pub leads : outcome_at guard s.values ≡ activation g s.values p
     leads = is_guard.is s.values long
 
+    -- if p is active, what it awaits are live inputs of its own
     live_if : (b : Bool) → active g s.values p ≡ b → (e : ℕ) →
         Contains (awaited (inputs g p) (activation g s.values p)) e →
         Contains (inputs g p) e × (live g s.values e ≡ true)
@@ -202,14 +220,17 @@ module _ (g : Graph) (limits : IsWithinLimits g) (order : List ℕ) (topological
         (subst (λ es. Contains es e) (awaits_live g limits order topological joins s long t small p l on) j)
     live_if false off e j = absurd (none (activation g s.values p) off j)
       where
+        -- an inactive process awaits nothing, so there is no such input
         none : (a : Activation) → is_active a ≡ false → Contains (awaited (inputs g p) a) e → ⊥
         none a is k = idle_awaits (inputs g p) a is e k
 
+    -- the same by the leaf that the guard leads to
     live_input : (e : ℕ) → Contains (awaited (inputs g p) (outcome_at guard s.values)) e →
         Contains (inputs g p) e × (live g s.values e ≡ true)
     live_input e j =
         live_if (active g s.values p) refl e (subst (λ (a : Activation). Contains (awaited (inputs g p) a) e) leads j)
 
+    -- each input comes from the process's own node, or is a message
     ends_there : (e : ℕ) → Contains (inputs g p) e → node_of g (source g e) ≡ node_of g p ⊎ (is_message g e ≡ true)
     ends_there e j = elim (cases_eq (node_of g (source g e)) (node_of g p)) [
       | inl same ↦ inl same
@@ -228,9 +249,11 @@ module _ (g : Graph) (limits : IsWithinLimits g) (order : List ℕ) (topological
         (if b then get_or t.times (message_item g e) None else get_or t.ends (source g e) None) ≤ waited) (sym own)
         (omega (arith, later_exact (get_or t.ends (source g e) None) 0 (small.ends (source g e)) (omega arith), ended))
       where
+        -- what is excluded: an input from another node that is no message
         untrue : true ≡ false → ⊥
         untrue i = cc
 
+        -- its source is on the node, since it isn't a message
         same_node : node_of g (source g e) ≡ node_of g p ⊎ (is_message g e ≡ true) →
             node_of g (source g e) ≡ node_of g p
         same_node (inl same) = same
@@ -251,14 +274,17 @@ module _ (g : Graph) (limits : IsWithinLimits g) (order : List ℕ) (topological
         (starts s few wait_says waited wait_line (input_support g order topological rows s)
         (input_time g limits t small) there (λ e j. let k = live_input e j in input_valued e k.0 k.1))
       where
+        -- the literals that the tree of the start says
         says : List Literal
         says = values_known s (way guard s.values)
             ++ start_says wait_says (input_support g order topological rows s) (inputs g p) (outcome_at guard s.values)
 
+        -- the start by the guard's leaf: the latest of the wait, the release and the awaited inputs
         at : Option ℕ
         at = start_at waited (process_at g p).release (input_delay g) (input_time g limits t small) (inputs g p)
             (outcome_at guard s.values)
 
+        -- what an active start says is carried: the wait's literals, and those of its inputs
         of_start : (b : Bool) (x : Literal) →
             Contains (if b then wait_says ++ flat_map (input_support g order topological rows s)
             (awaited (inputs g p) (outcome_at guard s.values)) else []) x →
@@ -275,6 +301,7 @@ module _ (g : Graph) (limits : IsWithinLimits g) (order : List ℕ) (topological
                   (source_in_order g order topological r.0 (inputs_parts g p r.0 k.0).0) (and_parts _ _ k.1).0 x r.2))
             ]
 
+        -- so is all that the tree says
         within : (x : Literal) → Contains says x → Contains (carried_at_start g order rows s p) x
         within x j = elim (Contains-append_cases (values_known s (way guard s.values)) (start_says wait_says
             (input_support g order topological rows s) (inputs g p) (outcome_at guard s.values)) x j) [

@@ -31,6 +31,7 @@ pub later_exact : (x : Option ℕ) (delay : ℕ) → unwrap_or x 0 < 2 ^ 59 → 
 later_exact x delay h k = omega (arith, h, k)
 
 module _ (g : Graph) (limits : IsWithinLimits g) (t : Times) (small : AreSmall t) where
+  -- no slot is longer than 16,000,000,000
   slot_short : (node : ℕ) → slot_length g node ≤ 16000000000
   slot_short node = omega (arith, slot_length-le g node, round-le g limits)
 
@@ -42,6 +43,7 @@ module _ (g : Graph) (limits : IsWithinLimits g) (t : Times) (small : AreSmall t
   pub input_exact : (e : ℕ) → time_later (input_delay g e) (input_time e) ≡ input_there g t e
   input_exact e = go (is_message g e)
     where
+      -- by whether the input is a message: its frame is there, or its source has ended
       go : (b : Bool) →
           time_later (if b then slot_length g (home g (message_item g e)) else 0)
           (if b then get_or t.times (message_item g e) None else get_or t.ends (source g e) None) ≡
@@ -59,6 +61,7 @@ module _ (g : Graph) (limits : IsWithinLimits g) (t : Times) (small : AreSmall t
   pub heard_exact : (node c : ℕ) → time_later (heard_delay g node c) (heard_time node c) ≡ heard_there g t node c
   heard_exact node c = go (node_of g (process_of g c) == node)
     where
+      -- by whether the node has the condition's process: that has ended, or the frame is there
       go : (b : Bool) →
           time_later (if b then 0 else slot_length g (home g (broadcast_item g c)))
           (if b then get_or t.ends (process_of g c) None else get_or t.times (broadcast_item g c) None) ≡
@@ -73,6 +76,7 @@ module _ (g : Graph) (limits : IsWithinLimits g) (t : Times) (small : AreSmall t
   latest_inputs es =
       ap greatest (same_map (λ e. time_later (input_delay g e) (input_time e)) (input_there g t) es input_exact)
     where
+      -- two functions that agree everywhere map a list alike
       same_map : (f h : ℕ → ℕ) (xs : List ℕ) → ((x : ℕ) → f x ≡ h x) → map f xs ≡ map h xs
       same_map f h [] e = refl
       same_map f h (x ∷ xs) e = ap₂ (λ y ys. y ∷ ys) (e x) (same_map f h xs e)
@@ -83,25 +87,30 @@ module _ (g : Graph) (limits : IsWithinLimits g) (t : Times) (small : AreSmall t
   latest_heard node cs = ap greatest (same_map (λ c. time_later (heard_delay g node c) (heard_time node c))
       (heard_there g t node) cs (heard_exact node))
     where
+      -- two functions that agree everywhere map a list alike
       same_map : (f h : ℕ → ℕ) (xs : List ℕ) → ((x : ℕ) → f x ≡ h x) → map f xs ≡ map h xs
       same_map f h [] e = refl
       same_map f h (x ∷ xs) e = ap₂ (λ y ys. y ∷ ys) (e x) (same_map f h xs e)
 
 -- ---- the inputs that a process waits for are the live ones
 
+-- if all elements pass a test, the filter keeps the list
 all_kept : (p : ℕ → Bool) (xs : List ℕ) → list_all p xs ≡ true → filter p xs ≡ xs
 all_kept p [] e = refl
 all_kept p (x ∷ xs) e = let r = and_parts (p x) (list_all p xs) e in
     cond-true (p x) (x ∷ filter p xs) (filter p xs) r.0 ∙ ap (λ ys. x ∷ ys) (all_kept p xs r.1)
 
+-- what is excluded: a leaf that is active and isn't
 untrue : false ≡ true → ⊥
 untrue e = cc
 
+-- a join that is active by its first live input awaits that one, which is all that is live
 awaited_first : (xs ys : List ℕ) → length ys ≤ 1 → is_active (by_first ys) ≡ true → awaited xs (by_first ys) ≡ ys
 awaited_first xs [] l on = absurd (untrue on)
 awaited_first xs (y ∷ []) l on = refl
 awaited_first xs (y ∷ z ∷ zs) l on = absurd (omega (arith, l))
 
+-- a process that needs all inputs awaits them all, and all are live if it is active
 awaited_all : (is_live : ℕ → Bool) (xs : List ℕ) (b : Bool) → list_all is_live xs ≡ b →
     is_active (if b then Plain else Inactive) ≡ true →
     awaited xs (if b then Plain else Inactive) ≡ filter is_live xs
@@ -138,6 +147,7 @@ module _ (g : Graph) (limits : IsWithinLimits g) (order : List ℕ) (topological
       then Some (max (max w (process_at g p).release) (greatest (input_bounds g s t p))) else None)
   start_exact w = go (active g s.values p) refl
     where
+      -- by whether the process is active: only then has it a start
       go : (b : Bool) → active g s.values p ≡ b →
           (if b then Some (max (max w (process_at g p).release) (latest_of (input_delay g) (input_time g limits t small)
           (awaited (inputs g p) (activation g s.values p)))) else None)

@@ -43,6 +43,7 @@ settled g order t i = record {
   finish = 0;
 }
 
+-- the times and ends before a place are all that the list of those settled there says
 settled_knows : (g : Graph) (order : List ℕ) (t : Times) (i : ℕ) → Knows g order t i (settled g order t i)
 unfolding settled
 settled_knows g order t i = record {
@@ -74,9 +75,11 @@ module _ (g : Graph) (order : List ℕ) (topological : IsTopological g order) (u
     (s : Scenario) (long : length s.values ≡ condition_count g) (t : Times) (run : IsRun g order frozen s t) (p : ℕ)
     (l : p < process_count g) (guard : Guard) (is_guard : IsGuardOf g urgency p guard)
     (r : ℕ) (ready : IsReady g order s t (place order p) (node_of g p) r) where
+  -- what is known of the run before p's place
   known : Times
   known = settled g order t (place order p)
 
+  -- it is the run's times and ends of what is earlier
   knows : Knows g order t (place order p) known
   unfolding known
   knows = settled_knows g order t (place order p)
@@ -89,11 +92,13 @@ module _ (g : Graph) (order : List ℕ) (topological : IsTopological g order) (u
       (ap (λ cs. greatest (map (heard_there g t (node_of g p)) cs))
       (ways_are_deciding g urgency p guard s.values is_urgency urgent is_guard long))
 
+  -- a condition that decides p is heard at the time that is known, since its process is earlier
   same_heard : (c : ℕ) → c < condition_count g → decides g s.values p c ≡ true →
       heard_there g known (node_of g p) c ≡ heard_there g t (node_of g p) c
   same_heard c low d = known_heard_of g order t (place order p) known knows (node_of g p) c low
       (decided_sooner g order t (place order p) known knows topological s p l refl p c (omega arith) low d)
 
+  -- so the latest of these times is known, too
   most_known : IsMost (λ c. (c < condition_count g) × (decides g s.values p c ≡ true))
       (heard_there g known (node_of g p)) (greatest (map (heard_there g t (node_of g p)) (way guard s.values)))
   most_known = record {
@@ -101,6 +106,7 @@ module _ (g : Graph) (order : List ℕ) (topological : IsTopological g order) (u
     least = λ b h. most.least b (λ c d. omega (arith, h c d, same_heard c d.0 d.1));
   }
 
+  -- the inputs are there at the times that are known, since their sources are earlier
   same_inputs : greatest (input_bounds g s known p) ≡ greatest (input_bounds g s t p)
   same_inputs =
       let same = λ (e : ℕ) (j : Contains (filter (live g s.values) (inputs g p)) e).
@@ -114,9 +120,11 @@ module _ (g : Graph) (order : List ℕ) (topological : IsTopological g order) (u
             (λ e j. omega (arith, same e j)),
       )
 
+  -- until when p waits on its node: that is ready, and all conditions on the guard's way are heard
   abbrev pub waited : ℕ
   waited = max r (greatest (map (heard_there g t (node_of g p)) (way guard s.values)))
 
+  -- p's time in the run is the one that the run's rule gives
   time_at : get_or t.times p None ≡ time_by g order frozen s t p
   time_at = ap (λ ts. get_or ts p None) run.times
       ∙ get_or-map-below (time_by g order frozen s t) (item_count g) p None (omega (arith, l))
@@ -146,6 +154,7 @@ module _ (g : Graph) (order : List ℕ) (topological : IsTopological g order) (u
 
 -- ---- ends
 
+-- the end after a start is the start and its duration, since nothing is so long that it is cut off
 ended_by : (ds : List ℕ) (n d : ℕ) (o : Option ℕ) → get_or ds n 0 ≡ d → d < 2 ^ 40 → unwrap_or o 0 < 2 ^ 59 →
     ended ds n o ≡ option_map (λ start. start + d) o
 ended_by ds n d None e h k = refl
@@ -157,6 +166,7 @@ ended_by ds n d (Some start) e h k = ap (λ m. Some m) (omega (arith, e, h, k))
 module _ (g : Graph) (limits : IsWithinLimits g) (order : List ℕ) (frozen : List (Option ℕ)) (s : Scenario)
     (law : IsScenario g s) (t : Times) (run : IsRun g order frozen s t) (small : AreSmall t)
     (p : ℕ) (l : p < process_count g) (few : fault_of s p ≤ g.faults) where
+  -- the variable p has p's fault count as its number
   count_is : number_of s p ≡ fault_of s p
   count_is = cond-true _ (fault_of s p) _ (lt-ltb p 128 (let m = limits.few_processes in omega arith))
 

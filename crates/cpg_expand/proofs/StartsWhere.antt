@@ -36,6 +36,8 @@ module _ {T U V : Type 0} (g : Graph) (number : T → ℕ) (other_number : U →
     (of_chooser : IsTree g chooser) (of_a : IsTree g a) (of_b : IsTree g b)
     (made : IsJoinWhere (λ x y z. z ≡ makes (max (number x) (other_number y))) none chooser a b t)
     (s : Scenario) (few : HasAtMostFaults g.faults s) (given : List Literal) where
+  -- where the chooser is true, the tree has what is made of the greater of the two numbers, by the literals of all
+  -- three
   made_where : (first second : List Literal) (x y : ℕ) → HasValueFrom s given true chooser →
       Agrees s first (λ v. number v ≡ x) a →
       Agrees s second (λ w. other_number w ≡ y) b →
@@ -65,6 +67,7 @@ module _ {T U V : Type 0} (g : Graph) (number : T → ℕ) (other_number : U →
       (λ z e. e ∙ ap makes (let same : max x y ≡ max y x = omega arith in same))
       (made_where first second x y on has_value other)
 
+  -- where the chooser is false, it has `none`, by the chooser's literals alone
   made_elsewhere : HasValueFrom s given false chooser → HasValueFrom s given none t
   made_elsewhere off =
       agrees_elsewhere s (λ v w z. z ≡ makes (max (number v) (other_number w))) none chooser a b t given
@@ -77,6 +80,7 @@ module _ {T U V : Type 0} (g : Graph) (number : T → ℕ) (other_number : U →
 module _ (g : Graph) (release delay d : ℕ) (same_delay : delay ≡ d) (times read : TreeState (Option ℕ))
     (is : times ≡ read) (of_times : IsTree g times) (chooser : TreeState Bool)
     (of_chooser : IsTree g chooser) where
+  -- a start at a time, but not before the release
   abbrev start_of : ℕ → Option ℕ
   start_of n = Some (max n release)
 
@@ -143,6 +147,7 @@ module _ (g : Graph) (f : ForestState) (chooser : TreeState Bool) (wait : TreeSt
         (picked s few false given [] None of_c (agrees_constant s None g.faults never (λ y. y ≡ None) refl none));
   }
     where
+      -- the tree that is picked has the starts where the process is active, and no start elsewhere
       picked : (s : Scenario) → HasAtMostFaults g.faults s → (b : Bool) (given second : List Literal) (y : Option ℕ) →
           HasValueFrom s given b chooser
           → HasValueFrom s second y (if b then start else never) →
@@ -193,6 +198,7 @@ outcome_waits : (guard : Guard) (o : List Bool) → AreLeaves WaitsForAll guard 
 outcome_waits (Leaf a) o all = all
 outcome_waits (Test c off on) o all = by (get_or o c false) (outcome_waits off o all.0) (outcome_waits on o all.1)
   where
+    -- whichever side the outcome takes, its activation waits for all inputs
     by : (b : Bool) → WaitsForAll (outcome_at off o) → WaitsForAll (outcome_at on o) →
         WaitsForAll (if b then outcome_at on o else outcome_at off o)
     by true low high = high
@@ -207,9 +213,11 @@ active_starts g f chooser wait release inputs guard t all actives starts s few b
     time there given =
     by (outcome_at guard s.values) (outcome_waits guard s.values all) (actives s few) there given
   where
+    -- the values of the conditions on the guard's way
     values : List Literal
     values = values_known s (way guard s.values)
 
+    -- by what the guard leads to: an active process has these starts, and an inactive one has none
     by : (a : Activation) → WaitsForAll a → HasValueFrom s values (is_active a) chooser →
         AreThere g time x (awaited inputs a) →
         ((e : ℕ) → Contains (awaited inputs a) e → HasValueFrom s (support e) (time e) (input_tree g f e)) →

@@ -25,6 +25,7 @@ tested_first k c off on wanted t same always s few =
     (λ l j. absurd (Contains-nil l j)) (λ y e. e)
     (agrees_constant s true k t (λ y. y ≡ is_tested (Test c off on) s.values wanted) (sym found) always)
   where
+    -- the condition is found on the way, as the first test
     found : list_any (λ d. d == wanted) (way (Test c off on) s.values) ≡ true
     found = ap (λ (b : Bool). b || list_any (λ d. d == wanted)
         (if get_or s.values c false then way on s.values else way off s.values)) (eq-eqb c wanted same)
@@ -36,6 +37,7 @@ pub tested_further : (k c : ℕ) (off on : Guard) (wanted : ℕ) (f y t : TreeSt
     IsTestedOn k (Test c off on) wanted t
 tested_further k c off on wanted f y t other of_off of_on picks s few = go (get_or s.values c false) refl
   where
+    -- by the value of the first condition: the side that is picked says whether the wanted one is tested
     go : (d : Bool) → get_or s.values c false ≡ d →
         HasValueFrom s (values_known s (c ∷ (if d then way on s.values else way off s.values)))
         (list_any (λ e. e == wanted) (c ∷ (if d then way on s.values else way off s.values))) t
@@ -58,5 +60,6 @@ tested_parts guard o c is =
     let found = list_any_parts (λ d. d == c) (way guard o) is in
     subst (Contains (way guard o)) (eqb-true found.0 c found.2) found.1
 
+-- a condition on the way of a guard is tested
 pub tested_from : (guard : Guard) (o : List Bool) (c : ℕ) → Contains (way guard o) c → is_tested guard o c ≡ true
 tested_from guard o c there = list_any_true (λ d. d == c) (way guard o) c there (eq-eqb c c refl)

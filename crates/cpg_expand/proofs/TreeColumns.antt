@@ -47,9 +47,11 @@ listed_all g t columns each is tidy =
 
 -- ---- no more columns match than paths
 
+-- whether a column matches in a scenario
 matched : Scenario → Column → Bool
 matched s c = matches c.cube s
 
+-- a path gives a column that matches only if its cube does, and none if it has no time
 one_more : (b : Bool) (x : Option ℕ) (cube : List Literal) (s : Scenario) → matches cube s ≡ b →
     length (filter (λ (c : Column). matches c.cube s) (column_of cube x)) ≤ cond b 1 0
 one_more b None cube s e = omega arith
@@ -62,6 +64,7 @@ one_more false (Some t) cube s e = omega (
   ap (λ (cs : List Column). length cs) (cond-false (matches cube s) ((record { time = t; cube = cube }) ∷ []) [] e),
 )
 
+-- a path is counted in a scenario if its cube matches
 path_count : (b : Bool) (p : Path (Option ℕ)) (ps : List (Path (Option ℕ))) (s : Scenario) → matches p.0 s ≡ b →
     length (filter (is_on s) (p ∷ ps)) ≡ cond b 1 0 + length (filter (is_on s) ps)
 path_count true p ps s e =
@@ -69,6 +72,7 @@ path_count true p ps s e =
 path_count false p ps s e =
     ap length (cond-false (matches p.0 s) (p ∷ filter (is_on s) ps) (filter (is_on s) ps) e) ∙ omega arith
 
+-- in a scenario no more columns of some paths match than paths
 no_more : (paths : List (Path (Option ℕ))) (s : Scenario) →
     length (filter (λ (c : Column). matches c.cube s) (columns_of_paths paths)) ≤ length (filter (is_on s) paths)
 no_more [] s = omega arith
@@ -84,6 +88,7 @@ no_more (p ∷ ps) s =
 module _ (g : Graph) (few : process_count g ≤ 128) (urgency : List ℕ)
     (all : IsPermutation (numbers_below (process_count g)) urgency)
     (t : TreeState (Option ℕ)) (columns : List Column) (are : AreListedOf g t columns) where
+  -- at most one of the columns matches in a scenario, since one path does
   single : AreSingle g columns
   single = single_permuted g few (columns_of_paths t.paths) columns are.all
       (λ s law. omega (
@@ -93,9 +98,11 @@ module _ (g : Graph) (few : process_count g ≤ 128) (urgency : List ℕ)
         are.each s (scenario_few g s law),
       ))
 
+  -- each of them is tidy
   tidy_at : (c : Column) → Contains columns c → IsTidyColumn g c
   tidy_at c j = All-contains (IsTidyColumn g) columns c are.tidy j
 
+  -- so their cubes are good ones
   good : AreGood g columns
   good = every (λ (c : Column). IsGood g c.cube) columns (λ c j.
       let tidy = tidy_at c j in
@@ -132,6 +139,7 @@ module _ (g : Graph) (few : process_count g ≤ 128) (urgency : List ℕ)
       let is = from_column p.0.1 p.0.0 c p.2 in
       (p.0, p.1, is.0, is.1)
     where
+      -- the column of a path has its time and cube, and a path without a time gives none
       from_column : (x : Option ℕ) (cube : List Literal) (c : Column) → Contains (column_of cube x) c →
           (x ≡ Some c.time) × (cube ≡ c.cube)
       from_column None cube c j = absurd (Contains-nil c j)
@@ -161,6 +169,7 @@ module _ (g : Graph) (few : process_count g ≤ 128) (urgency : List ℕ)
         times_in columns s ≡ option_to_list (get_or run.times x None)
     times s run law ran = by_time (get_or run.times x None) refl
       where
+        -- the tree agrees with the item's time in this run
         agrees : Agrees s (carried g order rows s x) (λ time. time ≡ get_or run.times x None) t
         agrees = tree s run law ran
 
@@ -173,6 +182,7 @@ module _ (g : Graph) (few : process_count g ≤ 128) (urgency : List ℕ)
             (record { stands = p.1; matched = subst (λ (ls : List Literal). matches ls s ≡ true) (sym p.3) m })
             ∙ e))))
           where
+            -- what is excluded: a time that is none
             some_none : (n : ℕ) → Some n ≡ None → ⊥
             some_none n e = cc
         by_time (Some n) e =

@@ -19,9 +19,11 @@ use Rattle.cpg_run.specs.Run.{bounds_of_item, unfrozen_time}
 -- given: a process of an order, and times of one scenario
 -- `order`, `topological`: an order of the graph; `s`, `t`, `p`: a scenario, its times and a process
 module _ (g : Graph) (order : List ℕ) (topological : IsTopological g order) (s : Scenario) (t : Times) (p : ℕ) where
+  -- the start that p would have if it weren't frozen
   abbrev least_start : ℕ
   least_start = greatest (start_bounds g order s t p)
 
+  -- each bound of the start is no later
   bound : (b : ℕ) → Contains (start_bounds g order s t p) b → b ≤ least_start
   bound b k = greatest_above (start_bounds g order s t p) b k
 

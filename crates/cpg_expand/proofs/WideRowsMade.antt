@@ -46,9 +46,11 @@ same_sum f h n same = omega (
 -- `rows`, `n`, `long`: the rows of the first n items; `more`, `row`, `is`: those with one more row
 module _ (g : Graph) (rows more : List Row) (row : Row) (n : ℕ) (long : length rows ≡ n)
     (is : more ≡ rows ++ row ∷ []) where
+  -- each of the first n items keeps its row
   row_before : (x : ℕ) → x < n → row_for more x ≡ row_for rows x
   row_before x l = ap (λ rs. row_for rs x) is ∙ get_or_append_left rows (row ∷ []) no_row x (omega (arith, l, long))
 
+  -- the next item has the new row
   row_last : row_for more n ≡ row
   row_last = ap₂ row_for is (sym long) ∙ get_or-append_seam rows row [] no_row
 
@@ -59,6 +61,7 @@ module _ (g : Graph) (rows more : List Row) (row : Row) (n : ℕ) (long : length
       (λ x l. ap (λ (r : Row). length r.columns * rows_of_item g (item_at g x)) (row_before x l)))
       (ap (λ (r : Row). length r.columns * rows_of_item g (item_at g n)) row_last)
 
+  -- a list of one row that isn't too wide has no row that is
   one_few : length row.columns ≤ MOST_COLUMNS → All (λ (r : Row). length r.columns ≤ MOST_COLUMNS) (row ∷ [])
   one_few h = search rules
 
@@ -115,9 +118,11 @@ pub wide_shown : (wide : Option ℕ) (fault : BuildFault) (g : Graph) (urgency :
     ShowsLarge wide (HaveWideRows g urgency times) fault
 wide_shown None fault g urgency times rows row n load l made new few h = none_shown fault h
   where
+    -- what is excluded: a name where there is none
     no_name : (x : ℕ) → None ≡ Some x → ⊥
     no_name x e = cc
 
+    -- if there is no item to name, only a fault of memory is left, and that names none
     none_shown : (fault : BuildFault) →
         ShowsLarge None ((MOST_COLUMNS < length row.columns) ⊎
         (MOST_LOAD < load + length row.columns * rows_of_item g (item_at g n))) fault →

@@ -5,7 +5,7 @@ use Rattle.cpg_base.specs.Activity.{item_active}
 use Rattle.cpg_base.specs.Scenario.{Scenario, IsScenario}
 use Rattle.cpg_tree.specs.Tree.{Path, TreeState, IsOnPath}
 
--- in each scenario whether an item is active
+-- a tree that says in each scenario whether an item is active
 abbrev pub IsActivityOf : Graph → ℕ → TreeState Bool → Type 0
 IsActivityOf g x t = (s : Scenario) (path : Path Bool) → IsScenario g s → IsOnPath t.paths s path →
     path.1 ≡ item_active g s.values (item_at g x)

@@ -11,15 +11,19 @@ use Rattle.cpg_run.specs.Carrying.{ContainsKept}
 -- in a scenario the tree's value has a fact, and its path says no more than these literals
 pub record Agrees {T : Type 0} (s : Scenario) (literals : List Literal) (fact : T → Type 0)
     (t : TreeState T) : Type 0 where
+  -- the path of the scenario has a value with the fact
   pub value : (x : Path T) → IsOnPath t.paths s x → fact x.1
+  -- its literals follow from those that are given
   pub says : (x : Path T) → IsOnPath t.paths s x → ContainsKept t.faults x.0 literals
 
 -- the tree's value in a scenario is this one, and its path says no more than literals
 abbrev pub HasValueFrom : {T : Type 0} → Scenario → List Literal → T → TreeState T → Type 0
 HasValueFrom s literals x t = Agrees s literals (λ y. y ≡ x) t
 
--- a tree of at most a graph's faults, whose paths speak of its variables
+-- a tree of a graph: for its number of faults, with one path for each scenario, and with tests of its variables alone
 pub record IsTree {T : Type 0} (g : Graph) (t : TreeState T) : Type 0 where
   pub faults : t.faults ≡ g.faults
+  -- each scenario takes one of the paths
   pub each : HasOnePathEach g.faults t.paths
+  -- each test is of a variable of the graph
   pub known : DoPathsPass (is_variable g) t.paths

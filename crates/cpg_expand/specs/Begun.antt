@@ -46,11 +46,13 @@ pub record IsBegunBy (how : TreeState Bool → TreeState (Option ℕ) → Type 0
 -- a start that waits for all that the process waits for in each scenario
 pub record IsThawedStart (g : Graph) (p : ℕ) (f : ForestState) (guard : Guard)
     (start : TreeState (Option ℕ)) : Type 0 where
+  -- until when the process waits on its node: that is ready, and has heard what the guard tests
   pub wait : TreeState ℕ
   pub waits : IsWaitTree g f (node_of g p) guard wait
+  -- the starts after that, the release and the inputs
   pub is : IsStartTree g f wait (process_at g p).release (inputs g p) guard start
 
--- the same, as a way to a start
+-- the same, in the form that `IsBegunBy` takes
 abbrev pub thawed_start : Graph → ℕ → ForestState → Guard → TreeState Bool → TreeState (Option ℕ) → Type 0
 thawed_start g p f guard chooser start = IsThawedStart g p f guard start
 
@@ -58,11 +60,14 @@ thawed_start g p f guard chooser start = IsThawedStart g p f guard start
 pub record IsFrozenStart (g : Graph) (order : List ℕ) (guards : Guards) (p : ℕ) (f : ForestState)
     (before after : List (Option ℕ))
     (chooser : TreeState Bool) (start : TreeState (Option ℕ)) : Type 0 where
+  -- the place from which on the processes before p on its node have to be looked at
   pub from : ℕ
   pub cut : IsCut g order guards (node_of g p) (place order p) from
+  -- the latest start that any scenario has, if the process is ever active
   pub latest : Option ℕ
   pub top : IsLatestStart g order guards f (node_of g p) from (place order p) (process_at g p).release
       (inputs g p) chooser latest
+  -- that time is set, and the tree has it wherever the process is active
   pub frozen : IsFrozenBy p latest chooser before after start
 
 -- the start of a process: by all that it waits for if it is not frozen, and at the latest time if it is

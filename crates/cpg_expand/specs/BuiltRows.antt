@@ -12,8 +12,10 @@ use Rattle.cpg_expand.specs.declared.built_rows.BuiltRows.{BuiltRows}
 -- all rows of all tables together.
 pub record AreBuiltRows (g : Graph) (urgency order : List ℕ) (r : BuiltRows) : Type 0 where
   pub same : r.order ≡ order
+  -- they are the rows that are found under the order and these frozen times
   pub found : AreRowsFound g urgency order r.frozen r.rows.items
   pub fit : DoRowsFit g r.rows.items
+  -- the greatest finish and the greatest excess, each with its least scenario and process
   pub worst : IsWorst g urgency order r.frozen r.worst.time r.worst.scenario r.worst.process
   pub excess : IsExcess g urgency order r.frozen r.excess.time r.excess.scenario r.excess.process
 
@@ -32,5 +34,7 @@ built_of r t = record {
 
 -- these are tables of the rows, with the frozen times and the measures of them
 pub record IsAssembledOf (g : Graph) (r : BuiltRows) (b : Built) : Type 0 where
+  -- the tables have just these rows
   pub written : AreTablesWith g r.rows.items b.tables
+  -- the frozen times and the measures are those of the rows
   pub same : b ≡ built_of r b.tables

@@ -13,12 +13,12 @@ abbrev pub AreLeaves : (Activation → Type 0) → Guard → Type 0
 AreLeaves fact (Leaf a) = fact a
 AreLeaves fact (Test c off on) = AreLeaves fact off × AreLeaves fact on
 
--- each tree is made, and fits its guard
+-- each known guard has a tree that is made and fits it
 abbrev pub AreKnown : {T : Type 0} → (TreeState T → Type 0) → (Guard → TreeState T → Type 0) → List (KnownGuard T) →
     Type 0
 AreKnown {T} made fits known = All (λ (k : KnownGuard T). made k.tree × fits k.guard.now k.tree) known
 
--- a guard is at a place
+-- the list has the guard at this place
 abbrev pub IsAt : {T : Type 0} → List (KnownGuard T) → ℕ → Guard → Type 0
 IsAt {T} known i g = (i < length known) × HoldsAt (λ (k : KnownGuard T). k.guard.now ≡ g) known i
 
@@ -26,23 +26,23 @@ IsAt {T} known i g = (i < length known) × HoldsAt (λ (k : KnownGuard T). k.gua
 abbrev pub AreKept : {T : Type 0} → List (KnownGuard T) → List (KnownGuard T) → Type 0
 AreKept old new = (i : ℕ) (g : Guard) → IsAt old i g → IsAt new i g
 
--- if the tree that is found is in the list, its place is one of the list's
+-- what is found is there: a place is one of the list's
 abbrev pub IsThere : {T : Type 0} → List (KnownGuard T) → Source T → Type 0
 IsThere known (At i) = i < length known
 IsThere known (Alone t) = Unit {0}
 
--- the tree that is found
+-- the tree that is found: the one at a place of the list, or one that stands alone
 abbrev pub IsTreeOf : {T : Type 0} → List (KnownGuard T) → Source T → TreeState T → Type 0
 IsTreeOf {T} known (At i) r = HoldsAt (λ (k : KnownGuard T). r ≡ k.tree) known i
 IsTreeOf known (Alone t) r = r ≡ t
 
--- a tree of a guard is found
+-- what is found for a guard: its place in the list, or a tree of its own that is made and fits it
 abbrev pub IsFound : {T : Type 0} → (TreeState T → Type 0) → (Guard → TreeState T → Type 0) → List (KnownGuard T) →
     Guard → Source T → Type 0
 IsFound made fits known g (At i) = IsAt known i g
 IsFound made fits known g (Alone t) = made t × fits g t
 
--- a guard and its tree are added, or the tree is given back
+-- a guard and its tree are added at the end of the list, or the tree is given back and the list stays
 abbrev pub IsAdded : {T : Type 0} → List (KnownGuard T) → List (KnownGuard T) → Guard → TreeState T → Source T → Type 0
 IsAdded {T} old new g tree (At i) =
     (i ≡ length old) × (k : KnownGuard T) × (new ≡ old ++ (k ∷ [])) × (k.guard.now ≡ g) × (k.tree ≡ tree)

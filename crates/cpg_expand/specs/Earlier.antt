@@ -14,14 +14,17 @@ use Rattle.cpg_tree.specs.Tree.{Path, TreeState, IsOnPath}
 pub record IsBetween (g : Graph) (order : List ℕ) (node from to q : ℕ) : Type 0 where
   pub within : q < process_count g
   pub there : node_of g q ≡ node
+  -- its place is from the one on, and before the other
   pub after : from ≤ place order q
   pub sooner : place order q < to
 
--- the guards of a graph, and an order of its processes
+-- the guards have a tree for each process, and the order has a place for it; there are at most 32 conditions
 pub record AreAlong (g : Graph) (guards : Guards) (order : List ℕ) : Type 0 where
   pub few : condition_count g ≤ 32
+  -- the guards of all processes, for as many conditions as the graph has
   pub trees : length guards.trees ≡ process_count g
   pub conditions : guards.conditions ≡ condition_count g
+  -- each process has a place in the order
   pub places : length order ≡ process_count g
 
 -- whether a guard leads to an active leaf on each way
@@ -38,9 +41,11 @@ IsCut g order guards node to from =
 -- one of the first k processes is between two places, and its guard tests a condition
 pub record IsAskedOf (g : Graph) (order : List ℕ) (guards : Guards) (node from to c k : ℕ)
     (o : List Bool) : Type 0 where
+  -- such a process: one of the first k, and between the places
   pub process : ℕ
   pub below : process < k
   pub between : IsBetween g order node from to process
+  -- its guard tests c in the outcome o
   pub tested : is_tested (tree_of guards process) o c ≡ true
 
 -- a tree is true exactly where one of these processes tests the condition

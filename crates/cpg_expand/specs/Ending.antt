@@ -18,13 +18,15 @@ use Rattle.cpg_expand.specs.declared.forest.Ready.TheVariants.{After, At}
 abbrev pub durations_of : Graph → ℕ → List ℕ
 durations_of g p = map (duration g p) (numbers_below (g.faults + 1))
 
--- the ends of a process, by its starts and its count
+-- the ends of a process: in each scenario the start and the duration with its count of faults, by the literals of the
+-- start and the count's
 abbrev pub IsEndTree : Graph → ℕ → TreeState (Option ℕ) → TreeState (Option ℕ) → Type 0
 IsEndTree g p start t = (s : Scenario) → HasAtMostFaults g.faults s → (literals : List Literal) (x : Option ℕ) →
     HasValueFrom s literals x start →
     HasValueFrom s (literals ++ number_known s p ∷ []) (ended (durations_of g p) (number_of s p) x) t
 
--- the end if a process is active, and else the time for which it would have waited
+-- when a node is ready after a process: at its end in scenarios in which it is active, and else when the wait is over.
+-- `first`, `second`: what the chooser says, and the tree that it picks
 abbrev pub IsReadyTree : ℕ → TreeState Bool → TreeState (Option ℕ) → TreeState ℕ → TreeState ℕ → Type 0
 IsReadyTree k active end wait t = (s : Scenario) → HasAtMostFaults k s →
     (b : Bool) (first second : List Literal) (x : Option ℕ) (w v : ℕ) → HasValueFrom s first b active →

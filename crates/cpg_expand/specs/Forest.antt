@@ -9,38 +9,44 @@ use Rattle.cpg_expand.specs.Agreeing.{IsTree}
 use Rattle.cpg_expand.specs.declared.forest.Ready.{Ready}
 use Rattle.cpg_expand.specs.declared.forest.Ready.TheVariants.{After, At}
 
--- the trees of the times of each item, of the ends of each process, and by node from when on it is ready and its
--- slots are free; and the item to name if one on the way has too many leaves
+-- the trees that are grown along an order
 pub record ForestState : Type 0 where
+  -- the times of each item
   pub times : List (TreeState (Option ℕ))
+  -- the ends of each process
   pub ends : List (TreeState (Option ℕ))
+  -- from when on each node is ready, and its slots are free
   pub ready : List Ready
   pub free : List (TreeState ℕ)
+  -- the item to name if a tree on the way has too many leaves
   pub wide : Option ℕ
 
 -- a tree without paths
 abbrev pub no_tree : {T : Type 0} → ℕ → TreeState T
 no_tree k = record { faults = k; paths = [] }
 
--- from when on a node is ready, by the ends of a process or by a tree
+-- what says when a node is ready is of the graph: one of its processes, or a tree
 abbrev pub IsWait : Graph → Ready → Type 0
 IsWait g (After q) = q < process_count g
 IsWait g (At t) = IsTree g t
 
--- when a node of the forest is ready
+-- what says when a node is ready: the ends of a process, or a tree
 abbrev pub ready_at : Graph → ForestState → ℕ → Ready
 ready_at g f node = get_or f.ready node (At (no_tree g.faults))
 
--- a tree for each; a node that is ready after a process has that process
+-- a forest of a graph has a tree for each item, each process and each node
 pub record HasTrees (g : Graph) (f : ForestState) : Type 0 where
+  -- there are as many as items, processes and nodes
   pub times : length f.times ≡ item_count g
   pub ends : length f.ends ≡ process_count g
   pub ready : length f.ready ≡ length g.nodes
   pub free : length f.free ≡ length g.nodes
+  -- each is a tree of the graph, or a process of it
   pub all_times : All (IsTree g) f.times
   pub all_ends : All (IsTree g) f.ends
   pub all_ready : All (IsWait g) f.ready
   pub all_free : All (IsTree g) f.free
+  -- a node that is ready after a process has that process
   pub own : (node q : ℕ) → node < length g.nodes → ready_at g f node ≡ After q → node_of g q ≡ node
 
 -- the tree of an item's times
@@ -51,7 +57,7 @@ times_of g f x = get_or f.times x (no_tree g.faults)
 abbrev pub ends_of : Graph → ForestState → ℕ → TreeState (Option ℕ)
 ends_of g f p = get_or f.ends p (no_tree g.faults)
 
--- the times of a tree, 0 if there are none
+-- the times of a tree read as numbers, 0 where there is none
 abbrev pub later_tree : TreeState (Option ℕ) → TreeState ℕ
 later_tree t = later_by 0 t
 
@@ -60,7 +66,7 @@ abbrev pub ready_by : Graph → ForestState → Ready → TreeState ℕ
 ready_by g f (After q) = later_tree (ends_of g f q)
 ready_by g f (At t) = t
 
--- the tree that says when an input is there, and by how long it is later
+-- the tree of the times after which an input is there: those of its message, or the ends of its source within a node
 abbrev pub input_tree : Graph → ForestState → ℕ → TreeState (Option ℕ)
 input_tree g f e = if is_message g e then times_of g f (message_item g e) else ends_of g f (source g e)
 
@@ -68,7 +74,8 @@ input_tree g f e = if is_message g e then times_of g f (message_item g e) else e
 abbrev pub input_delay : Graph → ℕ → ℕ
 input_delay g e = if is_message g e then slot_length g (home g (message_item g e)) else 0
 
--- the tree that says when a node has heard a condition, and by how long it is later
+-- the tree of the times after which a node has heard a condition: the ends of its process on that node, or else the
+-- times of its broadcast
 abbrev pub heard_tree : Graph → ForestState → ℕ → ℕ → TreeState (Option ℕ)
 heard_tree g f node c = if node_of g (process_of g c) == node then ends_of g f (process_of g c)
     else times_of g f (broadcast_item g c)

@@ -3,12 +3,12 @@ use Rattle.std.specs.Prelude.{ℕ, ◌≡◌, Bool, List, Option, Some, None, sl
 use Rattle.cpg_tree.specs.Tree.{TreeState, IsMap}
 use Rattle.cpg_expand.specs.Values.{time_if}
 
--- a frozen time is set, if there is one
+-- the frozen times with the latest time of one item set, if it has one
 abbrev pub set_if : List (Option ℕ) → ℕ → Option ℕ → List (Option ℕ)
 set_if old x None = old
 set_if old x (Some time) = slice_set old x (Some time)
 
--- the latest time is set, if there is one, and stands wherever the item is active
+-- the latest time of item x, if there is one, becomes its frozen time, and t has it wherever the item goes
 pub record IsFrozenBy (x : ℕ) (latest : Option ℕ) (goes : TreeState Bool) (old new : List (Option ℕ))
     (t : TreeState (Option ℕ)) : Type 0 where
   pub set : new ≡ set_if old x latest

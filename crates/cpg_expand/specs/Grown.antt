@@ -26,6 +26,7 @@ use Rattle.cpg_expand.specs.declared.forest.Ready.TheVariants.{After, At}
 
 -- rows that hold, for each item that a process before the place i sends, the columns that its tree lists
 pub record RowsHold (g : Graph) (order : List ℕ) (i : ℕ) (f : ForestState) (rows : List (List Column)) : Type 0 where
+  -- some column of the item's row has the cube of each path that has a time
   pub sends : (x : ℕ) → x < item_count g → process_count g ≤ x → place order (producer g x) < i →
       (path : Path (Option ℕ)) (time : ℕ) →
       Contains (times_of g f x).paths path → path.1 ≡ Some time →
@@ -34,15 +35,19 @@ pub record RowsHold (g : Graph) (order : List ℕ) (i : ℕ) (f : ForestState) (
 -- a tree says when a node is ready, and its path says no more than what the node carries on
 pub record IsReadyLine (g : Graph) (order : List ℕ) (rows : List (List Column)) (s : Scenario) (t : Times) (i node : ℕ)
     (tree : TreeState ℕ) : Type 0 where
+  -- when the node is ready in the run
   pub time : ℕ
   pub is : IsReady g order s t i node time
+  -- the tree gives that time, by no more than what the node carries on
   pub has_value : HasValueFrom s (flat_map (passed g rows s) (on_node g order i node)) time tree
 
 -- a tree says when the node's slots are free, and its path says no more than what is sent leaves to those behind it
 pub record IsFreeLine (g : Graph) (order : List ℕ) (rows : List (List Column)) (s : Scenario) (t : Times) (i node : ℕ)
     (tree : TreeState ℕ) : Type 0 where
+  -- when its slots are free in the run
   pub time : ℕ
   pub is : IsFree g order s t i node time
+  -- the tree gives that time, by no more than what is sent leaves to those behind it
   pub has_value : HasValueFrom s (flat_map (queued g order rows s) (sent_before g order i node)) time tree
 
 -- in one scenario with its run the trees give the times and ends before the place i, and, if something waits for
@@ -74,10 +79,13 @@ IsDone g order p k x = IsEarlier g order (place order p) x ⊎ ((x ≡ p) ⊎ Co
 -- sends
 pub record SendLines (g : Graph) (order : List ℕ) (rows : List (List Column)) (s : Scenario) (t : Times) (p k : ℕ)
     (f : ForestState) : Type 0 where
+  -- the times of what is done
   pub times : (x : ℕ) → x < item_count g → IsDone g order p k x →
       HasValueFrom s (carried g order rows s x) (get_or t.times x None) (times_of g f x)
+  -- the ends of p and of earlier processes
   pub ends : (q : ℕ) → q < process_count g → place order q < place order p + 1 →
       HasValueFrom s (carried_at_end g order rows s q) (get_or t.ends q None) (ends_of g f q)
+  -- when nodes are ready behind p, if a later process waits for that
   pub ready : (node : ℕ) → node < length g.nodes → IsWaitedFor g order (place order p + 1) node →
       IsReadyLine g order rows s t (place order p + 1) node (ready_of g f node)
   -- the slots of p's own node are free behind what p has sent so far
@@ -116,9 +124,12 @@ pub record IsGrown (g : Graph) (order : List ℕ) (i : ℕ) (frozen : List (Opti
 
 -- the trees are grown up to a process that has begun and sent the first k of its items
 pub record IsSending (g : Graph) (order : List ℕ) (p k : ℕ) (frozen : List (Option ℕ)) (f : ForestState) : Type 0 where
+  -- a tree for each item, process and node, without times for what isn't sent
   pub trees : HasTrees g f
   pub unsent : LeavesUnsent g f
+  -- what is done has its frozen times, and nothing else has any
   pub settled : AreSettledOf g order (IsDone g order p k) frozen
+  -- in each scenario the trees give the run of what is done
   pub lines : (rows : List (List Column)) → RowsHold g order (place order p) f rows → (s : Scenario) → IsScenario g s →
       (t : Times) →
       IsRun g order frozen s t → SendLines g order rows s t p k f
@@ -135,6 +146,7 @@ IsReadyFirst k (At t) = IsConstant 0 k t
 
 -- no item has times, and each node is ready and its slots are free from the beginning
 pub record IsBare (g : Graph) (f : ForestState) : Type 0 where
+  -- no item has a time in any scenario, and nodes and slots are free from time 0 on
   pub times : All (IsConstant None g.faults) f.times
   pub ready : All (IsReadyFirst g.faults) f.ready
   pub free : All (IsConstant 0 g.faults) f.free

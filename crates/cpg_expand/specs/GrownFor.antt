@@ -15,8 +15,11 @@ IsWidth g order (Some x) = IsLeastWide g order x
 -- the trees of all processes under the order, which give its runs, with its excess and its finish
 pub record IsGrownFor (g : Graph) (urgency order : List ℕ) (grown : Grown) : Type 0 where
   pub same : grown.order ≡ order
+  -- the least item that is too wide by its views, if one is
   pub wide : IsWidth g order grown.wide
+  -- the trees and frozen times of all processes
   pub trees : IsGrown g order (process_count g) grown.trees.frozen grown.trees.forest
   pub frozen : AreFrozenTimes g order grown.trees.frozen
+  -- the greatest finish and the greatest excess, each with its least scenario and process
   pub worst : IsWorst g urgency order grown.trees.frozen grown.worst.time grown.worst.scenario grown.worst.process
   pub excess : IsExcess g urgency order grown.trees.frozen grown.excess.time grown.excess.scenario grown.excess.process

@@ -18,11 +18,11 @@ use Rattle.cpg_expand.specs.Agreeing.{HasValueFrom}
 use Rattle.cpg_expand.specs.Forest.{ForestState, heard_tree, heard_delay, input_tree, input_delay}
 use Rattle.cpg_expand.specs.Values.{time_later}
 
--- the value of a condition
+-- the literal that says a condition's value in a scenario
 abbrev pub value_known : Scenario → ℕ → Literal
 value_known s c = number_known s (value_variable c)
 
--- the values of these conditions
+-- the literals that say the values of these conditions
 abbrev pub values_known : Scenario → List ℕ → List Literal
 values_known s cs = map (value_known s) cs
 
@@ -51,7 +51,7 @@ IsTestedOn k guard c t = (s : Scenario) → HasAtMostFaults k s →
 abbrev pub support_of : Scenario → (ℕ → List Literal) → List ℕ → List Literal
 support_of s support cs = flat_map (λ c. support c ++ value_known s c ∷ []) cs
 
--- when these are there, each a delay after its time
+-- when the last of some things is there, each a delay after its time
 abbrev pub latest_of : (ℕ → ℕ) → (ℕ → Option ℕ) → List ℕ → ℕ
 latest_of delay time xs = greatest (map (λ x. time_later (delay x) (time x)) xs)
 
@@ -101,7 +101,7 @@ awaited inputs Inactive = []
 awaited inputs Plain = inputs
 awaited inputs (By e) = e ∷ []
 
--- what its start says, and the start
+-- the literals by which a process starts: those of the wait and of the awaited inputs, or none if it is inactive
 abbrev pub start_says : List Literal → (ℕ → List Literal) → List ℕ → Activation → List Literal
 start_says base support inputs a = if is_active a then base ++ flat_map support (awaited inputs a) else []
 
@@ -110,7 +110,8 @@ abbrev pub start_at : ℕ → ℕ → (ℕ → ℕ) → (ℕ → Option ℕ) →
 start_at wait release delay time inputs a = if is_active a
     then Some (max (max wait release) (latest_of delay time (awaited inputs a))) else None
 
--- the starts of a process with an activation
+-- the starts of a process with an activation. `base`, `x`: what the wait says, and when it is over; `support`, `time`:
+-- what each input says, and the time after which it is there
 abbrev pub IsStartBy : Graph → ForestState → TreeState ℕ → ℕ → List ℕ → Activation → TreeState (Option ℕ) → Type 0
 IsStartBy g f wait release inputs a t =
     (s : Scenario) → HasAtMostFaults g.faults s → (base : List Literal) (x : ℕ) → HasValueFrom s base x wait →
@@ -118,8 +119,8 @@ IsStartBy g f wait release inputs a t =
     ((e : ℕ) → Contains (awaited inputs a) e → HasValueFrom s (support e) (time e) (input_tree g f e)) →
     HasValueFrom s (start_says base support inputs a) (start_at x release (input_delay g) time inputs a) t
 
--- the starts of a process with a guard
--- the literals are those of the guard's way and, if the process is active, those of what it waits for
+-- the starts of a process with a guard: the literals are those of the guard's way and, if the process is active, those
+-- of what it waits for
 abbrev pub IsStartTree : Graph → ForestState → TreeState ℕ → ℕ → List ℕ → Guard → TreeState (Option ℕ) → Type 0
 IsStartTree g f wait release inputs guard t =
     (s : Scenario) → HasAtMostFaults g.faults s → (base : List Literal) (x : ℕ) → HasValueFrom s base x wait →

@@ -21,10 +21,12 @@ abbrev pub or_later : ℕ → ℕ → Option ℕ → ℕ
 or_later latest delay None = latest
 or_later latest delay (Some time) = max latest (time_later delay (Some time))
 
--- a scenario has a time of a tree where another one is true, and something is there a delay later
+-- where `wanted` is true in scenario s, the tree has a time there, and n is a delay after it
 pub record HasLater (tree : TreeState (Option ℕ)) (wanted : TreeState Bool) (delay n : ℕ) (s : Scenario) : Type 0 where
+  -- the time that the tree has where `wanted` is true
   pub time : ℕ
   pub has : HasWhere tree wanted time s
+  -- n is this time, with the delay
   pub is : n ≡ time_later delay (Some time)
 
 -- in a scenario in which a process is active one of a node between two places has ended
@@ -37,6 +39,7 @@ pub record HasEnded (g : Graph) (order : List ℕ) (f : ForestState) (active : T
 -- one of the first k processes has ended
 pub record HasEndedOf (g : Graph) (order : List ℕ) (f : ForestState) (active : TreeState Bool) (node from to k n : ℕ)
     (s : Scenario) : Type 0 where
+  -- the process, whose end is at n
   pub process : ℕ
   pub below : process < k
   pub there : HasEnded g order f active node from to process n s
@@ -47,8 +50,11 @@ pub record HasEndedOf (g : Graph) (order : List ℕ) (f : ForestState) (active :
 pub record HasHeard (g : Graph) (order : List ℕ) (guards : Guards) (f : ForestState) (active : TreeState Bool)
     (node from to c n : ℕ)
     (s : Scenario) : Type 0 where
+  -- one of the processes tests the condition
   pub asked : IsAskedOf g order guards node from to c (process_count g) s.values
+  -- the process whose start is in question is active
   pub acts : HasValueAt active.paths true s
+  -- the node has heard the condition a delay after the time of its tree
   pub time : ℕ
   pub has : HasValueAt (heard_tree g f node c).paths (Some time) s
   pub is : n ≡ time_later (heard_delay g node c) (Some time)
@@ -57,6 +63,7 @@ pub record HasHeard (g : Graph) (order : List ℕ) (guards : Guards) (f : Forest
 pub record HasHeardOf (g : Graph) (order : List ℕ) (guards : Guards) (f : ForestState) (active : TreeState Bool)
     (node from to k n : ℕ)
     (s : Scenario) : Type 0 where
+  -- the condition, which is heard at n
   pub condition : ℕ
   pub below : condition < k
   pub there : HasHeard g order guards f active node from to condition n s
@@ -64,19 +71,23 @@ pub record HasHeardOf (g : Graph) (order : List ℕ) (guards : Guards) (f : Fore
 -- in a scenario in which a process is active an input from another node is there
 -- `e`: the edge; `n`: when its frame is there in scenario s
 pub record HasInput (g : Graph) (f : ForestState) (active : TreeState Bool) (e n : ℕ) (s : Scenario) : Type 0 where
+  -- the edge's input comes in a frame
   pub message : is_message g e ≡ true
+  -- the time of what is sent
   pub time : ℕ
   pub has : HasWhere (input_tree g f e) active time s
+  -- n is when the frame has come
   pub is : n ≡ time_later (input_delay g e) (Some time)
 
 -- one of these inputs is there
 pub record HasInputOf (g : Graph) (f : ForestState) (active : TreeState Bool) (edges : List ℕ) (n : ℕ)
     (s : Scenario) : Type 0 where
+  -- the edge, whose frame is there at n
   pub edge : ℕ
   pub of : Contains edges edge
   pub there : HasInput g f active edge n s
 
--- no less than before, no scenario has a greater one, and some scenario has it if it is greater than before
+-- A latest time is raised from `old` to `new` by what scenarios have: `has n s` says that scenario s has the number n.
 pub record IsRaised (g : Graph) (has : ℕ → Scenario → Type 0) (old new : ℕ) : Type 0 where
   -- no less than before
   pub from : old ≤ new
@@ -113,9 +124,11 @@ IsLatestOf g order guards f node from i ready edges active (Some latest) =
 pub record IsLatestStart (g : Graph) (order : List ℕ) (guards : Guards) (f : ForestState) (node from i release : ℕ)
     (edges : List ℕ)
     (active : TreeState Bool) (latest : Option ℕ) : Type 0 where
+  -- the tree that has the release everywhere
   pub ready : TreeState (Option ℕ)
   pub each : HasOnePathEach g.faults ready.paths
   pub at : IsConstant (Some release) g.faults ready
+  -- the latest time of all that the start waits for
   pub is : IsLatestOf g order guards f node from i ready edges active latest
 
 -- ---- sends
@@ -130,6 +143,7 @@ pub record HasQueued (g : Graph) (order : List ℕ) (f : ForestState) (goes : Tr
 -- such an item, one of the first k
 pub record HasQueuedOf (g : Graph) (order : List ℕ) (f : ForestState) (goes : TreeState Bool) (x k n : ℕ)
     (s : Scenario) : Type 0 where
+  -- the item
   pub item : ℕ
   pub below : item < k
   pub there : HasQueued g order f goes x item n s

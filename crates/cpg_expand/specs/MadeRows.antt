@@ -11,19 +11,25 @@ use Rattle.cpg_expand.specs.TreeRows.{AreListedOf}
 
 -- the columns of a tree, by their least scenarios
 pub record AreEntriesOf (g : Graph) (urgency : List ℕ) (t : TreeState (Option ℕ)) (entries : List Column) : Type 0 where
+  -- the columns that the tree lists
   pub are : AreListedOf g t entries
+  -- they stand by their least scenarios
   pub by_lows : AreByLows (λ (c : Column). c.cube) g urgency entries
 
 -- the columns of a tree, merged
 pub record AreMergedOf (g : Graph) (urgency : List ℕ) (t : TreeState (Option ℕ)) (entries : List Column) : Type 0 where
+  -- the columns that the tree lists, in any order
   pub columns : List Column
   pub are : AreListedOf g t columns
+  -- the row has them merged
   pub merge : IsMergeOf g urgency columns entries
 
 -- the row of an item, merged if it is a start
 pub record IsRowOf (g : Graph) (urgency : List ℕ) (t : TreeState (Option ℕ)) (x : ℕ) (row : Row) : Type 0 where
   pub item : row.item ≡ x
+  -- the columns of a start are merged
   pub start : x < process_count g → AreMergedOf g urgency t row.columns
+  -- the columns of what is sent are those that the tree lists
   pub send : process_count g ≤ x → AreEntriesOf g urgency t row.columns
 
 -- by number the rows of the first n items, each by its tree

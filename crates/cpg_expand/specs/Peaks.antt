@@ -44,8 +44,10 @@ SomeHas n has time s = (q : ℕ) × (q < n) × has q time s
 -- none of the first n processes has a time in any scenario
 -- `n`: how many processes; `has q time s`: process q has the time in scenario s
 pub record IsNoPeak (g : Graph) (n : ℕ) (has : ℕ → ℕ → Scenario → Type 0) (peak : Peak) : Type 0 where
+  -- the peak is then 0, in the scenario without faults and with all values false
   pub time : peak.time ≡ 0
   pub scenario : peak.scenario ≡ zero_scenario g
+  -- no process has a time
   pub none : (q time : ℕ) (s : Scenario) → q < n → IsScenario g s → has q time s → ⊥
 
 -- the time of the peak is the greatest, its scenario the least that has it, and p the least process that has it there
@@ -94,9 +96,11 @@ pub record IsSamePeak (paths : List (Path (Option ℕ))) (old new : Peak) : Type
 -- the greatest time, if it goes before the peak
 pub record IsLaterPeak (g : Graph) (urgency : List ℕ) (paths : List (Path (Option ℕ))) (p : ℕ)
     (old new : Peak) : Type 0 where
+  -- the greatest time of the paths, and its scenario
   pub time : ℕ
   pub scenario : Scenario
   pub greatest : IsGreatestOf g urgency paths time scenario
+  -- it takes the peak's place if it goes before it
   pub is : new ≡ or_time g urgency old time scenario p
 
 -- the peak with the times of the paths too
@@ -106,9 +110,11 @@ IsNextPeak g urgency paths p old new = IsSamePeak paths old new ⊎ IsLaterPeak 
 -- the peak with how far the times of the tree are past the process's due, too
 pub record IsNextExcess (g : Graph) (urgency : List ℕ) (end : TreeState (Option ℕ)) (p : ℕ)
     (old new : Peak) : Type 0 where
+  -- how far each end is past the due, as a tree
   pub tree : TreeState (Option ℕ)
   pub of : IsTree g tree
   pub made : IsMap (λ x z. z ≡ time_past (due g p) x) end tree
+  -- the peak with its paths
   pub next : IsNextPeak g urgency tree.paths p old new
 
 -- ---- measures of runs

@@ -46,7 +46,8 @@ IsGoesTree g x chooser t = (s : Scenario) → HasAtMostFaults g.faults s → (fi
     HasValueFrom s (first ++ (if active g s.values (producer g x) then sent_by_value g s x else []))
     (item_active g s.values (item_at g x)) t
 
--- the first free slots where an item is sent
+-- When an item is sent: in the first free slot where it goes, and never elsewhere. `first`, `second`, `third`: what
+-- says where it goes, when its producer ends, and when slots are free.
 abbrev pub IsSentTree : ℕ → ShareState → TreeState Bool → TreeState (Option ℕ) → TreeState ℕ → TreeState (Option ℕ) →
     Type 0
 IsSentTree k share goes end free t =

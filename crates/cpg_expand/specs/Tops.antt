@@ -39,6 +39,7 @@ reaches bar (Some top) = nat_le bar top
 -- some scenario has the time, and none a greater one
 pub record IsTopAt (g : Graph) (has : ℕ → Scenario → Type 0) (top : ℕ) : Type 0 where
   pub above : (time : ℕ) (s : Scenario) → IsScenario g s → has time s → time ≤ top
+  -- a scenario that has it
   pub scenario : Scenario
   pub lawful : IsScenario g scenario
   pub there : has top scenario

@@ -9,9 +9,11 @@ use Rattle.cpg_tree_columns.specs.Columns.{columns_of_paths, IsTidyColumn}
 use Rattle.cpg_tree.specs.Tree.{TreeState, HasOnePathEach}
 use Rattle.cpg_expand.specs.Agreeing.{Agrees}
 
--- what the columns of a tree are, in any order
+-- the columns that a tree lists, in any order
 pub record AreListedOf (g : Graph) (t : TreeState (Option ℕ)) (columns : List Column) : Type 0 where
+  -- the tree has one path for each scenario
   pub each : HasOnePathEach g.faults t.paths
+  -- there is a column for each path that has a time
   pub all : IsPermutation (columns_of_paths t.paths) columns
   pub tidy : All (IsTidyColumn g) columns
 

@@ -13,8 +13,10 @@ use Rattle.cpg_expand.specs.Forest.{ForestState, times_of, ends_of}
 -- the trees give the ends of the active processes before the place i, and the times of what they send
 pub record HasTreeValues (g : Graph) (order : List ℕ) (rows : List (List Column)) (s : Scenario) (t : Times) (i : ℕ)
     (f : ForestState) : Type 0 where
+  -- the ends of active processes
   pub ends : (q : ℕ) → q < process_count g → place order q < i → active g s.values q ≡ true →
       HasValueFrom s (carried_at_end g order rows s q) (get_or t.ends q None) (ends_of g f q)
+  -- the times of active items that they send
   pub sends : (x : ℕ) → x < item_count g → process_count g ≤ x → place order (producer g x) < i →
       item_active g s.values (item_at g x) ≡ true →
       HasValueFrom s (carried_by_row rows s x) (get_or t.times x None) (times_of g f x)

@@ -11,18 +11,22 @@ use Rattle.cpg_expand.specs.Waiting.{IsWaitTree}
 
 -- a process on the node that isn't frozen stands at the place i or later
 pub record IsWaitedFor (g : Graph) (order : List ℕ) (i node : ℕ) : Type 0 where
+  -- the process, which is on the node
   pub other : ℕ
   pub within : other < process_count g
   pub there : node_of g other ≡ node
+  -- its place, and that it isn't frozen
   pub later : i ≤ place order other
   pub thawed : is_frozen g other ≡ false
 
 -- an item of the node that is sent and isn't frozen is of a process at the place i or later
 pub record IsQueuedFor (g : Graph) (order : List ℕ) (i node : ℕ) : Type 0 where
+  -- the item, which the node sends
   pub other : ℕ
   pub within : other < item_count g
   pub sent : is_sent g other ≡ true
   pub there : home g other ≡ node
+  -- its process's place, and that it isn't frozen
   pub later : i ≤ place order (producer g other)
   pub thawed : is_frozen g other ≡ false
 
@@ -36,8 +40,10 @@ stands_before g order y x = (is_sent g y && (home g y == home g x))
 pub record IsReadyOnce (g : Graph) (f : ForestState) (node : ℕ) (guard : Guard) (chooser : TreeState Bool)
     (end : TreeState (Option ℕ))
     (t : TreeState ℕ) : Type 0 where
+  -- what the process waited for on its node, or would have
   pub wait : TreeState ℕ
   pub waits : IsWaitTree g f node guard wait
+  -- the node is ready at the end, or else when that wait is over
   pub is : IsReadyTree g.faults chooser end wait t
 
 -- it is one after a process p, if one behind p that isn't frozen waits for the node

@@ -20,18 +20,22 @@ rows_load g rows n = sum_by (row_load g rows) (numbers_below n)
 
 -- the row of an item has too many columns
 pub record IsWideRow (g : Graph) (urgency : List ℕ) (times : List (TreeState (Option ℕ))) : Type 0 where
+  -- the item, and the row that is made of its tree
   pub item : ℕ
   pub within : item < item_count g
   pub row : Row
   pub made : IsRowOf g urgency (get_or times item (no_tree g.faults)) item row
+  -- it has more columns than a row may have
   pub many : MOST_COLUMNS < length row.columns
 
 -- the rows of the first items have too many columns together
 pub record AreWideRows (g : Graph) (urgency : List ℕ) (times : List (TreeState (Option ℕ))) : Type 0 where
+  -- how many of the first items, and their rows
   pub count : ℕ
   pub within : count ≤ item_count g
   pub rows : List Row
   pub made : AreFirstRows g urgency times count rows
+  -- they have more columns than all tables together may have
   pub many : MOST_LOAD < rows_load g rows count
 
 -- one row has too many columns, or the rows of the first items have too many together
@@ -44,6 +48,7 @@ HaveWideRows g urgency times = IsWideRow g urgency times ⊎ AreWideRows g urgen
 -- item, nothing is required.
 pub record AreFewSoFar (g : Graph) (rows : List Row) (n load : ℕ) : Type 0 where
   pub few : All (λ row. length row.columns ≤ MOST_COLUMNS) rows
+  -- the columns so far, once for each table in which their row stands
   pub is : load ≡ rows_load g rows n
   pub within : load ≤ MOST_LOAD
 
@@ -55,6 +60,7 @@ AreFewIf (Some item) g rows n load = AreFewSoFar g rows n load
 -- one more row is within the limits, and `after` counts its columns too; if there is no item, nothing is required
 pub record IsLoadWith (g : Graph) (row : Row) (x before after : ℕ) : Type 0 where
   pub few : length row.columns ≤ MOST_COLUMNS
+  -- each column counts once for each table in which the row stands
   pub is : after ≡ before + length row.columns * rows_of_item g (item_at g x)
   pub within : after ≤ MOST_LOAD
 

@@ -76,6 +76,7 @@ module _ {g : Graph} {tables : List NodeTable} {w : World} (k : Played g tables 
     value (own_of (own_table g a (table_at tables a)) e.process).condition (λ d is. t.value d (sym t.condition ∙ is)),
   )
     where
+      -- by whether the process has a condition: its value is then what was heard
       value : (o : Option ℕ) → ((d : ℕ) → o ≡ Some d →
           (value_variable d < 160) × (number_of_value e.value ≡ number_of w.scenario (value_variable d))) →
           ValueFits ranges o e.value
@@ -90,6 +91,7 @@ module _ {g : Graph} {tables : List NodeTable} {w : World} (k : Played g tables 
   heard_all [] d = refl
   heard_all (f ∷ fs) d = heard_all fs (hear d f)
 
+  -- ends change nothing that was heard
   heard_finished : (es : List Ended) (d : Dispatcher) → (fold finished d es).heard ≡ d.heard
   heard_finished [] d = refl
   heard_finished (e ∷ es) d = heard_finished es (finished d e)
@@ -97,12 +99,15 @@ module _ {g : Graph} {tables : List NodeTable} {w : World} (k : Played g tables 
   -- given that the node has a next instant and waits on no node
   module _ (e : next (dispatcher_at c a) ≡ Some time)
       (free : (b : ℕ) → b < length g.nodes → waits_on g c a time b ≡ false) where
+    -- the node after the reports of the turn
     abbrev ready : Dispatcher
     ready = reported g w (dispatcher_at c a) time
 
+    -- the frames that arrive at the turn
     abbrev frames : List Frame
     frames = frames_now g w c ready time
 
+    -- its table is the node's own
     table_is : ready.table ≡ own_table g a (table_at tables a)
     table_is = table_ready k c r a l time e
 
@@ -112,6 +117,7 @@ module _ {g : Graph} {tables : List NodeTable} {w : World} (k : Played g tables 
         (sym (heard_finished (map (λ (q : ℕ × Ended). q.1) (reports_now g w (dispatcher_at c a) time))
         (dispatcher_at c a) ∙ ap (λ (d : Dispatcher). d.heard) (r.holds a l).is)) (r.holds a l).keeps
 
+    -- none of these frames is strange
     all_fine : AllFine ready time frames
     all_fine = fine frames ready table_is
         (Learnt g tables w.scenario a (by (r.holds a l).last)) keeps_ready learnt_true (λ f m. m)
@@ -154,6 +160,7 @@ module _ {g : Graph} {tables : List NodeTable} {w : World} (k : Played g tables 
         (λ z m. subst (λ q. EndFits q.table (hear_all q frames).heard z) (sym same)
         (all_fit z (subst (λ q. Contains (due_reports q time) z) same m)))
       where
+        -- a moment that comes after the last turn isn't before it
         after_is : (last : Option ℕ) (moment : ℕ) → is_after last moment ≡ true → after_last last ≤ moment
         after_is None moment h = omega arith
         after_is (Some last) moment h = floor_after (Some last) moment h
@@ -183,9 +190,11 @@ module _ {g : Graph} {tables : List NodeTable} {w : World} (k : Played g tables 
               (turn (after_reports d (by_time reports)) time [] frames)) acts f.comes),
         )
 
+-- a step is lawful, and has brought the stream where the node of the cluster is
 abbrev Comes : Graph → Cluster → ℕ → Step → Type 0
 Comes g c node s = (s.fault ≡ None) × HasCome s.progress (dispatcher_at c node) (get_or c.acts node [])
 
+-- a step without a fault is a lawful one
 whole : (s : Step) → s.fault ≡ None → lawful s.progress ≡ s
 whole s e = ap (λ o. record { progress = s.progress; fault = o }) (sym e)
 
@@ -208,6 +217,7 @@ module _ {g : Graph} {tables : List NodeTable} {w : World} (k : Played g tables 
         (other (answer g c a) (next (dispatcher_at c a)) (λ s. ne (sym s)))
   ]
     where
+      -- by what the node answers: only a node that takes its turn is told something
       here : (ans : Answer) (o : Option ℕ) → answer g c node ≡ ans → next (dispatcher_at c node) ≡ o →
           Comes g (step_by g w c node ans o) node (follow (lawful p) (records_by g w c node ans o))
       here Took (Some time) q e = turn_followed k c r node l time e (free_from k c r node time q e) p h

@@ -27,6 +27,7 @@ use Rattle.cpg_live.specs.Stream.{turned}
 use Rattle.cpg_live.specs.Stream.{turns_below, with_rest}
 use Rattle.cpg_follow_laws.specs.Ranges.{HasNumber, NoRangeIsEmpty, FramesContradictWhereTheyTell}
 
+-- no range of the list is empty
 abbrev AllHave : List Range → Type 0
 AllHave ranges = All HasNumber ranges
 
@@ -48,6 +49,7 @@ ends_have table (e ∷ es) heard h = ends_have table es (hear_end table heard e)
 
 -- ---- turns, in which a live node is told nothing
 
+-- no range that the node holds is empty
 abbrev Has : NodeProgress → Type 0
 Has p = AllHave p.dispatcher.heard
 
@@ -56,6 +58,7 @@ turn_has : (p : NodeProgress) (o : Option ℕ) → Has p → Has (turn_if p o)
 turn_has p None h = h
 turn_has p (Some time) h = ends_have p.dispatcher.table (due_reports p.dispatcher time) p.dispatcher.heard h
 
+-- some turns without frames leave none empty
 turns_have : (count limit : ℕ) (p : NodeProgress) → Has p → Has (turns_below count limit p)
 unfolding turns_below
 turns_have zero limit p h = h
@@ -90,18 +93,22 @@ step_has time (Ending process faults value) p h =
     cond_both (may_end q.dispatcher time e) _ (faulty q FalseEnd) (λ (s : Step). Has s.progress) (λ _. have) (λ _. have)
 step_has time Close p h = turns_have (time + 1) (time + 1) p h
 
+-- no range of the node of a stream is empty
 abbrev Holds : LiveState → Type 0
 Holds s = Has s.progress
 
+-- a record that is judged by the node's own state leaves none empty
 judged_holds : (s : LiveState) (time : ℕ) (event : Option Event) → Holds s → Holds (judged s time event)
 judged_holds s time None h = h
 judged_holds s time (Some event) h =
     cond_both (nat_lt time s.time) (refused s Order) (stepped s time event (step time event s.progress)) Holds (λ _. h)
     (λ _. settles (step time event s.progress) (step_has time event s.progress h))
   where
+    -- what a step answers, and by whether it refuses the record
     settles : (q : Step) → Has q.progress → Holds (stepped s time event q)
     settles q h = go q.fault
       where
+        -- a record that is refused changes no range
         go : (o : Option Defect) → Holds (settled (record s { progress = q.progress }) time event o)
         go None = h
         go (Some defect) = h
@@ -112,10 +119,12 @@ record_holds s bytes h =
     cond_both (is_some s.lawless) s _ Holds (λ _. h) (λ _. cond_both s.closed (refused s Length) _ Holds (λ _. h)
     (λ _. judged_holds s (record_of bytes).time (event_of s.progress.dispatcher.table (record_of bytes)) h))
 
+-- several records, one after another
 records_hold : (records : List (List ℕ)) (s : LiveState) → Holds s → Holds (fold take_record s records)
 records_hold [] s h = h
 records_hold (r ∷ rs) s h = records_hold rs (take_record s r) (record_holds s r h)
 
+-- bytes that are no whole record change no range
 rest_holds : (s : LiveState) (rest : List ℕ) → Holds s → Holds (with_rest s rest)
 rest_holds s rest h =
     cond_both (is_some s.lawless) s _ Holds (λ _. h) (λ _. cond_both (s.closed && nat_lt 0 (length rest))
@@ -138,12 +147,14 @@ untold v (l ∷ ls) heard ne = untold v ls (cut heard l) (λ m c. ne m (Contains
     ∙ get_or-set_other heard l.variable v (cut_range (range_of heard l.variable) l) (record { low = 0; high = 0 })
     (λ e. ne l (Contains-first l ls) (sym e))
 
+-- two tests that imply each other are equal
 same_answer : (a b : Bool) → (a ≡ true → b ≡ true) → (b ≡ true → a ≡ true) → a ≡ b
 same_answer true b f e = sym (f refl)
 same_answer false true f e = e refl
 same_answer false false f e = refl
 
 module _ (heard : List Range) (ls : List Literal) (have : AllHave heard) where
+  -- the ranges once the frame is heard
   abbrev left : List Range
   left = cut_all heard ls
 
@@ -165,6 +176,7 @@ module _ (heard : List Range) (ls : List Literal) (have : AllHave heard) where
             absurd (not_empty v (sym (ap is_contradicted same) ∙ empty))
       ]
     where
+      -- no range was empty before
       not_empty : (v : ℕ) → is_contradicted (range_of heard v) ≡ true → ⊥
       not_empty v e =
           let less = ltb-true (range_of heard v).high (range_of heard v).low e in

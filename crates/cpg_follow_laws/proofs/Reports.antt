@@ -50,6 +50,7 @@ in_inserted : (x : ℕ × Ended) (ys : List (ℕ × Ended)) (e : ℕ × Ended) �
 in_inserted x [] e c = elim (Contains-cases x [] e c) [ inl s ↦ inl s | inr n ↦ inr n ]
 in_inserted x (y ∷ ys) e c = go (leb x.0 y.0) c (in_inserted x ys e)
   where
+    -- by whether the inserted report comes before the first
     go : (b : Bool) → Contains (cond b (x ∷ y ∷ ys) (y ∷ inserted x ys)) e →
         (Contains (inserted x ys) e → (x ≡ e) ⊎ Contains ys e) →
         (x ≡ e) ⊎ Contains (y ∷ ys) e
@@ -74,6 +75,7 @@ apart_inserted : (x : ℕ × Ended) (ys : List (ℕ × Ended)) → ((e : ℕ × 
 apart_inserted x [] h r = (h, r)
 apart_inserted x (y ∷ ys) h r = go (leb x.0 y.0) (apart_inserted x ys (λ e c. h e (Contains-rest y ys e c)) r.1)
   where
+    -- by whether the inserted report comes before the first
     go : (b : Bool) → Rises Apart (inserted x ys) → Rises Apart (cond b (x ∷ y ∷ ys) (y ∷ inserted x ys))
     go true ih = (h, r)
     go false ih = (
@@ -84,6 +86,7 @@ apart_inserted x (y ∷ ys) h r = go (leb x.0 y.0) (apart_inserted x ys (λ e c.
       ih,
     )
 
+-- sorted by time, reports are still of different processes
 apart_by_time : (es : List (ℕ × Ended)) → Rises Apart es → Rises Apart (by_time es)
 apart_by_time [] r = r
 apart_by_time (x ∷ es) r = apart_inserted x (by_time es) (λ e c. r.0 e (in_by_time es e c)) (apart_by_time es r.1)
@@ -111,6 +114,7 @@ rises_inserted x (y ∷ ys) r = go (leb x.0 y.0) refl (rises_inserted x ys r.1)
       ih,
     )
 
+-- sorted by time, they rise in time
 rises_by_time : (es : List (ℕ × Ended)) → Rises NotLater (by_time es)
 rises_by_time [] = tt
 rises_by_time (x ∷ es) = rises_inserted x (by_time es) (rises_by_time es)
@@ -125,6 +129,7 @@ told_inserted d x [] h = refl
 told_inserted d x (y ∷ ys) h =
     go (leb x.0 y.0) (told_inserted (finished d y.1) x ys (λ e c. h e (Contains-rest y ys e c)))
   where
+    -- by whether the inserted report comes before the first: two reports of different processes may change places
     go : (b : Bool) →
         after_reports (finished d y.1) (inserted x ys) ≡ after_reports (finished (finished d y.1) x.1) ys →
         after_reports d (cond b (x ∷ y ∷ ys) (y ∷ inserted x ys)) ≡ after_reports (finished d x.1) (y ∷ ys)

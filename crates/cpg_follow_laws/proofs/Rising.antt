@@ -62,6 +62,7 @@ after_moment : (last : Option ℕ) (time : ℕ) → is_after last time ≡ true 
 after_moment None time h = omega arith
 after_moment (Some last) time h = omega (arith, floor_after (Some last) time h)
 
+-- if the next turn may come only after the close, the last one came by then
 by_moment : (last : Option ℕ) (close : ℕ) → after_last last ≤ close + 1 → moment last ≤ close
 by_moment None close h = omega arith
 by_moment (Some last) close h = omega (arith, h)
@@ -102,6 +103,7 @@ module _ {g : Graph} {tables : List NodeTable} {w : World} (k : Played g tables 
         (rise_play rest (step g w c a) (reached_step k c r a) close le))
   ]
     where
+      -- a dispatcher for places without a node
       nobody : Dispatcher
       nobody =
           initial_dispatcher (record { faults = 0; first_broadcast = 0; own = []; starts = []; sends = []; hears = [] })

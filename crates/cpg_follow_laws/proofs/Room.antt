@@ -59,6 +59,7 @@ column_there d time f e =
     ltb-true f.column (length (columns_in d.table.hears f.item))
     (is_true (nat_lt f.column (length (columns_in d.table.hears f.item))) q.1)
   where
+    -- what isn't false is true
     is_true : (b : Bool) → not b ≡ false → b ≡ true
     is_true true e = refl
     is_true false e = absurd (true≢false e)
@@ -69,6 +70,7 @@ columns_few : (rows : List Row) (x : ℕ) → ((row : Row) → Contains rows row
 columns_few [] x h = omega arith
 columns_few (row ∷ rows) x h = go (row.item == x) (columns_few rows x (λ r m. h r (Contains-rest row rows r m)))
   where
+    -- by whether the first row is of the item
     go : (b : Bool) → length (columns_in rows x) ≤ MOST_COLUMNS →
         length (cond b row.columns (columns_in rows x)) ≤ MOST_COLUMNS
     go true ih = h row (Contains-first row rows)
@@ -80,11 +82,13 @@ frame_item w (Start p) a = refl
 frame_item w (Message e) a = refl
 frame_item w (Broadcast c) a = refl
 
+-- a frame of no broadcast carries no value
 frame_plain : (g : Graph) (w : World) (x : ℕ) (a : Act) → x < process_count g + edge_count g →
     (frame_of_item w (item_at g x) a).value ≡ false
 frame_plain g w x a less = go (nat_lt x (process_count g)) (nat_lt x (process_count g + edge_count g))
     (lt-ltb x (process_count g + edge_count g) less)
   where
+    -- by whether the item is a start, a message or a broadcast
     go : (b c : Bool) → c ≡ true →
         (frame_of_item w (cond b (Start x)
         (cond c (Message (x - process_count g)) (Broadcast (x - process_count g - edge_count g)))) a).value ≡ false
@@ -95,6 +99,7 @@ frame_plain g w x a less = go (nat_lt x (process_count g)) (nat_lt x (process_co
 -- given a node of a play of the tables of a graph within the limits
 module _ {g : Graph} {tables : List NodeTable} {w : World} (k : Played g tables w) (within : IsWithinLimits g)
     (of : AreTablesOf (head_of g) tables) (node : ℕ) (l : node < length g.nodes) where
+  -- an event that the node is told has room in a record
   abbrev Fits : ℕ × Event → Type 0
   Fits e = HasRoom (own_table g node (table_at tables node)) e.1
 
@@ -149,6 +154,7 @@ module _ {g : Graph} {tables : List NodeTable} {w : World} (k : Played g tables 
           omega (arith, may.few, faults, within.faults),
         )
 
+    -- so all that it is told at a turn has
     turn_fits : AllByRecursion Fits (records_at g w c node time)
     turn_fits = all_append Fits (map end_event (by_time (reports_now g w (dispatcher_at c node) time)))
         (map (frame_event time) (frames_now g w c (reported g w (dispatcher_at c node) time) time))
@@ -172,6 +178,7 @@ module _ {g : Graph} {tables : List NodeTable} {w : World} (k : Played g tables 
         (sym (cond-false (a == node) _ _ (ne_eqb a node ne))) (all_fit rest (step g w c a) (reached_step k c r a))
   ]
     where
+      -- by what the node answers: only a node that takes its turn is told something
       here : (ans : Answer) (o : Option ℕ) → answer g c node ≡ ans → next (dispatcher_at c node) ≡ o →
           AllByRecursion Fits (records_by g w c node ans o)
       here Took (Some time) q e = turn_fits c r time e q

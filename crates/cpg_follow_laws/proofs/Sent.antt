@@ -29,6 +29,7 @@ by_up : (last : Option ℕ) (m n : ℕ) → by last n ≡ true → m ≤ n → b
 by_up None m n e l = e
 by_up (Some t) m n e l = le-leb m t (omega (arith, leb-true n t e))
 
+-- a range from a number to itself has that number only
 same_range : (r : Range) (n : ℕ) → r.low ≡ n → r.high ≡ n → r ≡ only n
 same_range r n low high = λ i. record { low = low i; high = high i }
 
@@ -38,13 +39,16 @@ sent_values_are_known g tables f h v w turns node condition a is l m e =
     let k : Played g tables w = played_of g tables f h v w is in
     let s : Scenario = w.scenario in
     let c : Cluster = play g w (initial_cluster g tables) turns in
+    -- what the node has done was asked of it by its last turn
     let n = (reached k turns).holds node l in
     let mine = n.done.only a m in
     let asked : Asked g tables s node a = mine.0 in
     let within = asked.row.within in
+    -- the item is the broadcast of this condition
     let there : condition < condition_count g = omega (arith, e, within) in
     let item = ap (item_at g) e ∙ item_at-broadcast g condition in
     let made : producer g a.item ≡ process_of g condition = ap (producer_of_item g) item in
+    -- the act is due, and so orderly: the condition's process has ended by then
     let all : Contains (all_asked g tables s) a =
     all_asked_in k.setting a (subst (λ n. Asked g tables s n a) (sym asked.row.home) asked) in
     let given = list_any_parts (gives_end g s (producer g a.item) a.time) (all_asked g tables s)

@@ -32,9 +32,11 @@ use Rattle.cpg_follow_laws.proofs.Room.{all_fit}
 
 -- a lawful close of bytes that aren't too many is their end as they are read
 module _ (table : NodeTable) (bytes : List ℕ) (short : length bytes ≤ STREAM_LIMIT) where
+  -- no bytes are left out, since there are no more than the limit
   whole : read_part bytes ≡ bytes
   whole = take_all (STREAM_LIMIT + 1) bytes (omega (arith, short))
 
+  -- the stream isn't refused for its length
   not_long : (b : Bool) (end : Result ℕ StreamFault) → cond (b && false) (Err Long) end ≡ end
   not_long true end = refl
   not_long false end = refl
@@ -59,11 +61,14 @@ bytes_give g tables within of f v w turns node close es is l t =
     let h = has_shape g within tables of in
     let k = played_of g tables f h v w is in
     let table : NodeTable = own_table g node (table_at tables node) in
+    -- what the node is told up to the close, and that it can follow these records
     let told : List (ℕ × Event) = records_in g w (initial_cluster g tables) node turns in
     let fine = (plays_are_followed g tables f h v w turns node is l).none in
+    -- the records lead to the same state in the order in which they are spelled
     let same : follow (lawful (start table)) es ≡ follow (lawful (start table)) told =
     events_commute (start table) 0 close told es
     (records_rise g tables f h v w turns node close is l t.late) t.rise t.those fine in
+    -- its records have room in a table's bytes, so the stream spells them
     let room = all_of (λ (e : ℕ × Event). HasRoom table e.1) es told t.those
     (all_fit k within of node l turns (initial_cluster g tables) (reached_open k)) in
     let taken = bytes_spell table es close t.small t.rise room (ap (λ (s : Step). s.fault) same ∙ fine) in
@@ -71,10 +76,12 @@ bytes_give g tables within of f v w turns node close es is l t =
     ≡ follow (lawful (start table)) (closed_at told close) =
     fold-append follow_one (lawful (start table)) es ((close, Close) ∷ []) ∙ ap (λ s. follow_one s (close, Close)) same
     ∙ sym (fold-append follow_one (lawful (start table)) told ((close, Close) ∷ [])) in
+    -- the acts that it has come to are those that are due
     let due = (streams_give g tables f h v w turns node close is l t.done t.late).acts in
     let count : length tables ≡ length g.nodes = h.count in
     let own : table ≡ table_at tables node = own_is g tables within of node (omega (arith, l, count)) in
     let ends = subst (λ t. outcome (after t (stream_bytes (closed_at es close))) ≡ Ok close) own taken.ends in
+    -- the stream ends with the close, the acts are what is due, and the lines that are shown are those of the acts
     record {
       ends = ends;
       acts = subst (λ t. IsDue g tables w.scenario node (after t (stream_bytes (closed_at es close))).progress.acts) own

@@ -15,7 +15,7 @@ use Rattle.cpg_live.specs.Stream.{Step, lawful, start}
 use Rattle.cpg_live.specs.Told.{follow, HasCome, after_last, turn_events}
 use Rattle.cpg_live.specs.Spelling.{RiseWithin, closed_at}
 
--- the reports in order of time
+-- a report stands before the first one that isn't earlier
 abbrev pub inserted : ℕ × Ended → List (ℕ × Ended) → List (ℕ × Ended)
 inserted e [] = e ∷ []
 inserted e (f ∷ fs) = if nat_le e.0 f.0 then e ∷ f ∷ fs else f ∷ inserted e fs
@@ -58,7 +58,9 @@ opened g tables node = lawful (start (own_table g node (table_at tables node)))
 
 -- the stream is lawful so far, and with all turns up to the play's last the node has done what it did in the play
 pub record IsFollowedSoFar (g : Graph) (tables : List NodeTable) (w : World) (turns : List ℕ) (node : ℕ) : Type 0 where
+  -- no record is refused
   pub none : (follow (opened g tables node) (records_in g w (initial_cluster g tables) node turns)).fault ≡ None
+  -- the node has come where it is in the play
   pub comes : let c = play g w (initial_cluster g tables) turns in
       HasCome (follow (opened g tables node) (records_in g w (initial_cluster g tables) node turns)).progress
       (dispatcher_at c node) (get_or c.acts node [])
@@ -76,7 +78,9 @@ stream_of g tables w turns node close = closed_at (records_in g w (initial_clust
 -- the stream is lawful to its close, and the acts are those that are due
 pub record GivesWhatIsDue (g : Graph) (tables : List NodeTable) (w : World) (turns : List ℕ)
     (node close : ℕ) : Type 0 where
+  -- no record is refused
   pub none : (follow (opened g tables node) (stream_of g tables w turns node close)).fault ≡ None
+  -- the acts are those that are due
   pub acts : IsDue g tables w.scenario node
       (follow (opened g tables node) (stream_of g tables w turns node close)).progress.acts
 

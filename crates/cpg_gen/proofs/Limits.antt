@@ -52,6 +52,7 @@ numbered_differ b i j l m e = absurd (omega (arith, decimal_injective i j (omega
 pub draw-lt : (x n bound : ℕ) → 0 < bound → nth_draw x n bound < bound
 draw-lt x n bound l = mod-lt (number_after x n / 2 ^ 33) l
 
+-- a process made of a draw is within the limits
 process_within : (x i : ℕ) → IsProcessWithin 4 (process_from x i)
 process_within x i = record {
   node = mod-lt i (omega arith);
@@ -66,6 +67,7 @@ process_within x i = record {
   deadline = search rules;
 }
 
+-- so is each of the four slots
 slot_within : (i : ℕ) → i < 4 → IsSlotWithin 4 (slot_of i)
 slot_within i l =
     record { node = l; lasts = omega arith; length = omega arith; holds = omega arith; bytes = omega arith }
@@ -78,19 +80,24 @@ pub record IsGeneratedEdge (e : Edge) : Type 0 where
   pub frozen : e.frozen ≡ true
   pub chosen : is_some e.when ≡ true → ((e.from == 10) || (e.from == 20)) ≡ true
 
+-- the predecessor that a draw chooses has a lower number
 predecessor-lt : (x i : ℕ) → i ≢ 0 → predecessor_by x i < i
 predecessor-lt x i some = omega arith
 
+-- an edge has a `when` only if it is chosen to
 when_chosen : (b odd : Bool) → is_some (cond b (Some odd) None) ≡ true → b ≡ true
 when_chosen true odd e = refl
 when_chosen false odd e = absurd (true≢false (sym e))
 
+-- each edge to process i is a generated one
 edges_are : (x i : ℕ) → i < 60 → (e : Edge) → Contains (edges_by x i) e → IsGeneratedEdge e
 edges_are x i l e k = go (i == 0) refl (i == 40) refl k
   where
+    -- the two edges to the join are
     of_join : (value : Bool) → IsGeneratedEdge (edge_of 10 40 (Some value))
     of_join value = record { rises = omega arith; within = omega arith; size = refl; frozen = refl; chosen = λ _. refl }
 
+    -- so is one that is drawn
     of_drawn : i ≢ 0 → IsGeneratedEdge (edge_of (predecessor_by x i) i (when_of (predecessor_by x i) i))
     of_drawn some = record {
       rises = predecessor-lt x i some;
@@ -100,6 +107,7 @@ edges_are x i l e k = go (i == 0) refl (i == 40) refl k
       chosen = when_chosen ((predecessor_by x i == 10) || (predecessor_by x i == 20)) (i % 2 == 1);
     }
 
+    -- by what i is: the root without edges, the join with two, or any other with one
     go : (root : Bool) → (i == 0) ≡ root → (join : Bool) → (i == 40) ≡ join →
         Contains (cond root [] (cond join (edge_of 10 40 (Some true) ∷ edge_of 10 40 (Some false) ∷ [])
         (edge_of (predecessor_by x i) i (when_of (predecessor_by x i) i) ∷ []))) e → IsGeneratedEdge e
@@ -121,9 +129,11 @@ edges_are x i l e k = go (i == 0) refl (i == 40) refl k
 abbrev inputs_of : ℕ → ℕ
 inputs_of i = cond (i == 0) 0 (cond (i == 40) 2 1)
 
+-- there are as many edges to i as it has inputs
 edges_long : (x i : ℕ) → length (edges_by x i) ≡ inputs_of i
 edges_long x i = go (i == 0) (i == 40)
   where
+    -- none to the root, two to the join, one to any other
     go : (root join : Bool) →
         length (cond root [] (cond join (edge_of 10 40 (Some true) ∷ edge_of 10 40 (Some false) ∷ [])
         (edge_of (predecessor_by x i) i (when_of (predecessor_by x i) i) ∷ []))) ≡
@@ -178,6 +188,7 @@ module _ (number : ℕ) where
       ap (λ n. length (filter is_choice (numbers_below n))) processes_count in
       omega (arith, fewer, both)
 
+  -- a generated edge is within the limits
   edge_within : (e : Edge) → IsGeneratedEdge e → IsEdgeWithin (process_count (generated number)) e
   edge_within e k = record {
     from = omega (arith, processes_count, k.rises, k.within);
@@ -191,17 +202,20 @@ module _ (number : ℕ) where
   within_limits = record {
     faults = omega arith;
     deadline = omega arith;
+    -- four nodes with a slot each, sixty processes, and few edges and conditions
     few_nodes = omega (arith, length-by node_name 4);
     few_slots = omega (arith, length-by slot_of 4);
     few_processes = omega (arith, processes_count);
     few_edges = omega (arith, edges_count);
     few_conditions = omega (arith, few_conditions);
+    -- each slot, process and edge has numbers in range
     slots = all_by (IsSlotWithin 4) slot_of 4 slot_within;
     processes =
         all_by (IsProcessWithin 4) (generated_process number) 60 (λ i l. process_within (number_before number i) i);
     edges = All-weaker (Contains (generated number).edges) (IsEdgeWithin (process_count (generated number)))
         (λ e k. edge_within e (generated_edge e k)) (generated number).edges
         (All-contains_itself (generated number).edges);
+    -- nodes and processes have names with different numbers
     node_names = pairs_by (λ a b. a ≢ b) node_name 4 (λ i j l m. numbered_differ 78 i j l (omega arith));
     process_names =
         pairs_by (λ p q. p.name ≢ q.name) (generated_process number) 60 (λ i j l m. numbered_differ 112 i j l m);
@@ -225,6 +239,7 @@ module _ (number : ℕ) where
   pub generated_well_formed : WellFormed (generated number)
   generated_well_formed = well_formed (generated number) within_limits senders_have_slots
 
+-- a graph with the two faults and the deadline of all generated ones, of these parts
 abbrev pub graph_of : List (List ℕ) → List Slot → List Process → List Edge → Graph
 graph_of nodes slots processes edges = record {
   faults = 2;

@@ -14,6 +14,7 @@ use Rattle.cpg_gen.specs.Generated.{node_name, process_name}
 abbrev is_name : List ℕ → Bool
 is_name text = nat_le 1 (length text) && nat_le (length text) 32 && list_all is_name_byte text
 
+-- a text that passes the test is a name
 IsName-from_test : (text : List ℕ) → is_name text ≡ true → IsName text
 IsName-from_test text h =
     let (sized, plain) = and_parts (nat_le 1 (length text) && nat_le (length text) 32) (list_all is_name_byte text) h in

@@ -11,12 +11,14 @@ use Rattle.cpg_gen.specs.Draws.{number_after}
 use Rattle.cpg_gen.specs.Generated.{has_predecessor, draws_of, draws_before, number_before}
 use Rattle.cpg_gen.proofs.Advancing.{number_after-add, number_after-suc}
 
+-- the draws before the next process are those before this one and its own
 draws_before_push : (i : ℕ) → draws_of i + draws_before i ≡ draws_before (i + 1)
 draws_before_push i =
     let pushed : draws_before (i + 1) ≡ draws_before i + draws_of i =
     ap (sum_by draws_of) (below_push i) ∙ sum_by_push draws_of (numbers_below i) i in
     omega (arith, pushed)
 
+-- so the number before the next process is drawn from the one before this
 number_before_next : (number i : ℕ) → number_after (number_before number i) (draws_of i) ≡ number_before number (i + 1)
 number_before_next number i =
     number_after-add number (draws_before i) (draws_of i) ∙ ap (number_after number) (draws_before_push i)

@@ -48,15 +48,18 @@ outcomes_few n l = omega (arith, length-outcomes n, powers_few n l)
 abbrev kept_of : Bool → Bool → List ℕ
 kept_of first second = cond first (39 ∷ cond second (40 ∷ []) []) (cond second (40 ∷ []) [])
 
+-- of the two edges to the join at most one is live, since they ask for different values
 one_live : (a value : Bool) → length (kept_of (a && value) (a && not value)) ≤ 1
 one_live true true = omega arith
 one_live true false = omega arith
 one_live false true = omega arith
 one_live false false = omega arith
 
+-- a frame of one byte has room in a slot of 8
 not_above : (size : ℕ) → size ≡ 1 → nat_lt 8 size ≡ false
 not_above size e = le-ltb 8 size (omega (arith, e))
 
+-- a value isn't both true and false
 not_both : (b : Bool) → b ≡ true → not b ≡ true → ⊥
 not_both true e f = both_ways false refl f
 not_both false e f = both_ways false refl e
@@ -64,6 +67,7 @@ not_both false e f = both_ways false refl e
 module _ (number : ℕ) where
   -- ---- cycles
 
+  -- an edge leads to a greater process
   rises : (p q : ℕ) → has_edge (generated number) p q ≡ true → p < q
   rises p q t =
       let found = list_any_parts (λ (e : Edge). (e.from == p) && (e.to == q)) (generated number).edges t in
@@ -92,16 +96,20 @@ module _ (number : ℕ) where
 
   -- ---- the join
 
+  -- the edges 39 and 40 lead to the join, process 40
   join_inputs : inputs (generated number) 40 ≡ 39 ∷ 40 ∷ []
   join_inputs = refl
 
+  -- edge 39 comes from process 10, if its value is true
   first_edge : edge_at (generated number) 39 ≡ edge_of 10 40 (Some true)
   first_edge = refl
 
+  -- edge 40 comes from process 10, if its value is false
   second_edge : edge_at (generated number) 40 ≡ edge_of 10 40 (Some false)
   second_edge = refl
 
   module _ (values : List Bool) where
+    -- whether an edge is live, by its fields
     abbrev live_by : Edge → Bool
     live_by e = active (generated number) values e.from && takes e.when (value_of (generated number) values e.from)
 
@@ -115,6 +123,7 @@ module _ (number : ℕ) where
         ≡ (active (generated number) values 10 && not (value_of (generated number) values 10))
     second_live = ap live_by second_edge
 
+    -- at most one input of the join is live
     join_single : length (filter (live (generated number) values) (inputs (generated number) 40)) ≤ 1
     join_single =
         let both = ap₂ (λ a b. length (kept_of a b)) first_live second_live in
@@ -122,6 +131,7 @@ module _ (number : ℕ) where
         let one = one_live (active (generated number) values 10) (value_of (generated number) values 10) in
         subst (λ n. n ≤ 1) (sym (listed ∙ both)) one
 
+  -- there is no other join
   join_is : (p : ℕ) → p < process_count (generated number) → (process_at (generated number) p).join ≡ true → p ≡ 40
   join_is p l t =
       let within : p < 60 = omega (arith, processes_count number) in
@@ -135,11 +145,13 @@ module _ (number : ℕ) where
 
   -- ---- slots
 
+  -- each node has a slot
   slot_there : (node : ℕ) → node < 4 → has_slot (generated number) node ≡ true
   slot_there node l = list_any_true (λ (s : Slot). s.node == node) (generated number).slots (slot_of node)
       (Contains-map slot_of (numbers_below 4) node (Contains-numbers 4 node l))
       (eq-eqb node node refl)
 
+  -- which holds 8 bytes
   slot_holds : (node : ℕ) → node < 4 → bytes_in (map slot_of (numbers_below 4)) node ≡ 8
   slot_holds node l = eqb-true (bytes_in (map slot_of (numbers_below 4)) node) 8
       (from_all (λ n. bytes_in (map slot_of (numbers_below 4)) n == 8) (numbers_below 4) node refl

@@ -35,6 +35,7 @@ use Rattle.cpg_base.proofs.Durations.{product_within}
 
 -- ---- numbers
 
+-- two faults at most can fall on 60 processes in 1,891 ways
 ways_of_processes : ways 60 2 ≡ 1891
 ways_of_processes =
     let none = ways_to_none 60 in
@@ -42,38 +43,47 @@ ways_of_processes =
     let two = ways_times 60 1 in
     omega arith
 
+-- at most four outcomes of that many ways make 7,564
 product_few : (p w : ℕ) → p ≤ 4 → w ≡ 1891 → p * w ≤ 7564
 product_few p w l e = subst (λ v. p * v ≤ 7564) (sym e) (omega (arith, l))
 
 -- ---- lists of values alone
 
+-- a reach that has only values of conditions: variables from 128 on
 abbrev AreValues : List ℕ → Type 0
 AreValues vs = (v : ℕ) → Contains vs v → 128 ≤ v
 
+-- a reach without variables is one
 none_values : AreValues []
 none_values v k = absurd (Contains-nil v k)
 
+-- so are the values of some conditions
 values_values : (cs : List ℕ) → AreValues (map value_variable cs)
 values_values cs v k = let r = Contains-map_parts value_variable cs v k in omega (arith, r.2)
 
+-- so are two such reaches together
 append_values : (xs ys : List ℕ) → AreValues xs → AreValues ys → AreValues (xs ++ ys)
 append_values xs ys h k v c =
     ⊎_elim (λ (a : Contains xs v). h v a) (λ (a : Contains ys v). k v a) (Contains-append_cases xs ys v c)
 
+-- so is either of two
 either_values : (b : Bool) (xs ys : List ℕ) → AreValues xs → AreValues ys → AreValues (cond b xs ys)
 either_values true xs ys h k = h
 either_values false xs ys h k = k
 
+-- so is the first of two, if the test picks it
 first_values : (b : Bool) (xs ys : List ℕ) → b ≡ true → AreValues xs → AreValues (cond b xs ys)
 first_values true xs ys e h = h
 first_values false xs ys e h = absurd (both_ways false refl e)
 
+-- such a reach has the fault count of no process
 no_count : (vs : List ℕ) → AreValues vs → (p : ℕ) → p < 128 → is_in vs p ≡ false
 no_count vs h p l =
     list_any_false (λ u. u == p) vs (λ u k. ne_eqb u p (λ e. let high = h u k in omega (arith, high, e, l)))
 
 -- ---- sums
 
+-- a sum over more numbers is no less
 sums_grow : (f : ℕ → ℕ) (n m : ℕ) → sum_by f (numbers_below n) ≤ sum_by f (numbers_below (n + m))
 sums_grow f n zero = let e : n + 0 ≡ n = omega arith in
     subst (λ k. sum_by f (numbers_below n) ≤ sum_by f (numbers_below k)) (sym e) (omega arith)
@@ -88,20 +98,25 @@ sums_grow f n (suc m) =
 abbrev bound : ℕ → ℕ
 bound x = cond (nat_lt x 60) 7564 (cond (nat_lt x 120) 8 30256)
 
+-- a start adds at most 7,564
 bound_of_start : (x : ℕ) → x < 60 → bound x ≡ 7564
 bound_of_start x l = cond-true (nat_lt x 60) 7564 (cond (nat_lt x 120) 8 30256) (lt-ltb x 60 l)
 
+-- a message adds at most 8
 bound_of_message : (x : ℕ) → 60 ≤ x → x < 120 → bound x ≡ 8
 bound_of_message x l h = cond-false (nat_lt x 60) 7564 (cond (nat_lt x 120) 8 30256) (le-ltb x 60 l)
     ∙ cond-true (nat_lt x 120) 8 30256 (lt-ltb x 120 h)
 
+-- a broadcast adds at most 30,256
 bound_of_broadcast : (x : ℕ) → 120 ≤ x → bound x ≡ 30256
 bound_of_broadcast x l = cond-false (nat_lt x 60) 7564 (cond (nat_lt x 120) 8 30256) (le-ltb x 60 (omega arith))
     ∙ cond-false (nat_lt x 120) 8 30256 (le-ltb x 120 l)
 
+-- the items of a generated graph add at most 514,832 in all
 bounds : sum_by bound (numbers_below 122) ≡ 514832
 bounds = refl
 
+-- a load that counts only if a test passes is no more than the load
 few_rows : (b : Bool) (n : ℕ) → cond b n 0 ≤ n
 few_rows true n = omega arith
 few_rows false n = omega arith
@@ -129,6 +144,7 @@ module _ (number : ℕ) where
 
   -- given a reach of values alone
   module _ (reached : List ℕ) (h : (p : ℕ) → p < 128 → is_in reached p ≡ false) where
+    -- no process has a count that the reach is free to have
     no_free : (o : List Bool) → free_counts (generated number) reached o ≡ 0
     no_free o = sym
         (length-filter (is_count_free (generated number) reached o) (numbers_below (process_count (generated number))))
@@ -138,6 +154,7 @@ module _ (number : ℕ) where
         let within : p < 128 = omega (arith, l, processes_count number) in
         ap (λ b. b && active (generated number) o p) (h p within)))
 
+    -- so an outcome has one view
     one_view : (o : List Bool) → views_of_outcome (generated number) reached o ≡ 1
     one_view o = ap (λ n. ways n 2) (no_free o) ∙ ways_of_none 2
 
@@ -158,9 +175,11 @@ module _ (number : ℕ) where
     -- ---- messages
 
     module _ (e : ℕ) (l : e < edge_count (generated number)) where
+      -- the item is that message
       item : item_at (generated number) (message_item (generated number) e) ≡ Message e
       item = item_at-message (generated number) e l
 
+      -- it is sent by the value of a condition at most
       source_values : AreValues (source_value (generated number) e)
       source_values = either_values (is_some (edge_at (generated number) e).when)
           (map value_variable (option_to_list (condition_of (generated number) (source (generated number) e)))) []
@@ -170,6 +189,7 @@ module _ (number : ℕ) where
           AreValues (sent_value (generated number) (item_at (generated number) (message_item (generated number) e)))
       sent_values = subst (λ i. AreValues (sent_value (generated number) i)) (sym item) source_values
 
+      -- the send of a message depends on values alone, since generated messages are frozen
       send_values : is_message (generated number) e ≡ true →
           AreValues (send_reach (generated number) order r (message_item (generated number) e))
       send_values t =
@@ -185,11 +205,13 @@ module _ (number : ℕ) where
           (first_values (is_frozen (generated number) x) (map value_variable still) moving frozen (values_values still))
           sent_values
 
+      -- a message within a node isn't sent, so it depends on nothing
       if_sent : (b : Bool) → is_message (generated number) e ≡ b →
           AreValues (cond b (send_reach (generated number) order r (message_item (generated number) e)) [])
       if_sent true t = send_values t
       if_sent false t = none_values
 
+      -- so each message depends on values alone
       reached_values : AreValues (reach_by_item (generated number) order r (message_item (generated number) e)
           (item_at (generated number) (message_item (generated number) e)))
       reached_values =
@@ -214,11 +236,13 @@ module _ (number : ℕ) where
         let edges = edges_count number in
         let all = few_views (reach_of r x) in
         elim (item_cases (generated number) x l) [
+          -- a start, in one row
           | inl c ↦ (let rows = ap (rows_of_item (generated number)) c.1 in
               let product = product_within (views (generated number) (reach_of r x))
               (rows_of_item (generated number) (item_at (generated number) x)) 7564 1 all (omega (arith, rows)) in
               let most = bound_of_start x (omega (arith, c.0, count)) in
               omega (arith, product, most))
+          -- a message
           | inr (inl c) ↦ (let rows = ap (rows_of_item (generated number)) c.3 in
               let two = few_rows (is_message (generated number) c.0) 2 in
               let four : views (generated number) (reach_of r x) ≤ 4 =
@@ -227,6 +251,7 @@ module _ (number : ℕ) where
               (item_at (generated number) x)) 4 2 four (omega (arith, rows, two)) in
               let most = bound_of_message x (omega (arith, c.2, count)) (omega (arith, c.1, c.2, count, edges)) in
               omega (arith, product, most))
+          -- a broadcast
           | inr (inr c) ↦ (let rows = ap (rows_of_item (generated number)) c.3 in
               let four = few_rows (nat_lt 1 4) 4 in
               let product = product_within (views (generated number) (reach_of r x)) (rows_of_item (generated number)
@@ -251,6 +276,7 @@ module _ (number : ℕ) where
         let total = bounds in
         omega (arith, each, grown, total)
 
+    -- no item has too many views or too great a load
     not_wide : (x : ℕ) → x < item_count (generated number) → is_too_wide (generated number) r x ≡ false
     not_wide x l =
         let narrow = few_views (reach_of r x) in

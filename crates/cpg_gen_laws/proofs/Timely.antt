@@ -50,7 +50,8 @@ use Rattle.cpg_gen.proofs.Limits.{draw-lt, processes_count, edges_count, few_con
 
 -- ---- durations
 
--- an execution of a generated process lasts at most 166
+-- An execution of a generated process lasts at most 166. It has work w in n parts of at most d, and f faults; a
+-- detection costs a, a checkpoint c and a recovery m.
 duration_few : (w a c m d f : ℕ) → w ≤ 50 → a ≤ 2 → c ≤ 2 → m ≤ 4 → (n : ℕ) → 1 ≤ n → n ≤ 3 → d * n < w + n → f ≤ 2 →
     w + n * (a + c) + f * (m + d + a) ≤ 166
 duration_few w a c m d f lw la lc lm zero some few h lf = absurd (omega arith)
@@ -66,6 +67,7 @@ duration_few w a c m d (suc (suc zero)) lw la lc lm (suc (suc (suc zero))) some 
 duration_few w a c m d (suc (suc (suc f))) lw la lc lm (suc n) some few h lf = absurd (omega arith)
 duration_few w a c m d f lw la lc lm (suc (suc (suc (suc n)))) some few h lf = absurd (omega arith)
 
+-- an execution of a process made of a draw lasts at most 166, with two faults at most
 duration_from : (x i f : ℕ) → f ≤ 2 → duration_of (process_from x i) f ≤ 166
 duration_from x i f l =
     let w = draw-lt x 1 50 (omega arith) in
@@ -95,12 +97,14 @@ one_more p q (x ∷ xs) y h k f t = ⊎_elim
     (λ (c : Contains xs y). there (p x) refl (q x) refl (one_more p q xs y h c f t))
     (Contains-cases x xs y k)
   where
+    -- at the element itself: only the second test counts it
     here : (a : Bool) → a ≡ false → (b : Bool) → b ≡ true → length (filter p xs) ≤ length (filter q xs) →
         length (cond a (x ∷ filter p xs) (filter p xs)) + 1 ≤ length (cond b (x ∷ filter q xs) (filter q xs))
     here false e true g ih = omega (arith, ih)
     here true e b g ih = absurd (true≢false e)
     here false e false g ih = absurd (true≢false (sym g))
 
+    -- at another element: whatever the first test counts, the second counts too
     there : (a : Bool) → p x ≡ a → (b : Bool) → q x ≡ b → length (filter p xs) + 1 ≤ length (filter q xs) →
         length (cond a (x ∷ filter p xs) (filter p xs)) + 1 ≤ length (cond b (x ∷ filter q xs) (filter q xs))
     there true e true g ih = omega (arith, ih)
@@ -108,47 +112,57 @@ one_more p q (x ∷ xs) y h k f t = ⊎_elim
     there false e true g ih = omega (arith, ih)
     there false e false g ih = ih
 
+-- a moment that comes before m comes before the next one
 later_passes : (at : ℕ → ℕ) (m x : ℕ) → nat_lt (at x) m ≡ true → nat_lt (at x) (suc m) ≡ true
 later_passes at m x t = let l = ltb-true (at x) m t in lt-ltb (at x) (suc m) (omega (arith, l))
 
+-- so no fewer moments come before the next one
 count_grows : (at : ℕ → ℕ) (n m : ℕ) → count_before at n m ≤ count_before at n (suc m)
 count_grows at n m =
     length-filter-le (λ x. nat_lt (at x) m) (λ x. nat_lt (at x) (suc m)) (numbers_below n) (later_passes at m)
 
+-- and one more if some moment is m
 count_more : (at : ℕ → ℕ) (n m x : ℕ) → x < n → at x ≡ m → count_before at n m + 1 ≤ count_before at n (suc m)
 count_more at n m x l e = one_more (λ x. nat_lt (at x) m) (λ x. nat_lt (at x) (suc m)) (numbers_below n) x
     (later_passes at m) (Contains-numbers n x l)
     (le-ltb (at x) m (omega (arith, e))) (lt-ltb (at x) (suc m) (omega (arith, e)))
 
+-- no more than all n moments come before one
 count_few : (at : ℕ → ℕ) (n m : ℕ) → count_before at n m ≤ n
 count_few at n m = omega (arith, filter_long (λ x. nat_lt (at x) m) (numbers_below n), length-range_with_len 0 n)
 
+-- a frozen time that is at most b, if there is one, is no greater in the list of it
 frozen_le : (o : Option ℕ) (b : ℕ) → ((time : ℕ) → o ≡ Some time → time ≤ b) → greatest (option_to_list o) ≤ b
 frozen_le None b h = omega arith
 frozen_le (Some time) b h = let l = h time refl in omega (arith, greatest-cons time [])
 
+-- an end is at most a bound of its start and one of its duration
 end_from : (o : Option ℕ) (d b c : ℕ) → unwrap_or o 0 ≤ b → d ≤ c →
     unwrap_or (option_map (λ start. start + d) o) 0 ≤ b + c
 end_from None d b c h l = omega arith
 end_from (Some n) d b c h l = omega arith
 
 module _ (number : ℕ) where
+  -- an execution of a process with at most two faults lasts at most 166
   duration_le : (p f : ℕ) → p < process_count (generated number) → f ≤ 2 → duration (generated number) p f ≤ 166
   duration_le p f l h =
       let within : p < 60 = omega (arith, l, processes_count number) in
       subst (λ (q : Process). duration_of q f ≤ 166) (sym (get_or-map-below (generated_process number) 60 p _ within))
       (duration_from (number_before number p) p f h)
 
+  -- no process has a release
   release_le : (p : ℕ) → p < process_count (generated number) → (process_at (generated number) p).release ≡ 0
   release_le p l =
       let within : p < 60 = omega (arith, l, processes_count number) in
       ap (λ (q : Process). q.release) (get_or-map-below (generated_process number) 60 p _ within)
 
+  -- each process is due at the deadline of 1,000,000,000
   due_is : (p : ℕ) → p < process_count (generated number) → due (generated number) p ≡ 1000000000
   due_is p l =
       let within : p < 60 = omega (arith, l, processes_count number) in
       ap (λ (q : Process). lesser_due 1000000000 q.deadline) (get_or-map-below (generated_process number) 60 p _ within)
 
+  -- the round of a generated graph takes 40
   round_is : round (generated number) ≡ 40
   round_is = refl
 
@@ -157,12 +171,15 @@ module _ (number : ℕ) where
     abbrev ended : ℕ → ℕ
     ended m = count_before (moment_of_end (generated number) order) (process_count (generated number)) m
 
+    -- how many items have a moment before m
     abbrev settled : ℕ → ℕ
     settled m = count_before (moment (generated number) order) (item_count (generated number)) m
 
+    -- the bound of the times before m: 166 for each process that has ended, and 80 for each item
     abbrev bound : ℕ → ℕ
     bound m = 166 * ended m + 80 * settled m
 
+    -- the bound doesn't fall from one moment to the next
     bound_grows : (m : ℕ) → bound m ≤ bound (suc m)
     bound_grows m =
         let a = count_grows (moment_of_end (generated number) order) (process_count (generated number)) m in
@@ -189,6 +206,7 @@ module _ (number : ℕ) where
         (moment_of_end (generated number) order p) in
         omega (arith, a, b)
 
+    -- no bound is above 19,720: 60 ends and 122 items
     bound_few : (m : ℕ) → bound m ≤ 19720
     bound_few m =
         let a = count_few (moment_of_end (generated number) order) (process_count (generated number)) m in
@@ -199,6 +217,7 @@ module _ (number : ℕ) where
         omega (arith, a, b, p, e, c)
 
     module _ (frozen : List (Option ℕ)) (still : AreFrozenTimes (generated number) order frozen) where
+      -- all times and ends before the moment m are at most its bound
       record SmallBefore (t : Times) (m : ℕ) : Type 0 where
         pub items : (x : ℕ) → x < item_count (generated number) → moment (generated number) order x < m →
             time_in t x ≤ bound m
@@ -208,6 +227,7 @@ module _ (number : ℕ) where
       -- given the run of a scenario
       module _ (s : Scenario) (t : Times) (lawful : IsScenario (generated number) s)
           (run : IsRun (generated number) order frozen s t) where
+        -- a frame of an item before m is there by the bound of m and one round
         frame_le : (m x : ℕ) → SmallBefore t m → x < item_count (generated number) →
             moment (generated number) order x < m →
             frame_there (generated number) t x ≤ bound m + 40
@@ -218,6 +238,7 @@ module _ (number : ℕ) where
             omega (arith, early, slot, turn)
 
         module _ (m p : ℕ) (a : SmallBefore t m) (at : place order p * phases (generated number) ≤ m) where
+          -- an input of a process whose place has come is there by then, too
           input_le : (e : ℕ) → Contains (inputs (generated number) p) e →
               input_there (generated number) t e ≤ bound m + 40
           input_le e c =
@@ -234,6 +255,7 @@ module _ (number : ℕ) where
                     subst (λ n. n ≤ bound m + 40) (sym (cond-false _ _ _ is)) (omega (arith, early)))
               ]
 
+          -- a process before it on its node has ended by then
           ended_le : (q : ℕ) → Contains (before_on_node (generated number) order p) q → end_in t q ≤ bound m + 40
           ended_le q c =
               let b = on_node_before (generated number) order p q c in
@@ -249,6 +271,7 @@ module _ (number : ℕ) where
               (before_on_node (generated number) order p ++ p ∷ [])) c →
               heard_there (generated number) t (node_of (generated number) p) c ≤ bound m + 40
           heard_le c d =
+              -- c decides q, which is p or stands before it; its process is earlier still
               let q = Contains-flat_map_parts (deciding (generated number) s.values)
               (before_on_node (generated number) order p ++ p ∷ []) c d in
               let r = Contains-filter_parts (decides (generated number) s.values q.0)
@@ -259,16 +282,19 @@ module _ (number : ℕ) where
               let up : place order (process_of (generated number) c) < place order p = omega (arith, earlier, l) in
               elim (cases_Bool
               (node_of (generated number) (process_of (generated number) c) == node_of (generated number) p)) [
+                -- the node has the condition's process: it has ended by then
                 | inl is ↦ (let sooner =
                     end_sooner (generated number) order topological p (process_of (generated number) c) up in
                     let early = a.ends (process_of (generated number) c) (process_of_below (generated number) c h)
                     (omega (arith, sooner, at)) in
                     subst (λ n. n ≤ bound m + 40) (sym (cond-true _ _ _ is)) (omega (arith, early)))
+                -- it hasn't: the frame is there by then
                 | inr is ↦ (let sooner = broadcast_sooner (generated number) order topological p c up in
                     subst (λ n. n ≤ bound m + 40) (sym (cond-false _ _ _ is)) (frame_le m
                     (broadcast_item (generated number) c) a (omega (arith, h)) (omega (arith, sooner, at))))
               ]
 
+          -- so the process could start by then
           start_le : p < process_count (generated number) →
               greatest (start_bounds (generated number) order s t p) ≤ bound m + 40
           start_le l =
@@ -276,18 +302,21 @@ module _ (number : ℕ) where
               start_bounds_le (generated number) order s t p (bound m + 40) (omega (arith, release))
               (λ e c k. input_le e c) (λ q c k. ended_le q c) heard_le
 
+        -- an item at m could be sent a round later than that
         send_le : (m x : ℕ) → SmallBefore t m → moment (generated number) order x ≤ m →
             x < item_count (generated number) →
             phase (item_at (generated number) x) ≡ rank_of_item (item_at (generated number) x) + 2
             → moment_of_end (generated number) order (producer (generated number) x) < m →
             greatest (send_bounds (generated number) order s t x) ≤ bound m + 80
         send_le m x a before l sends made = send_bounds_le (generated number) order s t x (bound m + 80)
+            -- the slot after the producer's end comes within a round
             (let next = next_slot-le (generated number) (home (generated number) x)
             (end_in t (producer (generated number) x)) in
             let turn = round_is in
             let early = a.ends (producer (generated number) x)
             (producer_in_range (generated number) order topological x l) made in
             omega (arith, next, turn, early))
+            -- what is queued before it was sent earlier, and its slot comes a round after
             (λ y c active.
             let q = Contains-filter_parts (λ (z : ℕ). is_queued_before (generated number) order z x)
             (numbers_below (item_count (generated number))) y c in
@@ -309,21 +338,25 @@ module _ (number : ℕ) where
             x < item_count (generated number) →
             ItemCases (generated number) x →
             unfrozen_time (generated number) order s t x ≤ bound m + 80
+        -- a start
         unfrozen_le m x a is l (inl c) =
             subst (λ i. greatest (bounds_of_item (generated number) order s t x i) ≤ bound m + 80) (sym c.1)
             (let first = moment_of_start (generated number) order topological x c.0 in
             let most = start_le m x a (omega (arith, is, first)) c.0 in
             omega (arith, most))
+        -- a message
         unfrozen_le m x a is l (inr (inl c)) =
             subst (λ i. greatest (bounds_of_item (generated number) order s t x i) ≤ bound m + 80) (sym c.3)
             (let sends = subst (λ i. phase i ≡ rank_of_item i + 2) (sym c.3)
             (let r : c.0 + 3 ≡ c.0 + 1 + 2 = omega arith in r) in
             send_le m x a (omega (arith, is)) l sends (send_made m x is sends))
+        -- a broadcast
         unfrozen_le m x a is l (inr (inr c)) =
             subst (λ i. greatest (bounds_of_item (generated number) order s t x i) ≤ bound m + 80) (sym c.3)
             (let sends = subst (λ i. phase i ≡ rank_of_item i + 2) (sym c.3) (let r : 2 ≡ 0 + 2 = omega arith in r) in
             send_le m x a (omega (arith, is)) l sends (send_made m x is sends))
 
+        -- a time is at most b if the unfrozen time and the frozen one are
         time_le : (x b : ℕ) → x < item_count (generated number) → unfrozen_time (generated number) order s t x ≤ b →
             ((time : ℕ) → get_or frozen x None ≡ Some time → time ≤ b) → time_in t x ≤ b
         time_le x b l h k = elim (cases_Bool (item_active (generated number) s.values (item_at (generated number) x))) [
@@ -338,11 +371,13 @@ module _ (number : ℕ) where
               omega arith
         ]
 
+        -- a process has at most two faults
         fault_le : (p : ℕ) → p < process_count (generated number) → fault_of s p ≤ 2
         fault_le p l =
             let one = get_or-le-sum_by (λ (n : ℕ). n) s.faults p 0 (omega (arith, lawful.faults, l)) in
             omega (arith, one, lawful.budget)
 
+        -- an end is at most 166 after a start
         end_le : (p b : ℕ) → p < process_count (generated number) → time_in t p ≤ b → end_in t p ≤ b + 166
         end_le p b l h =
             let e : end_in t p ≡ unwrap_or (end_by (generated number) s t p) 0 =
@@ -371,6 +406,7 @@ module _ (number : ℕ) where
       -- all times before moment m are at most its bound; by induction on m, with one more moment for the items and
       -- ends at m
       all_small : (m : ℕ) → AllSmall m
+      -- nothing has a moment before 0
       all_small zero s t lawful run =
           record { items = λ x l h. absurd (omega (arith, h)); ends = λ p l h. absurd (omega (arith, h)) }
       all_small (suc m) s t lawful run =
@@ -378,7 +414,9 @@ module _ (number : ℕ) where
           let grows = bound_grows m in
           record {
             items = λ x l h. elim (cases_lt (moment (generated number) order x) m) [
+              -- an item with an earlier moment
               | inl k ↦ (let early = a.items x l k in omega (arith, early, grows))
+              -- one at moment m adds at most 80
               | inr k ↦ (let is : moment (generated number) order x ≡ m = omega (arith, h, k) in
                   let time = time_le s t lawful run x (bound m + 80) l (unfrozen_le s t lawful run m x a is l
                   (item_cases (generated number) x l)) (still_le m x (all_small m) l is) in
@@ -386,7 +424,9 @@ module _ (number : ℕ) where
                   omega (arith, time, more))
             ];
             ends = λ p l h. elim (cases_lt (moment_of_end (generated number) order p) m) [
+              -- an end with an earlier moment
               | inl k ↦ (let early = a.ends p l k in omega (arith, early, grows))
+              -- one at moment m adds at most 166 to its start
               | inr k ↦ (let is : moment_of_end (generated number) order p ≡ m = omega (arith, h, k) in
                   let first = moment_of_start (generated number) order topological p l in
                   let start = a.items p (omega (arith, l)) (omega (arith, first, is)) in
@@ -406,6 +446,7 @@ module _ (number : ℕ) where
           let few = bound_few m in
           omega (arith, most, few)
 
+      -- no process exceeds its due in a run, since all end by 19,720
       no_excess : (s : Scenario) (t : Times) → IsScenario (generated number) s →
           IsRun (generated number) order frozen s t →
           excess_in_run (generated number) t ≤ 0

@@ -8,7 +8,8 @@ use Rattle.cpg_run.specs.Frozen.{AreFrozenTimes}
 use Rattle.cpg_run.specs.Finish.{IsExcess}
 use Rattle.cpg_gen.specs.Generated.{generated}
 
--- 60 executions of at most 166, and two rounds of 40 for each of at most 122 items
+-- no process of a generated graph ends later than 19,720: 60 executions of at most 166, and two rounds of 40 for each
+-- of at most 122 items
 abbrev pub GeneratedEndEarly : Type 0
 GeneratedEndEarly =
     (number : ℕ) (order : List ℕ) → IsTopological (generated number) order → (frozen : List (Option ℕ)) →

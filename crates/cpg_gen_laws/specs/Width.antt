@@ -7,7 +7,8 @@ use Rattle.cpg_order.specs.Reach.{Reach, IsReach, reach_of, views, load}
 use Rattle.cpg_reach.specs.Wide.{IsNarrow}
 use Rattle.cpg_gen.specs.Generated.{generated}
 
--- 60 processes with at most two faults have 1,891 ways to fail, and two conditions have four outcomes
+-- a generated graph has at most 7,564 scenarios: 60 processes with at most two faults have 1,891 ways to fail, and two
+-- conditions have four outcomes
 abbrev pub GeneratedHaveFewScenarios : Type 0
 GeneratedHaveFewScenarios = (number : ℕ) → length (scenarios (generated number)) ≤ 7564
 
@@ -15,13 +16,14 @@ GeneratedHaveFewScenarios = (number : ℕ) → length (scenarios (generated numb
 abbrev pub GeneratedHaveFewViews : Type 0
 GeneratedHaveFewViews = (number : ℕ) (reached : List ℕ) → views (generated number) reached ≤ 7564
 
--- a message is frozen, so its time depends only on values
+-- a message has at most four views, since it is frozen and so depends only on values
 abbrev pub GeneratedMessagesHaveFewViews : Type 0
 GeneratedMessagesHaveFewViews =
     (number : ℕ) (order : List ℕ) (r : Reach) → IsReach (generated number) order r → (e : ℕ) →
     e < edge_count (generated number) → views (generated number) (reach_of r (message_item (generated number) e)) ≤ 4
 
--- 60 processes with one row, 60 messages with two, and two broadcasts with four
+-- all items together have a load of at most 514,832: 60 processes with one row, 60 messages with two, and two
+-- broadcasts with four
 abbrev pub GeneratedHaveSmallLoads : Type 0
 GeneratedHaveSmallLoads = (number : ℕ) (order : List ℕ) (r : Reach) → IsReach (generated number) order r →
     sum_by (load (generated number) r) (numbers_below (item_count (generated number))) ≤ 514832

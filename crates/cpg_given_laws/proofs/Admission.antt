@@ -40,17 +40,20 @@ module _ (g : Graph) (given : Option (List ℕ)) where
   pub topological_of_other : (order : List ℕ) → IsTopological g order → IsTopological (other g given) order
   topological_of_other order top = record { all = top.all; forward = top.forward }
 
+  -- the urgency order is that of the graph with another order, too
   urgency_of_other : (order : List ℕ) → IsUrgencyOrder g order → IsUrgencyOrder (other g given) order
   urgency_of_other order is = record {
     all = is.all;
     falling = subst (λ f. AllPairs (λ p q. IsTrue (f p q)) order) (sym (same_urgency g given)) is.falling;
   }
 
+  -- the graph has as many tracks
   same_tracks : track_count (other g given) ≡ track_count g
   same_tracks = ap (λ f. length (filter (λ o. list_all (λ c. not (get_or o c false) || is_active (f o (process_of g c)))
       (numbers_below (condition_count g))) (outcomes (condition_count g))))
       (same_activations g given)
 
+  -- a guard tests its conditions along the same order
   ordered_of_other : (order : List ℕ) (tree : Guard) (k : ℕ) → IsOrderedFrom g order k tree →
       IsOrderedFrom (other g given) order k tree
   ordered_of_other order (Leaf a) k is = is
@@ -58,6 +61,7 @@ module _ (g : Graph) (given : Option (List ℕ)) where
       let next = place order (process_of g c) + 1 in
       (is.0, is.1, ordered_of_other order off next is.2, ordered_of_other order on next is.3)
 
+  -- the guards are those of the graph with another order, too
   guards_of_other : (order : List ℕ) (guards : Guards) → AreGuardsOf g order guards →
       AreGuardsOf (other g given) order guards
   guards_of_other order guards are = record {
@@ -71,6 +75,7 @@ module _ (g : Graph) (given : Option (List ℕ)) where
     edges = are.edges;
   }
 
+  -- at most one input of a join is live
   joins_of_other : HasSingleJoins g → HasSingleJoins (other g given)
   joins_of_other joins p values l join long =
       subst (λ f. length (filter (f values) (inputs g p)) ≤ 1) (sym (same_live g given)) (joins p values l join long)
@@ -100,6 +105,7 @@ limits_with g order limits within = record {
   node_names = limits.node_names;
   process_names = limits.process_names;
   own_slots = limits.own_slots;
+  -- only the order differs, which has processes of the graph alone
   order = within;
 }
 

@@ -25,6 +25,7 @@ use Rattle.cpg_given_laws.proofs.Members.{Differs, other_key, own_key, still_lis
 abbrev top_keys : List Key
 top_keys = Faults ∷ Deadline ∷ Node ∷ Slot ∷ Processes ∷ Edge ∷ Order ∷ []
 
+-- the top of a document as a row
 abbrev top_of : Members → DocumentRow
 top_of ms = record { table = tables.Top; index = 0; members = ms }
 
@@ -33,6 +34,7 @@ abbrev keyed : Data → Members → Members
 keyed d ms = with_member (codes "order") d ms
 
 module _ (d : Data) (ms : Members) where
+  -- each other key has the same value, or none as before
   same_optional : {T : Type 0} (as_type : Data → Option T) (key : Key) →
       Differs (slice_cmp nat_cmp (text_of key) (codes "order")) →
       optional as_type (top_of (keyed d ms)) key ≡ optional as_type (top_of ms) key
@@ -40,21 +42,25 @@ module _ (d : Data) (ms : Members) where
   same_optional as_type key h =
       ap (optional_in (top_of ms) key as_type) (other_key (codes "order") d (text_of key) ms h)
 
+  -- each other key reads the same integer
   same_integer : (key : Key) → Differs (slice_cmp nat_cmp (text_of key) (codes "order")) →
       read_integer (top_of (keyed d ms)) key ≡ read_integer (top_of ms) key
   unfolding read_integer
   same_integer key h = ap (λ found. found >>= required_in (top_of ms) key) (same_optional as_integer key h)
 
+  -- and the same list of tables
   same_tables : (key : Key) → Differs (slice_cmp nat_cmp (text_of key) (codes "order")) →
       read_array (top_of (keyed d ms)) key ≡ read_array (top_of ms) key
   unfolding read_array
   same_tables key h = ap (λ found. found >>= (λ o. pure (unwrap_or o []))) (same_optional as_tables key h)
 
+  -- the key `order` reads the names
   read_order : (names : List (List ℕ)) → as_names d ≡ Some names →
       optional as_names (top_of (keyed d ms)) Order ≡ Ok (Some names)
   unfolding optional
   read_order names is = rw (own_key (codes "order") d ms, is) refl
 
+  -- if only keys of the top stand in the document, only such keys do with `order`
   still_only : (x : Unit {0}) → only top_keys (top_of ms) ≡ Ok x → only top_keys (top_of (keyed d ms)) ≡ Ok x
   unfolding only
   still_only x h = elim (cases_Bool (are_listed top_keys ms)) [
@@ -62,6 +68,7 @@ module _ (d : Data) (ms : Members) where
     | inr some ↦ absurd (refused h some)
   ]
     where
+      -- what is excluded: a document with another key that is accepted
       refused : only top_keys (top_of ms) ≡ Ok x → are_listed top_keys ms ≡ false → ⊥
       refused h some = let e = rw some at h in cc
 
@@ -72,6 +79,7 @@ module _ (d : Data) (ms : Members) where
       read_raw (keyed d ms) ≡ Ok (record r { order = Some names })
   unfolding read_raw
   raw_with r names is h =
+      -- what was read at each key
       opened (read_integer (top_of ms) Faults) _ r h λ faults a rest.
       opened (read_integer (top_of ms) Deadline) _ r rest λ deadline b rest.
       opened (read_array (top_of ms) Node) _ r rest λ nodes c rest.
@@ -79,12 +87,15 @@ module _ (d : Data) (ms : Members) where
       opened (read_array (top_of ms) Processes) _ r rest λ processes f rest.
       opened (read_array (top_of ms) Edge) _ r rest λ edges g rest.
       opened (optional as_names (top_of ms) Order) _ r rest λ old i rest.
+      -- no other keys stand in the document
       passed_on (only top_keys (top_of ms)) _ r rest λ done j rest.
+      -- the rows of the four tables
       opened (read_rows tables.Node read_node nodes) _ r rest λ ns k rest.
       opened (read_rows tables.Slot read_slot slots) _ r rest λ ss l rest.
       opened (read_rows tables.Process read_process processes) _ r rest λ ps m rest.
       opened (read_rows tables.Edge read_edge edges) _ r rest λ es n rest.
       rw (
+        -- each key reads as it did, and `order` the names
         same_integer Faults tt ∙ a,
         same_integer Deadline tt ∙ b,
         same_tables Node tt ∙ c,
@@ -113,9 +124,11 @@ raw_processes ms r h =
     opened (read_array (top_of ms) Processes) _ r rest λ processes _ rest.
     opened (read_array (top_of ms) Edge) _ r rest λ edges _ rest.
     opened (optional as_names (top_of ms) Order) _ r rest λ order _ rest.
+    -- the document has no other key
     passed_on (only top_keys (top_of ms)) _ r rest λ _ _ rest.
     opened (read_rows tables.Node read_node nodes) _ r rest λ ns _ rest.
     opened (read_rows tables.Slot read_slot slots) _ r rest λ ss _ rest.
+    -- the rows of processes, whose names are read
     opened (read_rows tables.Process read_process processes) _ r rest λ ps read rest.
     opened (read_rows tables.Edge read_edge edges) _ r rest λ es _ last.
     subst (λ (r : RawGraph). AllByRecursion IsRead (process_names r.processes)) (same_ok _ r last)

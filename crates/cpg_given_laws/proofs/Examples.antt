@@ -8,6 +8,7 @@ use Rattle.cpg_base.specs.Graph.{Graph}
 use Rattle.cpg_base.specs.declared.process.Process.{Process}
 use Rattle.cpg_given_laws.specs.Read.{with_key}
 
+-- a process of 9 on the node N with this name
 abbrev process : List ℕ → Process
 process name = record {
   name = name;
@@ -23,6 +24,7 @@ process name = record {
   deadline = None;
 }
 
+-- two processes, Y and X, on one node
 abbrev graph : Graph
 graph = record {
   faults = 0;
@@ -34,10 +36,12 @@ graph = record {
   order = None;
 }
 
+-- a row of the document for such a process
 abbrev row : List ℕ → Members
 row name = member (codes "name") (string name)
     (member (codes "node") (string (codes "N")) (member (codes "wcet") (integer (pos 9)) no_members))
 
+-- the document that the small file says
 abbrev document : Members
 document = member (codes "deadline") (integer (pos 20))
     (member (codes "faults") (integer (pos 0))
@@ -45,6 +49,7 @@ document = member (codes "deadline") (integer (pos 20))
     (member (codes "process")
     (array (item (table (row (codes "Y"))) (item (table (row (codes "X"))) no_items))) no_members)))
 
+-- the bytes of the file are read as this document
 is_document : parse_document (codes
     "faults = 0\ndeadline = 20\nnode = [{ name = \"N\" }]\nprocess = [{name=\"Y\",node=\"N\",wcet=9}, {name=\"X\",node=\"N\",wcet=9}]\n")
     ≡ Some document

@@ -43,16 +43,19 @@ module _ (g : Graph) (urgency : List ℕ) (guards : Guards) (c : Compiled) (is :
   first_is : first_order g urgency ≡ urgency
   first_is = ap (λ o. unwrap_or o urgency) ungiven
 
+  -- the order of the compile is topological
   topological : IsTopological g c.order
   topological = compile_topological g is.well_formed urgency is.topological
       (subst (IsTopological g) (sym first_is) is.topological) c.order made.compiled.taken
 
+  -- no item is too wide under it
   narrow : IsNarrow g c.order
   narrow = elim made.compiled.taken [
     | inl p ↦ p.narrow
     | inr first ↦ subst (IsNarrow g) (sym first.0) (made.compiled.narrow ungiven)
   ]
 
+  -- the graph with this order is admitted, too
   admitted : IsAdmitted (with_order g c.order) urgency guards
   admitted = admitted_with g urgency c.order guards is topological
 
@@ -60,10 +63,12 @@ module _ (g : Graph) (urgency : List ℕ) (guards : Guards) (c : Compiled) (is :
   none_preferred : (order : List ℕ) → IsPreferred (with_order g c.order) urgency order → ⊥
   none_preferred order p = none-some c.order (sym p.ungiven)
 
+  -- so its compile takes this order
   taken : (order : List ℕ) → IsCompileOrder (with_order g c.order) urgency order ↔ (order ≡ c.order)
   taken order =
       (λ t. elim t [ inl p ↦ absurd (none_preferred order p) | inr first ↦ first.0 ], λ e. inr (e, none_preferred))
 
+  -- and compiles under it
   compiled : IsCompiled (with_order g c.order) urgency c.order
   compiled = record {
     narrow = λ none. absurd (none-some c.order (sym none));
@@ -71,6 +76,7 @@ module _ (g : Graph) (urgency : List ℕ) (guards : Guards) (c : Compiled) (is :
     in_time = let m = made.compiled.in_time in (m.0, measured_of_other g (Some c.order) urgency c.order 0 m.0 m.1);
   }
 
+  -- so a compile of it can only fail for memory
   no_fault : (fault : CompileFault) → ShowsCompileFault (with_order g c.order) urgency fault → fault ≡ OutOfMemory
   no_fault (TooWide x) shows = absurd (narrow_of_other g (Some c.order) c.order narrow x shows.0.wide)
   no_fault (Late s p finish) shows =
@@ -82,16 +88,19 @@ module _ (g : Graph) (urgency : List ℕ) (guards : Guards) (c : Compiled) (is :
   -- ---- tables under one order
 
   module _ (b : Built) (built : IsBuiltFor (with_order g c.order) urgency c.order b) where
+    -- its frozen times are those of the compile
     same_frozen : c.built.frozen ≡ b.frozen
     same_frozen = frozen_unique g c.order topological c.built.frozen b.frozen made.built.frozen
         (frozen_back g (Some c.order) c.order b.frozen built.frozen)
 
+    -- so are its greatest finish, with the scenario and the process
     same_worst : (c.built.worst ≡ b.worst) × (c.built.worst_in ≡ b.worst_in) × (c.built.worst_by ≡ b.worst_by)
     same_worst = one_worst g urgency is.topological.all c.order topological c.built.frozen c.built.worst b.worst
         c.built.worst_in b.worst_in c.built.worst_by b.worst_by made.built.worst
         (subst (λ f. IsWorst g urgency c.order f b.worst b.worst_in b.worst_by) (sym same_frozen)
         (worst_back g (Some c.order) c.order b.frozen urgency b.worst b.worst_in b.worst_by built.worst))
 
+    -- so is the time of each item in each scenario
     same_times : (x : ℕ) (s : Scenario) → IsScenario g s → at c.built.tables.nodes x s ≡ at b.tables.nodes x s
     same_times x s law =
         let run = a_run g c.order c.built.frozen s topological in
@@ -100,6 +109,7 @@ module _ (g : Graph) (urgency : List ℕ) (guards : Guards) (c : Compiled) (is :
         (run_of_other g (Some c.order) c.order s run.0 b.frozen
         (subst (λ f. IsRun g c.order f s run.0) same_frozen run.1)))
 
+  -- each compile of it has the same order, and tables that ask the same
   same : (d : Compiled) → IsCompilation (with_order g c.order) urgency d → AskTheSame g c d
   same d again =
       let order : d.order ≡ c.order = (taken d.order).0 again.compiled.taken in

@@ -25,6 +25,7 @@ pub scenario_back : (g : Graph) (given : Option (List ℕ)) (s : Scenario) → I
 scenario_back g given = scenario_of_other (other g given) g.order
 
 module _ (g : Graph) (given : Option (List ℕ)) (order : List ℕ) (frozen : List (Option ℕ)) where
+  -- a time that an item would have in the graph, it would have with another order given
   would_have : (x time : ℕ) → WouldHave g order frozen x time → WouldHave (other g given) order frozen x time
   would_have x time h = record {
     scenario = h.scenario;
@@ -36,9 +37,11 @@ module _ (g : Graph) (given : Option (List ℕ)) (order : List ℕ) (frozen : Li
   }
 
 module _ (g : Graph) (given : Option (List ℕ)) (order : List ℕ) (frozen : List (Option ℕ)) where
+  -- and the other way
   would_back : (x time : ℕ) → WouldHave (other g given) order frozen x time → WouldHave g order frozen x time
   would_back = would_have (other g given) g.order order frozen
 
+  -- so a frozen time of the graph is one of the graph with another order
   frozen_time : (x : ℕ) → IsFrozenTime g order frozen x → IsFrozenTime (other g given) order frozen x
   frozen_time x is = record {
     reached = λ time e. would_have g given order frozen x time (is.reached time e);

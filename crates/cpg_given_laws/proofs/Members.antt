@@ -20,9 +20,11 @@ Differs Less = ⊤
 Differs Equal = ⊥
 Differs Greater = ⊤
 
+-- texts that compare as equal are the same
 same_text : (text other : List ℕ) → slice_cmp nat_cmp text other ≡ Equal → text ≡ other
 same_text text other e = (bytes_eq-Decides text other).0 (sym (is_eq-slice_cmp text other) ∙ ap is_eq e)
 
+-- a key that differs is passed over
 passed : (o : Ordering) → Differs o → (found : Option Data) (d : Data) → match_ordering o found (Some d) found ≡ found
 passed Less h found d = refl
 passed Equal h found d = elim h [ ]
@@ -35,6 +37,7 @@ module _ (k : List ℕ) (d : Data) where
   other_key other no_members h = passed (slice_cmp nat_cmp other k) h None d
   other_key other (member l e ms) h = by (slice_cmp nat_cmp k l) refl (other_key other ms h)
     where
+      -- by where the new key stands to the first one of the document
       by : (o : Ordering) → slice_cmp nat_cmp k l ≡ o → get_member other (with_member k d ms) ≡ get_member other ms
           → get_member other
           (match_ordering o (member k d (member l e ms)) (member l d ms) (member l e (with_member k d ms)))
@@ -52,6 +55,7 @@ module _ (k : List ℕ) (d : Data) where
   own_key no_members = ap (λ o. match_ordering o None (Some d) None) (tied_itself nat_list_cmp_total k)
   own_key (member l e ms) = by (slice_cmp nat_cmp k l) refl (own_key ms)
     where
+      -- by where the key stands to the first one of the document
       by : (o : Ordering) → slice_cmp nat_cmp k l ≡ o → get_member k (with_member k d ms) ≡ Some d
           → get_member k
           (match_ordering o (member k d (member l e ms)) (member l d ms) (member l e (with_member k d ms))) ≡ Some d
@@ -72,6 +76,7 @@ module _ (k : List ℕ) (d : Data) where
       let (here, rest) = and_parts (list_any (λ key. bytes_eq (text_of key) l) keys) (are_listed keys ms) h in
       by (slice_cmp nat_cmp k l) here rest (still_listed keys new ms rest)
     where
+      -- by where the key stands to the first one of the document
       by : (o : Ordering) → list_any (λ key. bytes_eq (text_of key) l) keys ≡ true → are_listed keys ms ≡ true →
           are_listed keys (with_member k d ms) ≡ true
           → are_listed keys

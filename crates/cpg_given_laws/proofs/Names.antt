@@ -25,35 +25,43 @@ use Rattle.cpg_given_laws.proofs.Opened.{opened}
 abbrev pub IsRead : List ℕ → Type 0
 IsRead name = name_if name ≡ Some name
 
+-- a text that passes as a name is read as itself
 read_text : (text name : List ℕ) → name_if text ≡ Some name → IsRead name
 read_text text name h = elim (cases_Bool (is_name text)) [
   | inl t ↦ let same : text ≡ name = some_is (rw t at h) in subst IsRead same (rw t refl)
   | inr f ↦ absurd (none_is (rw f at h))
 ]
   where
+    -- two texts that are there are equal if they are so as options
     some_is : Some text ≡ Some name → text ≡ name
     some_is e = cc
 
+    -- what is excluded: a name where there is none
     none_is : None ≡ Some name → ⊥
     none_is e = cc
 
+-- a text of a document, if it passes as a name
 name_is_read : (found : Option (List ℕ)) (name : List ℕ) → option_and_then name_if found ≡ Some name → IsRead name
 name_is_read None name h = cc
 name_is_read (Some text) name h = read_text text name h
 
+-- the value at a key, if it is a text that passes
 read_value : (row : DocumentRow) (found : Option Data) (name : List ℕ) →
     optional_in row Name as_name found ≡ Ok (Some name) → IsRead name
 read_value row None name h = cc
 read_value row (Some d) name h = typed (as_name d) refl h
   where
+    -- by whether the value is such a text
     typed : (o : Option (List ℕ)) → as_name d ≡ o → typed_in row Name o ≡ Ok (Some name) → IsRead name
     typed None is e = cc
     typed (Some text) is e = let same : text ≡ name = cc in name_is_read (as_str d) name (is ∙ ap Some same)
 
+-- the name in a row of a document
 read_at : (row : DocumentRow) (name : List ℕ) → read_name row Name ≡ Ok name → IsRead name
 unfolding read_name optional
 read_at row name h = opened (optional as_name row Name) (required_in row Name) name h (by row name)
   where
+    -- by whether the row has one
     by : (row : DocumentRow) (name : List ℕ) (found : Option (List ℕ)) →
         optional_in row Name as_name (value_at row Name) ≡ Ok found → required_in row Name found ≡ Ok name → IsRead name
     by row name None is e = cc
@@ -104,6 +112,7 @@ pub names_read : (names : List (List ℕ)) (order : List ℕ) → AllByRecursion
     ≡ Some (map (λ p. get_or names p []) order)
 names_read names order are below = go order (all_by_recursion (λ p. p < length names) order below)
   where
+    -- name after name of the order is read as the text that the document has for it
     go : (order : List ℕ) → AllByRecursion (λ p. p < length names) order →
         items_as as_name (items_of (map (λ p. string (get_or names p [])) order))
         ≡ Some (map (λ p. get_or names p []) order)

@@ -33,6 +33,7 @@ record AreNumbered (names : List (List ℕ)) (order : List ℕ) : Type 0 where
   pub apart : order_apart (Some (map (name_in names) order)) ≡ Ok tt
   pub numbers : order_of names (Some (map (name_in names) order)) ≡ Ok (Some order)
 
+-- the names of the processes are those of the graph
 names_back : (g : Graph) → process_names (raw_of g).processes ≡ names_of g.processes
 names_back g = map-map (λ p. p.name) (raw_process g.nodes) g.processes
 
@@ -44,10 +45,12 @@ unfolding graph_of resolved
 are_numbered g order limited within =
     let h = with_order g order in
     let raw = raw_of h in
+    -- no two names of nodes, of slots' nodes, of processes and of the order are the same
     passed_on (apart tables.Node Name raw.nodes) _ h (graph_back h (limits_with g order limited within)) λ _ _ rest.
     passed_on (apart tables.Slot Node (slot_names raw.slots)) _ h rest λ _ _ rest.
     passed_on (apart tables.Process Name (process_names raw.processes)) _ h rest λ _ _ rest.
     passed_on (order_apart raw.order) _ h rest λ _ differ rest.
+    -- the slots, the processes, the edges and the order by number
     opened (each (slot_of raw.nodes) 0 raw.slots) _ h rest λ slots _ rest.
     opened (each (process_of raw.nodes) 0 raw.processes) _ h rest λ processes _ rest.
     opened (each (edge_of (process_names raw.processes)) 0 raw.edges) _ h rest λ edges _ rest.
@@ -90,6 +93,7 @@ graph_ordered r g order h are =
     rw (a, b, c, are.apart, d, e, f, are.numbers)
     (ap (λ (g : Graph). Ok (with_order g order)) (same_ok (graph_with r slots processes edges found) g last))
 
+-- the faults and the deadline are the same whatever the order
 same_limits : (r : RawGraph) (order : Option (List (List ℕ))) → limits (record r { order = order }) ≡ limits r
 unfolding limits
 same_limits r order = refl
@@ -103,15 +107,18 @@ unfolding read_members
 read_with ms g order h within =
     opened (read_raw ms) _ g h λ r raw rest.
     passed_on (limits r) _ g rest λ x limited graph.
+    -- the names are those of the graph's processes, and are read as the order
     let same = same_names r g graph in
     let count : length (process_names r.processes) ≡ process_count g =
     ap length (sym same) ∙ length-map g.processes (λ (p : Process). p.name) in
     let are : AreNumbered (process_names r.processes) order =
     subst (λ names. AreNumbered names order) same (are_numbered g order (graph-within r g limited graph) within) in
+    -- the key's value is read as these names
     let read : as_names (names_along g order) ≡ Some (map (name_in (process_names r.processes)) order) =
     ap (λ names. as_names (array (items_of (map (λ p. string (get_or names p [])) order)))) same
     ∙ names_read (process_names r.processes) order (raw_processes ms r raw)
     (subst (λ n. All (λ p. p < n) order) (sym count) within.there) in
+    -- the rest of the document is read as before
     rw (
       raw_with (names_along g order) ms r (map (name_in (process_names r.processes)) order) read raw,
       same_limits r (Some (map (name_in (process_names r.processes)) order)),

@@ -32,6 +32,7 @@ module _ (g : Graph) (given : Option (List ℕ)) where
 
   -- ---- activations and longest ways
 
+  -- looking back along some edges, a process is activated the same way
   same_within : (depth : ℕ) → activation_within depth other ≡ activation_within depth g
   same_within zero = refl
   same_within (suc depth) =
@@ -39,6 +40,7 @@ module _ (g : Graph) (given : Option (List ℕ)) where
       (λ e. is_active (f values (source g e)) && takes (edge_at g e).when (value_of g values (source g e))))
       (same_within depth)
 
+  -- looking ahead along some edges, the longest way from a process is the same
   same_tail_within : (depth : ℕ) → tail_within depth other ≡ tail_within depth g
   same_tail_within zero = refl
   same_tail_within (suc depth) = ap {B = ℕ → ℕ} (λ f p.
@@ -59,6 +61,7 @@ module _ (g : Graph) (given : Option (List ℕ)) where
   same_live = ap {B = List Bool → ℕ → Bool} (λ f values e.
       is_active (f values (source g e)) && takes (edge_at g e).when (value_of g values (source g e))) same_activations
 
+  -- the conditions before one in the urgency order are the same
   same_earlier : earlier_conditions other ≡ earlier_conditions g
   same_earlier = ap {B = ℕ → List ℕ} (λ before c.
       filter (λ d. before (process_of g d) (process_of g c)) (numbers_below (condition_count g))) same_urgency
@@ -84,6 +87,7 @@ module _ (g : Graph) (given : Option (List ℕ)) where
   -- ---- bounds
 
   module _ (order : List ℕ) (s : Scenario) (t : Times) where
+    -- a start waits for the same
     same_start : (p : ℕ) → start_bounds other order s t p ≡ start_bounds g order s t p
     same_start p = ap₂ (λ bounds hearing. (process_at g p).release ∷ bounds ++ hearing)
         (ap₂ (λ f a. map (input_there g t) (filter (f s.values) (inputs g p)) ++ map (end_in t)
@@ -91,11 +95,13 @@ module _ (g : Graph) (given : Option (List ℕ)) where
         (ap (λ f. map (heard_there g t (node_of g p)) (flat_map (f s.values) (before_on_node g order p ++ p ∷ [])))
         same_deciding)
 
+    -- so does a send
     same_send : (x : ℕ) → send_bounds other order s t x ≡ send_bounds g order s t x
     same_send x = ap (λ f. next_slot g (home g x) (end_in t (producer g x))
         ∷ map (λ y. time_in t y + round g) (filter f (queued_before g order x)))
         (fun_ext (λ y. same_item_active s.values (item_at g y)))
 
+    -- so does each item
     same_bounds : (x : ℕ) (it : Item) → bounds_of_item other order s t x it ≡ bounds_of_item g order s t x it
     same_bounds x (Start p) = same_start p
     same_bounds x (Message e) = same_send x
@@ -105,6 +111,7 @@ module _ (g : Graph) (given : Option (List ℕ)) where
     pub same_unfrozen : (x : ℕ) → unfrozen_time other order s t x ≡ unfrozen_time g order s t x
     same_unfrozen x = ap greatest (same_bounds x (item_at g x))
 
+    -- the time of an item by these is the same, frozen or not
     same_time : (frozen : List (Option ℕ)) (x : ℕ) → time_by other order frozen s t x ≡ time_by g order frozen s t x
     same_time frozen x = ap₂ (λ a n. if a then Some (greatest (n ∷ option_to_list (get_or frozen x None))) else None)
         (same_item_active s.values (item_at g x)) (same_unfrozen x)

@@ -21,12 +21,14 @@ use Rattle.cpg_reach.specs.Wide.{IsWide, IsNarrow}
 use Rattle.cpg_given_laws.proofs.Runs.{other, same_activations, same_decides}
 
 module _ (g : Graph) (given : Option (List ℕ)) where
+  -- the conditions that decide a process in some outcome are the same
   same_conditions : conditions_of (other g given) ≡ conditions_of g
   same_conditions = ap {B = ℕ → List ℕ}
       (λ f p. filter (λ c. list_any (λ o. f o p c) (outcomes (condition_count g))) (numbers_below (condition_count g)))
       (same_decides g given)
 
   module _ (order : List ℕ) (r : Reach) where
+    -- a start depends on the same variables
     same_start_reach : (p : ℕ) → start_reach (other g given) order r p ≡ start_reach g order r p
     same_start_reach p = ap {B = List ℕ} (λ f. if (process_at g p).frozen then map value_variable (f p) else
         flat_map (λ c. value_variable c ∷ hearing_reach g r (node_of g p) c)
@@ -34,22 +36,26 @@ module _ (g : Graph) (given : Option (List ℕ)) where
         ++ flat_map (end_reach r) (before_on_node g order p)
         ++ flat_map (input_reach g r) (inputs g p)) same_conditions
 
+    -- so does a send
     same_send_reach : (x : ℕ) → send_reach (other g given) order r x ≡ send_reach g order r x
     same_send_reach x = ap {B = List ℕ} (λ f. (if is_frozen g x then map value_variable (f (producer g x))
         else end_reach r (producer g x) ++ flat_map (reach_of r) (queued_before g order x))
         ++ sent_value g (item_at g x)) same_conditions
 
+    -- so does each item
     same_reach : (x : ℕ) (it : Item) → reach_by_item (other g given) order r x it ≡ reach_by_item g order r x it
     same_reach x (Start p) = same_start_reach p
     same_reach x (Message e) = ap (λ vs. if is_sent_item g (Message e) then vs else []) (same_send_reach x)
     same_reach x (Broadcast c) = ap (λ vs. if is_sent_item g (Broadcast c) then vs else []) (same_send_reach x)
 
+    -- reaches of the graph are those of the graph with another order
     reach_of_other : IsReach g order r → IsReach (other g given) order r
     reach_of_other is = record {
       count = is.count;
       each = λ x v l. is.each x v l ∙ ap (λ vs. is_in vs v) (sym (same_reach x (item_at g x)));
     }
 
+  -- a reach has as many views
   same_views : views (other g given) ≡ views g
   same_views = ap {B = List ℕ → ℕ} (λ f reached. length (filter (λ s.
       list_all (λ p. (number_of s p == 0) || (is_in reached p && is_active (f s.values p)))
@@ -58,6 +64,7 @@ module _ (g : Graph) (given : Option (List ℕ)) where
       && is_active (f s.values (process_of g c)))) (numbers_below (condition_count g)))
       (scenarios g))) (same_activations g given)
 
+  -- so the same items are too wide
   same_too_wide : (r : Reach) (x : ℕ) → is_too_wide (other g given) r x ≡ is_too_wide g r x
   same_too_wide r x = ap {B = Bool} (λ f. nat_lt 0 (rows_of_item g (item_at g x))
       && (nat_lt most_views (f (reach_of r x)) || nat_lt most_loads

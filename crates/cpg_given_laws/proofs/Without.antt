@@ -16,15 +16,19 @@ use Rattle.cpg_given_laws.specs.Without.{IsTrackOrderPreferred, IsBetterOfTwo, I
 use Rattle.cpg_given_laws.specs.Without.{IsShownLateByUrgency, NothingChangesWithoutTheKey}
 
 module _ (g : Graph) (urgency : List ℕ) (none : g.order ≡ None) where
+  -- the first order is the urgency order
   first : first_order g urgency ≡ urgency
   first = ap (λ o. unwrap_or o urgency) none
 
+  -- what holds of the first order holds of that
   back : (P : List ℕ → Type 0) → P (first_order g urgency) → P urgency
   back P p = subst P first p
 
+  -- and the other way
   forth : (P : List ℕ → Type 0) → P urgency → P (first_order g urgency)
   forth P p = subst P (sym first) p
 
+  -- an order is preferred only as the track order
   preferred : (order : List ℕ) → IsPreferred g urgency order → IsTrackOrderPreferred g urgency order
   preferred order p = record {
     track = p.track;
@@ -38,6 +42,7 @@ module _ (g : Graph) (urgency : List ℕ) (none : g.order ≡ None) where
     better = p.better;
   }
 
+  -- and the other way
   preferred_back : (order : List ℕ) → IsTrackOrderPreferred g urgency order → IsPreferred g urgency order
   preferred_back order p = record {
     ungiven = none;
@@ -52,6 +57,7 @@ module _ (g : Graph) (urgency : List ℕ) (none : g.order ≡ None) where
     better = p.better;
   }
 
+  -- the compile's order is the better of the two
   taken : (order : List ℕ) → IsCompileOrder g urgency order ↔ IsBetterOfTwo g urgency order
   taken order = (
     λ t. elim t [
@@ -64,12 +70,14 @@ module _ (g : Graph) (urgency : List ℕ) (none : g.order ≡ None) where
     ],
   )
 
+  -- so a compile is one by these two orders
   compiled : (order : List ℕ) → IsCompiled g urgency order ↔ IsCompiledByTwo g urgency order
   compiled order = (
     λ c. record { narrow = back (IsNarrow g) (c.narrow none); taken = (taken order).0 c.taken; in_time = c.in_time },
     λ c. record { narrow = λ _. forth (IsNarrow g) c.narrow; taken = (taken order).1 c.taken; in_time = c.in_time },
   )
 
+  -- it is late if it is so by both
   late : IsLate g urgency ↔ IsLateByTwo g urgency
   late = (
     λ l. record {
@@ -84,8 +92,10 @@ module _ (g : Graph) (urgency : List ℕ) (none : g.order ≡ None) where
     },
   )
 
+  -- what is shown is late under the urgency order
   shown : (s : Scenario) (p time : ℕ) → IsShownLate g urgency s p time ↔ IsShownLateByUrgency g urgency s p time
   shown s p time = (
+    -- the first order is the urgency order here, so what is under the one is under the other
     λ h. record {
       frozen = h.frozen;
       frozen_times = back (λ o. AreFrozenTimes g o h.frozen) h.frozen_times;
@@ -95,6 +105,7 @@ module _ (g : Graph) (urgency : List ℕ) (none : g.order ≡ None) where
       run = back (λ o. IsRun g o h.frozen s h.times) h.run;
       ends = h.ends;
     },
+    -- and back
     λ h. record {
       frozen = h.frozen;
       frozen_times = forth (λ o. AreFrozenTimes g o h.frozen) h.frozen_times;
@@ -106,11 +117,12 @@ module _ (g : Graph) (urgency : List ℕ) (none : g.order ≡ None) where
     },
   )
 
+  -- an item is too wide under the urgency order
   wide : (x : ℕ) → ShowsCompileFault g urgency (TooWide x) ↔ IsLeastWide g urgency x
   wide x =
       (λ w. back (λ o. IsLeastWide g o x) w.0, λ w. (forth (λ o. IsLeastWide g o x) w, λ given. absurd (given none)))
 
--- a graph without an order is compiled as before there was the key
+-- a graph that gives no order is compiled as these words say
 pub nothing_changes_without_the_key : NothingChangesWithoutTheKey
 nothing_changes_without_the_key g urgency none =
     record {

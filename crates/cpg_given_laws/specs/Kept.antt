@@ -22,7 +22,9 @@ with_order g order = record g { order = Some order }
 pub record KeepsTables (g : Graph) (urgency : List ℕ) (guards : Guards) (c : Compiled) : Type 0 where
   pub admitted : IsAdmitted (with_order g c.order) urgency guards
   pub taken : (order : List ℕ) → IsCompileOrder (with_order g c.order) urgency order ↔ (order ≡ c.order)
+  -- the compile can only fail for want of memory
   pub made : (fault : CompileFault) → ShowsCompileFault (with_order g c.order) urgency fault → fault ≡ OutOfMemory
+  -- any other compilation of it asks for the same
   pub same : (d : Compiled) → IsCompilation (with_order g c.order) urgency d → AskTheSame g c d
 
 -- This holds for each admitted graph that gives no order, and for each compile of it.

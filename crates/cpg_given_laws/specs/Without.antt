@@ -1,5 +1,4 @@
--- What a compile answers for a graph that gives no order, in words that know nothing of given orders: as it was before
--- there was the key.
+-- What a compile answers for a graph that gives no order, in words that know nothing of given orders.
 use Rattle.std.specs.Prelude.{ℕ, ◌≡◌, ◌⊎◌, ◌↔◌, List, Option, None, Some, get_or}
 use Rattle.cpg_base.specs.Graph.{Graph}
 use Rattle.cpg_base.specs.Scenario.{Scenario}
@@ -17,9 +16,11 @@ use Rattle.cpg_core.specs.Compiled.{IsLate, IsShownLate}
 pub record IsTrackOrderPreferred (g : Graph) (urgency order : List ℕ) : Type 0 where
   pub track : HasTrackOrder g order
   pub narrow : IsNarrow g order
+  -- its excess and its finish
   pub excess : ℕ
   pub worst : ℕ
   pub measured : IsMeasured g urgency order excess worst
+  -- those of the urgency order
   pub urgency_excess : ℕ
   pub urgency_worst : ℕ
   pub urgency_measured : IsMeasured g urgency urgency urgency_excess urgency_worst
@@ -32,31 +33,39 @@ IsBetterOfTwo g urgency order = IsTrackOrderPreferred g urgency order ⊎
 
 -- the tables are written: for the better of the two, under which every process ends by its due
 pub record IsCompiledByTwo (g : Graph) (urgency order : List ℕ) : Type 0 where
+  -- no item is too wide under the urgency order
   pub narrow : IsNarrow g urgency
+  -- the order is the better of the urgency order and the track order
   pub taken : IsBetterOfTwo g urgency order
   pub in_time : IsInTimeUnder g urgency order
 
 -- no tables are written: under the urgency order some process is late, and no track order exists, or an item is too
 -- wide under it, or its excess is above 0
 pub record IsLateByTwo (g : Graph) (urgency : List ℕ) : Type 0 where
+  -- no item is too wide under the urgency order, but something is late
   pub narrow : IsNarrow g urgency
   pub late : IsLateUnder g urgency urgency
+  -- the track order doesn't help: there is none, or it is too wide or late too
   pub helpless : HasManyTracks g ⊎
       ((order : List ℕ) × HasTrackOrder g order × (((x : ℕ) × IsWide g order x) ⊎ IsLateUnder g urgency order))
 
 -- what a late compile shows, all under the urgency order: the excess's scenario, its process, and the end of that
 -- process there
 pub record IsShownLateByUrgency (g : Graph) (urgency : List ℕ) (s : Scenario) (p time : ℕ) : Type 0 where
+  -- the frozen times under the urgency order
   pub frozen : List (Option ℕ)
   pub frozen_times : AreFrozenTimes g urgency frozen
   pub excess : ℕ
+  -- s is the least scenario with the greatest excess, and p the least process that has it there
   pub is_excess : IsExcess g urgency urgency frozen excess s (Some p)
   pub times : Times
+  -- the run of s, in which p ends at this time
   pub run : IsRun g urgency frozen s times
   pub ends : get_or times.ends p None ≡ Some time
 
 -- a compile's answers are these, and no others
 pub record IsAsWithoutTheKey (g : Graph) (urgency : List ℕ) : Type 0 where
+  -- the order, the tables, why the graph is late, what that shows, and which item is too wide
   pub taken : (order : List ℕ) → IsCompileOrder g urgency order ↔ IsBetterOfTwo g urgency order
   pub compiled : (order : List ℕ) → IsCompiled g urgency order ↔ IsCompiledByTwo g urgency order
   pub late : IsLate g urgency ↔ IsLateByTwo g urgency

@@ -44,6 +44,7 @@ count_by-map p f (x ∷ xs) =
     sum_by-cons (λ y. cond (p y) 1 0) (f x) (map f xs) ∙ ap (λ n. cond (p (f x)) 1 0 + n) (count_by-map p f xs)
     ∙ sym (sum_by-cons (λ y. cond (p (f y)) 1 0) x xs)
 
+-- an option that is there has a value
 some_of : (o : Option ℕ) → is_some o ≡ true → (c : ℕ) × (o ≡ Some c)
 some_of None e = absurd (true≢false (sym e))
 some_of (Some c) e = (c, refl)
@@ -100,9 +101,11 @@ module _ (g : Graph) where
         record {
           faults = w.faults;
           few_nodes = w.few_nodes;
+          -- the head has as many processes, conditions and edges as the graph
           few_processes = omega (arith, count, w.few_processes);
           few_conditions = omega (arith, conditions_counted, w.few_conditions);
           few_edges = omega (arith, length-map {B = ℕ × ℕ} g.edges (λ e. (e.from, e.to)), w.few_edges);
+          -- each process, edge and extra of the head is one of a graph within its limits
           processes =
               All-map (IsHeadProcess g.faults (length g.nodes)) (head_process g) (numbers_below (process_count g))
               (All-below (λ p. IsHeadProcess g.faults (length g.nodes) (head_process g p))

@@ -19,5 +19,6 @@ pub use denote.Struct.Laws.{makes}
 pub use denote.Triple.Entry.{alive}
 pub use denote.Triple.Walked.{says, Stays, stay_dropped, walk_of, ends_at, Goes-dropped}
 
+-- a struct of one field that holds nothing, as the machine has it
 abbrev pub empty : Val
 empty = vstruct (vcons vunit vnil)

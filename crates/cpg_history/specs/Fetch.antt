@@ -12,6 +12,7 @@ pub record Fetch : Type 0 where
   -- whether the fetch or a read failed
   pub failed : Bool
 
+-- whether a read gave nothing
 abbrev pub is_none : List ℕ → Bool
 is_none [] = true
 is_none (x ∷ xs) = false

@@ -32,6 +32,7 @@ pub added_false : (b : Bool) (old new pieces : List Process) (S : Type 0) → b 
 added_false false old new pieces S e h = h
 added_false true old new pieces S e h = cc
 
+-- a number up to n is below n, or is n
 last_or_before : (i n : ℕ) → i < n + 1 → (i < n) ⊎ (i ≡ n)
 last_or_before i n l = ⊎_elim (λ (lt : i < n). inl lt) (λ (le : n ≤ i). inr (omega (arith, l, le))) (cases_lt i n)
 
@@ -39,6 +40,7 @@ last_or_before i n l = ⊎_elim (λ (lt : i < n). inl lt) (λ (le : n ≤ i). in
 pub below_more : (P : ℕ → Type 0) (n : ℕ) → ((i : ℕ) → i < n → P i) → P n → (i : ℕ) → i < n + 1 → P i
 below_more P n h p i l = ⊎_elim (λ (lt : i < n). h i lt) (λ (e : i ≡ n). subst P (sym e) p) (last_or_before i n l)
 
+-- a list of no length is empty
 nil_of : {X : Type 0} (xs : List X) → length xs ≡ 0 → xs ≡ []
 nil_of [] e = refl
 nil_of (x ∷ xs) e = absurd (omega (arith, e))

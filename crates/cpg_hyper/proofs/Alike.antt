@@ -38,15 +38,18 @@ use Rattle.cpg_hyper.proofs.Fuel.{enough_depth}
 
 -- ---- activations
 
+-- a copied activation is active if the activation is
 active_copy : (n : ℕ) (a : Activation) → is_active (copied_activation n a) ≡ is_active a
 active_copy n Inactive = refl
 active_copy n Plain = refl
 active_copy n (By e) = refl
 
+-- the first of the copied edges is the copy of the first edge
 first_copy : (n : ℕ) (es : List ℕ) → by_first (map (λ e. n + e) es) ≡ copied_activation n (by_first es)
 first_copy n [] = refl
 first_copy n (e ∷ es) = refl
 
+-- an activation that names no edge is its own copy
 plain_copy : (n : ℕ) (b : Bool) → (if b then Plain else Inactive) ≡ copied_activation n (if b then Plain else Inactive)
 plain_copy n true = refl
 plain_copy n false = refl
@@ -71,6 +74,7 @@ value_there : (f : ℕ → Bool) (xs : List ℕ) (q : ℕ) (o : Option ℕ) → 
 value_there f xs q o is c = ap (λ p. get_or (map f xs) (unwrap_or p 0) false) is
     ∙ get_or-map f xs (place xs q) 0 false (place-lt xs q c) ∙ ap f (get_or-place xs q 0 c)
 
+-- an edge takes two values alike if they are equal wherever it asks for one
 same_taken : (w : Option Bool) (v u : Bool) → (is_some w ≡ true → v ≡ u) → takes w v ≡ takes w u
 same_taken None v u h = refl
 same_taken (Some wanted) v u h = ap (takes (Some wanted)) (h refl)
@@ -81,34 +85,44 @@ same_taken (Some wanted) v u h = ap (takes (Some wanted)) (h refl)
 -- `p`, `i`, `h`: the i-th instance of part p; `values`: a value for each condition of the whole graph
 module _ (whole : ℕ) (parts : List Part) (p i : ℕ) (values : List Bool) (within : AreWithinLimits parts)
     (h : IsInstance whole parts p i) where
+  -- the whole graph
   abbrev g : Graph
   g = unrolled whole parts
 
+  -- the part's own graph
   abbrev part : Graph
   part = (part_at parts p).problem
 
+  -- the instance's first process
   abbrev first : ℕ
   first = first_of whole parts p i
 
+  -- the instance's first edge
   abbrev first_edge : ℕ
   first_edge = first_edge_of whole parts p i
 
+  -- the values that the scenario has on the instance's conditions
   abbrev own : List Bool
   own = map (λ q. value_of g values (first + q)) (disjunctions part)
 
+  -- the part's graph is within the limits
   limited : IsWithinLimits part
   limited = within p (record { period = 0; problem = first_graph [] }) h.part
 
+  -- no other edge of the whole has to do with the instance's processes
   around : AreAround first_edge first (process_count part) g.edges (map (copied_edge first) part.edges)
   around = subst (AreAroundAt whole 0 parts p first_edge) (nothing_before first)
       (are_around whole 0 parts (λ d c. (each_contained (λ k d. IsWithinLimits d.problem) parts within d c).1) p i h)
     where
+      -- 0 is left out of a sum
       nothing_before : (n : ℕ) → 0 + n ≡ n
       nothing_before n = omega arith
 
+  -- an edge of the instance is the copy of its part's edge
   copies : (e : ℕ) → e < edge_count part → edge_at g (first_edge + e) ≡ copied_edge first (edge_at part e)
   copies e l = have_edges whole parts p i e h l
 
+  -- an edge of the part is between its processes
   edge_there : (e : ℕ) → e < edge_count part → IsEdgeWithin (process_count part) (edge_at part e)
   edge_there e l = contained (IsEdgeWithin (process_count part)) part.edges (edge_at part e) limited.edges
       (Contains-get_or part.edges e _ l)
@@ -164,6 +178,7 @@ module _ (whole : ℕ) (parts : List Part) (p i : ℕ) (values : List Bool) (wit
       live_by depth e inside (within_alike depth (source part e) (edge_there e inside).from))
 
   module _ (order : List ℕ) (topological : IsTopological g order) where
+    -- in the whole's order, the source of a copied edge comes before its target
     up : (e : ℕ) → e < edge_count part → place order (first + source part e) < place order (first + target part e)
     up e l =
         let inside : first_edge + e < edge_count g =
@@ -181,6 +196,7 @@ module _ (whole : ℕ) (parts : List Part) (p i : ℕ) (values : List Bool) (wit
         ∙ ap (copied_activation first_edge) (ap (λ n. activation_within n part own q) count
         ∙ enough_depth part own (λ r. place order (first + r)) (λ e inside. (edge_there e inside).from) up more q l)
 
+    -- an edge of the instance is live as its part's edge is
     lives : (e : ℕ) → e < edge_count part → live g values (first_edge + e) ≡ live part own e
     lives e l = ap₂ ◌&&◌
         (ap (λ (d : Edge). active g values d.from) (copies e l)

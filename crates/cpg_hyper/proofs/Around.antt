@@ -85,6 +85,7 @@ cut : (n i k : ℕ) → n ≡ i + suc k → numbers_below n ≡ numbers_below i 
 cut n i k e = ap (λ m. numbers_below m) e ∙ range-append 0 i (suc k)
     ∙ ap (λ (m : ℕ). numbers_below i ++ range_with_len m (suc k)) (nothing_before i)
   where
+    -- 0 is left out of a sum
     nothing_before : (m : ℕ) → 0 + m ≡ m
     nothing_before m = omega arith
 
@@ -109,15 +110,19 @@ around_in whole first i part rest h l above =
     let k = n - (i + 1) in
     let most : (i + 1) * size_of part ≤ n * size_of part = product_le (i + 1) n (size_of part) (omega (arith, l)) in
     record {
+      -- the edges of the earlier instances are in front, and all others behind
       front = flat_map f (numbers_below i);
       back = flat_map f (range_with_len (i + 1) k) ++ rest;
+      -- together with the instance's own they are all edges
       are = ap (λ xs. flat_map f xs ++ rest) (cut n i k (omega (arith, l)))
           ∙ pieces f (numbers_below i) i (range_with_len (i + 1) k) rest;
       long = constant_pieces f (length part.problem.edges) (λ j. length-map part.problem.edges _) (numbers_below i)
           ∙ ap (λ m. m * length part.problem.edges) (length-range_with_len 0 i);
+      -- edges in front are between lower processes
       earlier = λ e c.
           let b = lies_in first 0 i part h e c in
           (omega (arith, b.from_ends), omega (arith, b.to_ends));
+      -- edges behind are between greater processes, of later instances or of later parts
       later = λ e c. ⊎_elim
           (λ (d : Contains (flat_map f (range_with_len (i + 1) k)) e).
           let b = lies_in first (i + 1) k part h e d in
@@ -164,6 +169,7 @@ pub are_around : (whole first : ℕ) (parts : List Part) →
 -- edges in front
 are_around whole first [] h p i is = absurd (omega (arith, is.part))
 are_around whole first (part ∷ parts) h zero i is =
+    -- an instance of the first part
     let here = around_in whole first i part (edges_from whole (after_part whole first part) parts)
     (h part (Contains-first part parts)) is.instance
     (lies_above whole (after_part whole first part) parts (λ other k. h other (Contains-rest part parts other k))) in
@@ -172,6 +178,7 @@ are_around whole first (part ∷ parts) h zero i is =
     (subst (λ n. AreAroundAt whole first (part ∷ parts) 0 n (first_in first part i))
     (same_edges (i * length part.problem.edges)) here)
 are_around whole first (part ∷ parts) h (suc p) i is =
+    -- an instance of a later part: the first part's edges are in front too
     let next = after_part whole first part in
     let begin = next + first_of whole parts p i in
     let own = whole / part.period * length part.problem.edges in

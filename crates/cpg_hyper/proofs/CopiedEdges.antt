@@ -15,6 +15,7 @@ use Rattle.cpg_hyper.proofs.Counted.{constant_pieces, edges_size}
 use Rattle.cpg_hyper.proofs.Copies.{within_pieces, take_count}
 use Rattle.cpg_hyper.proofs.Whole.{nothing_before}
 
+-- what stands where there is no edge
 abbrev pub no_edge : Edge
 no_edge = record { from = 0; to = 0; size = 0; when = None; frozen = false }
 
@@ -37,6 +38,7 @@ in_part whole first i e part l h =
     ∙ ap (λ j. get_or (f j) e no_edge) here
     ∙ get_or-map (copied_edge (first_in first part i)) part.problem.edges e no_edge no_edge h
 
+-- 0 is left out of a sum
 drop_zero : (a b : ℕ) → 0 + a + b ≡ a + b
 drop_zero a b = omega arith
 
@@ -44,6 +46,7 @@ drop_zero a b = omega arith
 pub same_first : (first a : ℕ) → first + a ≡ first + (0 + a)
 same_first first a = omega arith
 
+-- a part's own edges, and then those before the copy
 moved : (own b c e all : ℕ) → all ≡ own → own + b + c + e ≡ all + (b + c + e)
 moved own b c e all is = omega (arith, is)
 
@@ -58,6 +61,7 @@ pub edge_copy_at : (whole first : ℕ) (parts : List Part) (p i e : ℕ) → IsI
     ≡ copied_edge (first + first_of whole parts p i) (get_or (part_at parts p).problem.edges e no_edge)
 edge_copy_at whole first [] p i e h l = absurd (omega (arith, h.part))
 edge_copy_at whole first (part ∷ parts) zero i e h l =
+    -- an edge of the first part's instances
     let inside = within_pieces i (whole / part.period) (length part.problem.edges) e h.instance l in
     get_or_append_left (edges_of whole first part) (edges_from whole (after_part whole first part) parts) no_edge
     (0 + i * length part.problem.edges + e)
@@ -66,6 +70,7 @@ edge_copy_at whole first (part ∷ parts) zero i e h l =
     ∙ in_part whole first i e part h.instance l
     ∙ ap (λ n. copied_edge n (get_or part.problem.edges e no_edge)) (same_first first (i * size_of part))
 edge_copy_at whole first (part ∷ parts) (suc p) i e h l =
+    -- an edge of a later part's, behind all of the first part's
     let size = edges_size whole first part in
     let n = first_edge_of whole parts p i + e in
     ap (λ m. get_or (edges_of whole first part ++ edges_from whole (after_part whole first part) parts) m no_edge)

@@ -23,14 +23,17 @@ range-moved : (a b n : ℕ) → range_with_len (a + b) n ≡ map (λ e. a + e) (
 range-moved a b zero = refl
 range-moved a b (suc n) = ap (λ xs. (a + b) ∷ xs) (ap (λ m. range_with_len m n) (next a b) ∙ range-moved a (b + 1) n)
   where
+    -- a sum in another order
     next : (x y : ℕ) → x + y + 1 ≡ x + (y + 1)
     next x y = omega arith
 
+-- two numbers that are moved alike are equal if they were
 moved_test : (a x y : ℕ) → ((a + x) == (a + y)) ≡ (x == y)
 moved_test a x y =
     same_truth ((a + x) == (a + y)) (x == y) (λ t. eq-eqb x y (omega (arith, eqb-true (a + x) (a + y) t)))
     (λ t. eq-eqb (a + x) (a + y) (omega (arith, eqb-true x y t)))
 
+-- numbers that differ fail the test of equality
 other_test : (x y : ℕ) → (x ≡ y → ⊥) → (x == y) ≡ false
 other_test x y h = false_from_ne_true (x == y) (λ t. h (eqb-true x y t))
 
@@ -50,12 +53,15 @@ within_range test n m b front back =
     (filter_none test (range_with_len (n + m) b) (λ e c. past e (from_range (n + m) b e c)))
     ∙ append-nil (map (λ e. n + e) (filter (λ e. test (n + e)) (numbers_below m))))
   where
+    -- 0 is left out of a sum
     nothing_before : (k : ℕ) → 0 + k ≡ k
     nothing_before k = omega arith
 
+    -- and so is one at its end
     nothing_after : (k : ℕ) → k ≡ k + 0
     nothing_after k = omega arith
 
+    -- a number from n + m on doesn't pass
     past : (e : ℕ) → (n + m ≤ e) × (e < n + m + b) → test e ≡ false
     past e (l, h) = let k : ℕ = e - (n + m) in
         subst (λ x. test x ≡ false) (let is : n + m + k ≡ e = omega (arith, l) in is) (back k (omega (arith, l, h)))
@@ -64,9 +70,11 @@ within_range test n m b front back =
 module _ (g part : Graph) (n first size : ℕ)
     (around : AreAround n first size g.edges (map (copied_edge first) part.edges))
     (copies : (e : ℕ) → e < edge_count part → edge_at g (n + e) ≡ copied_edge first (edge_at part e)) where
+  -- the copies of the part's edges
   abbrev mine : List Edge
   mine = map (copied_edge first) part.edges
 
+  -- there are as many as edges of the part
   long : length mine ≡ edge_count part
   long = length-map part.edges (copied_edge first)
 
@@ -81,6 +89,7 @@ module _ (g part : Graph) (n first size : ℕ)
     around.long,
   )
 
+  -- an edge before the copies is one of those in front
   front_at : (e : ℕ) → e < n → Contains around.front (edge_at g e)
   front_at e l =
       let inside : e < length around.front = omega (arith, around.long, l) in
@@ -88,6 +97,7 @@ module _ (g part : Graph) (n first size : ℕ)
       ∙ get_or_append_left around.front (mine ++ around.back) no_edge e inside))
       (Contains-get_or around.front e no_edge inside)
 
+  -- an edge after the copies is one of those behind
   back_at : (k : ℕ) → k < length around.back → Contains around.back (edge_at g (n + edge_count part + k))
   back_at k l =
       let place : n + edge_count part + k ≡ length around.front + (length mine + k) =

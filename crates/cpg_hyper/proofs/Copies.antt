@@ -23,6 +23,7 @@ within_pieces i n size q l h =
     let most : (i + 1) * size ≤ n * size = product_le (i + 1) n size (omega (arith, l)) in
     omega (arith, most, h)
 
+-- what stands where there is no process
 abbrev pub none : Process
 none = record {
   name = [];
@@ -61,6 +62,7 @@ in_part whole p i q part l h =
     ∙ ap (λ j. get_or (f j) q none) here
     ∙ get_or-map (copied_process p i part) part.problem.processes q none none h
   where
+    -- 0 is left out of a sum
     nothing_before : (n : ℕ) → 0 + n ≡ n
     nothing_before n = omega arith
 
@@ -80,9 +82,11 @@ copy_at whole first (part ∷ parts) zero i q h l =
     ∙ in_part whole first i q part h.instance l
     ∙ ap (λ n. copied_process n i part (get_or part.problem.processes q none)) (same_sum first)
   where
+    -- and so it is before two numbers
     drop_zero : (a b : ℕ) → 0 + a + b ≡ a + b
     drop_zero a b = omega arith
 
+    -- nothing is added at the end
     same_sum : (n : ℕ) → n ≡ n + 0
     same_sum n = omega arith
 copy_at whole first (part ∷ parts) (suc p) i q h l =
@@ -96,9 +100,11 @@ copy_at whole first (part ∷ parts) (suc p) i q h l =
     ∙ ap (λ m. copied_process m i (part_at parts p) (get_or (part_at parts p).problem.processes q none))
     (next_sum first p)
   where
+    -- a part's own processes, and then those before the copy
     moved : (own b c q all : ℕ) → all ≡ own → own + b + c + q ≡ all + (b + c + q)
     moved own b c q all e = omega (arith, e)
 
+    -- one more is counted on either side
     next_sum : (a b : ℕ) → a + 1 + b ≡ a + suc b
     next_sum a b = omega arith
 
@@ -106,6 +112,7 @@ copy_at whole first (part ∷ parts) (suc p) i q h l =
 pub within_whole : (whole first : ℕ) (parts : List Part) (p i : ℕ) → IsInstance whole parts p i →
     first_of whole parts p i + size_of (part_at parts p) ≤ length (processes_from whole first parts)
 within_whole whole first [] p i h = absurd (omega (arith, h.part))
+-- an instance of the first part: its number is below the number of instances
 within_whole whole first (part ∷ parts) zero i h =
     let most : (i + 1) * size_of part ≤ whole / part.period * size_of part =
     product_le (i + 1) (whole / part.period) (size_of part) (omega (arith, h.instance)) in
@@ -115,6 +122,7 @@ within_whole whole first (part ∷ parts) zero i h =
       processes_size whole first part,
       length-append (processes_of whole first part) (processes_from whole (first + 1) parts),
     )
+-- an instance of a later part
 within_whole whole first (part ∷ parts) (suc p) i h =
     omega (
       arith,
@@ -128,5 +136,6 @@ pub are_copies : InstancesAreCopies
 are_copies whole parts p i q h l = copy_at whole 0 parts p i q h l
     ∙ ap (λ n. copied_process n i (part_at parts p) (process_at (part_at parts p).problem q)) (nothing_before p)
   where
+    -- 0 is left out of a sum
     nothing_before : (n : ℕ) → 0 + n ≡ n
     nothing_before n = omega arith

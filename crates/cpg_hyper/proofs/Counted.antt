@@ -22,6 +22,7 @@ pub constant_pieces : {X Y : Type 0} (f : X → List Y) (n : ℕ) → ((x : X) �
 constant_pieces f n h [] = omega arith
 constant_pieces f n h (x ∷ xs) = omega (arith, h x, constant_pieces f n h xs, length-append (f x) (flat_map f xs))
 
+-- a part has as many instances as its period goes into the whole
 instance_count : (whole : ℕ) (part : Part) → length (instances whole part) ≡ whole / part.period
 instance_count whole part = length-range_with_len 0 (whole / part.period)
 
@@ -52,6 +53,7 @@ same_length whole a b (part ∷ parts) = omega (
   same_length whole (after_part whole a part) (after_part whole b part) parts,
 )
 
+-- a product of greater factors is greater
 product_le : (a b c d : ℕ) → a ≤ b → c ≤ d → a * c ≤ b * d
 product_le a b c d h k = grind (arith, common_steps)
 
@@ -102,6 +104,7 @@ next_instance f n old out new h k = k ∙ ap (λ xs. xs ++ f n) h ∙ append_ass
     ∙ ap (λ xs. old ++ xs) (ap (λ xs. flat_map f (numbers_below n) ++ xs) (sym (append-nil (f n)))
     ∙ sym (flat_map-append f (numbers_below n) (n ∷ [])) ∙ ap (flat_map f) (sym (below_push n)))
 
+-- a graph without processes has no edges
 no_edges : (n : ℕ) (es : List Edge) → n ≡ 0 → All (IsEdgeWithin n) es → es ≡ []
 no_edges n [] e h = refl
 no_edges n (d ∷ es) e h = absurd (omega (arith, (h 0 d (omega arith)).from, e))

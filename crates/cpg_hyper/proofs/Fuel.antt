@@ -21,6 +21,7 @@ filter_fewer p q (y ∷ ys) x more c off on = ⊎_elim
     (λ (d : Contains ys x). there (p y) (q y) (more y) (filter_fewer p q ys x more d off on))
     (Contains-cases y ys x c)
   where
+    -- at the element itself: only the second filter keeps it
     here : (a b : Bool) → a ≡ false → b ≡ true → length (filter p ys) ≤ length (filter q ys) →
         length (cond a (y ∷ filter p ys) (filter p ys)) < length (cond b (y ∷ filter q ys) (filter q ys))
     here false true e f l = omega (arith, l)
@@ -35,6 +36,7 @@ filter_fewer p q (y ∷ ys) x more c off on = ⊎_elim
     there false false h l = l
     there true false h l = absurd (true≢false (sym (h refl)))
 
+-- a test that passes says which number is less
 lower : (a b : ℕ) → nat_lt a b ≡ true → a < b
 lower a b t = ⊎_elim (λ (l : a < b). l) (λ (l : b ≤ a). absurd (true≢false (sym t ∙ le-ltb a b l))) (cases_lt a b)
 
@@ -51,6 +53,7 @@ module _ (size : ℕ) (height : ℕ → ℕ) where
       (λ j t. lt-ltb (height j) (height b) (omega (arith, lower (height j) (height a) t, h)))
       (Contains-numbers size a l) (le-ltb (height a) (height a) (omega arith)) (lt-ltb (height a) (height b) h)
 
+  -- a filter that passes all keeps all
   all_kept : (xs : List ℕ) → length (filter (λ (j : ℕ). true) xs) ≡ length xs
   all_kept [] = refl
   all_kept (x ∷ xs) = ap suc (all_kept xs)

@@ -26,6 +26,7 @@ use Rattle.cpg_hyper.specs.Laws.{InstancesHaveScenarios, InstancesLastAsLong, Va
 use Rattle.cpg_hyper.specs.Laws.{ValidTablesKeepPeriods}
 use Rattle.cpg_hyper.proofs.Copies.{are_copies, within_whole}
 
+-- some of the counts add up to no more than all
 sum_part : (xs : List ℕ) (n m : ℕ) → sum (take m (drop n xs)) ≤ sum xs
 sum_part xs n m = omega (arith, sum_by-take-le (λ x. x) (drop n xs) m, sum_by-take-drop (λ x. x) xs n)
 
@@ -65,11 +66,13 @@ column_there : (cs : List Column) (c : Column) (test : Column → Bool) → Cont
     (j : ℕ) × (list_any test (take 1 (drop j cs)) ≡ (test c || false))
 column_there cs c test (j, l, e) = (j, rw (drop_more cs j c l, e) refl)
 
+-- if one of two tests that hold together holds, the other doesn't break the rule
 both_false : (a b : Bool) → ((a && b) || false) ≡ false → a ≡ true → b ≡ false
 both_false true true h e = h
 both_false true false h e = refl
 both_false false b h e = cc
 
+-- a number that isn't less than another is at least as great
 at_least : (a b : ℕ) → nat_lt a b ≡ false → b ≤ a
 at_least a b h = ⊎_elim (λ (l : a < b). absurd (true≢false (sym (lt-ltb a b l) ∙ h))) (λ (m : b ≤ a). m) (cases_lt a b)
 
@@ -79,9 +82,11 @@ at_least a b h = ⊎_elim (λ (l : a < b). absurd (true≢false (sym (lt-ltb a b
 module _ (g : Graph) (tables : List NodeTable) (s : Scenario) (x : ℕ) (is : IsScenario g s) (valid : IsValid g tables)
     (l : x < process_count g) (c : Column)
     (there : Contains (columns_of tables x) c) (match : matches c.cube s ≡ true) where
+  -- x is the start of the process
   start : item_at g x ≡ Start x
   start = rw (lt-ltb x (process_count g) l) refl
 
+  -- by V5 the column isn't before the release
   released : (process_at g x).release ≤ c.time
   released =
       let here : take 1 (drop there.0 (columns_of tables x)) ≡ c ∷ [] =
@@ -93,6 +98,7 @@ module _ (g : Graph) (tables : List NodeTable) (s : Scenario) (x : ℕ) (is : Is
       let released : breaks_inputs_of g tables s c.time (Start x) ≡ false = rw start at inputs in
       at_least c.time (process_at g x).release (or_parts (nat_lt c.time (process_at g x).release) _ released).0
 
+  -- by V9 the execution ends by its due
   ended : c.time + duration g x (fault_of s x) ≤ due g x
   ended =
       let here : take 1 (drop there.0 (columns_of tables x)) ≡ c ∷ [] =
@@ -105,6 +111,7 @@ module _ (g : Graph) (tables : List NodeTable) (s : Scenario) (x : ℕ) (is : Is
       rw (lt-ltb x (process_count g) l) at late in
       at_least (due g x) (c.time + duration g x (fault_of s x)) late2
 
+-- a due is no later than the process's own
 lesser_of : (whole own : ℕ) → lesser_due whole (Some own) ≤ own
 lesser_of whole own = omega arith
 
@@ -115,9 +122,11 @@ keep_periods whole parts p i q s tables time h l is valid among =
     let part = part_at parts p in
     let x = first_of whole parts p i + q in
     let below : x < process_count g = omega (arith, within_whole whole 0 parts p i h, l) in
+    -- the column of the start, which matches in the scenario
     let (c, passed, at_time) = Contains-map_parts (λ (d : Column). d.time)
     (filter (λ (d : Column). matches d.cube s) (columns_of tables x)) time among in
     let (there, match) = Contains-filter_parts (λ (d : Column). matches d.cube s) (columns_of tables x) c passed in
+    -- the process is a copy of the part's, with release and deadline a whole number of periods later
     let copy = are_copies whole parts p i q h l in
     let release : (process_at g x).release ≡ i * part.period + (process_at part.problem q).release =
     ap (λ (d : Process). d.release) copy in
@@ -141,11 +150,13 @@ some_passes cs s h =
           (Contains-filter (λ (d : Column). matches d.cube s) cs c test there),
     )
 
+-- what isn't absent in a scenario is present
 present : (a b : Bool) → (a && not b) ≡ false → a ≡ true → b ≡ true
 present true true h e = refl
 present true false h e = cc
 present false b h e = cc
 
+-- the item x is the start of the process
 start_at : (g : Graph) (x : ℕ) → x < process_count g → item_at g x ≡ Start x
 start_at g x l = rw (lt-ltb x (process_count g) l) refl
 

@@ -18,9 +18,11 @@ measure_zero a b some e = record {
   most = λ d m p q. p;
 }
 
+-- m times the rest of a division, as m times the number less the divisor's share
 by_parts : (m b q r a : ℕ) → b * q + r ≡ a → m * r ≡ m * a - q * (m * b)
 by_parts m b q r a e = rw (← e) (omega arith)
 
+-- the same for the rest by its own sign
 rest_of : (m a b : ℕ) → m * (a % b) ≡ m * a - a / b * (m * b)
 rest_of m a b = by_parts m b (a / b) (a % b) a (div-add-mod a b)
 
@@ -34,12 +36,15 @@ measure_step a b g h = record {
       h.most d m q (subst (λ n. d ∣ n) (sym (rest_of m a b)) (dvd-sub d p (dvd-mul_left_of_dvd d q (a / b))));
 }
 
+-- factors in another order
 swap_inner : (x k g : ℕ) → x * (k * g) ≡ k * (x * g)
 swap_inner x k g = omega arith
 
+-- factors in another order
 swap_outer : (k g b : ℕ) → k * g * b ≡ g * (k * b)
 swap_outer k g b = omega arith
 
+-- factors in another order
 swap : (m g : ℕ) → m * g ≡ g * m
 swap m g = omega arith
 
@@ -60,6 +65,7 @@ least_of a b g h =
           dvd_of_mul-dvd-mul_left (k * b) h.some (subst (λ n. n ∣ g * m) left (subst (λ n. a * b ∣ n) (swap m g) both));
     }
 
+-- if a product isn't 0, its factors aren't
 both_some : (k g b : ℕ) → 1 ≤ k * g → 1 ≤ b → 1 ≤ k * b
 both_some zero g b h l = absurd (omega (arith, h))
 both_some (suc k) g b h l = omega (arith, l)

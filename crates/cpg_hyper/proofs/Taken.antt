@@ -5,15 +5,18 @@ use Rattle.std.specs.Prelude.{All}
 use Rattle.std.proofs.lemmas.List.{take_more}
 use Rattle.std.proofs.lemmas.List.Elements.{All-push, All-take}
 
+-- an element of the first list stands at the same place in both
 at_left : {X : Type 0} (xs ys : List X) (k : ℕ) (d : X) → k < length xs → get_or (xs ++ ys) k d ≡ get_or xs k d
 at_left [] ys k d l = absurd (omega arith)
 at_left (x ∷ xs) ys zero d l = refl
 at_left (x ∷ xs) ys (suc k) d l = at_left xs ys k d (omega arith)
 
+-- the element that is added stands behind the others
 at_last : {X : Type 0} (xs : List X) (y d : X) → get_or (xs ++ y ∷ []) (length xs) d ≡ y
 at_last [] y d = refl
 at_last (x ∷ xs) y d = at_last xs y d
 
+-- a fact of all elements of a list holds of all but the last, and of the last
 All_parts : {X : Type 0} (P : X → Type 0) (xs : List X) (x : X) → All P (xs ++ x ∷ []) → All P xs × P x
 All_parts P xs x a =
     let long = length-append xs (x ∷ []) in (

@@ -10,12 +10,15 @@ use Rattle.std.proofs.lemmas.List.Elements.{All-append}
 use Rattle.cpg_base.specs.Name.{IsName, is_name_byte}
 use Rattle.cpg_hyper.specs.Unrolled.{name_in}
 
+-- a byte from `0` to `9`
 abbrev IsDigit : ℕ → Type 0
 IsDigit b = (48 ≤ b) × (b ≤ 57)
 
+-- a fact of all elements of no list
 all_nil : {X : Type 0} (P : X → Type 0) → All P []
 all_nil P k d l = absurd (omega arith)
 
+-- and of the one element of another
 all_one : {X : Type 0} (P : X → Type 0) (x : X) → P x → All P (x ∷ [])
 all_one P x h zero d l = h
 all_one P x h (suc k) d l = absurd (omega (arith, l))
@@ -28,12 +31,15 @@ digits_only n h = decimal_by_steps (λ n ds. All IsDigit ds)
     All-append IsDigit ds ((48 + n % 10) ∷ []) p (all_one IsDigit (48 + n % 10) (omega arith, omega arith)))
     n h
 
+-- a digit may stand in a name
 digit_in_name : (b : ℕ) → IsDigit b → IsTrue (is_name_byte b)
 digit_in_name b h = search (le-leb 48 b h.0, le-leb b 57 h.1, rules)
 
+-- a weaker fact holds of all elements too
 all_weaker : {X : Type 0} (P R : X → Type 0) (xs : List X) → ((x : X) → P x → R x) → All P xs → All R xs
 all_weaker P R xs f h k d l = f (get_or xs k d) (h k d l)
 
+-- so may a point
 point : All (λ b. IsTrue (is_name_byte b)) (codes ".")
 point = all_one (λ b. IsTrue (is_name_byte b)) 46 refl
 
@@ -80,6 +86,7 @@ long_if (Err e) text made h is f = tt
 
 -- ---- names differ
 
+-- a text without its first byte
 tail : List ℕ → List ℕ
 tail [] = []
 tail (c ∷ cs) = cs

@@ -22,12 +22,15 @@ use Rattle.cpg_hyper.proofs.Counted.{processes_size}
 use Rattle.cpg_hyper.proofs.Copies.{product_le}
 use Rattle.cpg_hyper.proofs.Texts.{same_copy}
 
+-- nothing is added
 same_sum : (p : ℕ) → p ≡ p + 0
 same_sum p = omega arith
 
+-- one more is counted on either side
 next_sum : (p n : ℕ) → p + 1 + n ≡ p + suc n
 next_sum p n = omega arith
 
+-- the processes of a part and those of the rest are moved together
 moved : (first own rest all : ℕ) → all ≡ own + rest → first + own + rest ≡ first + all
 moved first own rest all e = omega (arith, e)
 
@@ -37,6 +40,7 @@ nothing_before n = omega arith
 
 -- ---- where a process of the whole comes from
 
+-- the process is the copy of one of the part's processes, in one of its instances
 pub record IsCopy (whole p : ℕ) (part : Part) (x : Process) : Type 0 where
   pub instance : ℕ
   pub process : Process
@@ -44,6 +48,7 @@ pub record IsCopy (whole p : ℕ) (part : Part) (x : Process) : Type 0 where
   pub has : Contains part.problem.processes process
   pub is : copied_process p instance part process ≡ x
 
+-- the process is such a copy of one of some parts, of which the first has the number p
 pub record IsCopyAmong (whole p : ℕ) (parts : List Part) (x : Process) : Type 0 where
   pub place : ℕ
   pub part : Part
@@ -67,6 +72,7 @@ of_parts whole p (part ∷ parts) x c = ⊎_elim
     (λ (d : Contains (processes_from whole (p + 1) parts) x). later_of (of_parts whole (p + 1) parts x d))
     (Contains-append_cases (processes_of whole p part) (processes_from whole (p + 1) parts) x c)
   where
+    -- a copy of the first part's process is at place 0
     first_of : IsCopy whole p part x → IsCopyAmong whole p (part ∷ parts) x
     first_of k = record {
       place = 0;
@@ -76,6 +82,7 @@ of_parts whole p (part ∷ parts) x c = ⊎_elim
       copy = subst (λ n. IsCopy whole n part x) (same_sum p) k;
     }
 
+    -- a copy of a later part's process is one place further
     later_of : IsCopyAmong whole (p + 1) parts x → IsCopyAmong whole p (part ∷ parts) x
     later_of k = record {
       place = suc k.place;
@@ -87,11 +94,13 @@ of_parts whole p (part ∷ parts) x c = ⊎_elim
 
 -- ---- times
 
+-- a time within a period is within the hyperperiod in each instance
 in_time : (i q period whole t : ℕ) → i < q → q * period ≤ whole → t ≤ period → i * period + t ≤ whole
 in_time i q period whole t l h k =
     let least : (i + 1) * period ≤ q * period = product_le (i + 1) q period (omega (arith, l)) in
     omega (arith, least, h, k)
 
+-- a due is no later than the deadline
 lesser_due_le : (d : ℕ) (own : Option ℕ) → lesser_due d own ≤ d
 lesser_due_le d None = omega arith
 lesser_due_le d (Some own) = omega arith
@@ -130,12 +139,14 @@ edges_within whole first p (part ∷ parts) h e c =
     length-append (processes_of whole p part) rest ∙
     ap (λ n. n + length rest) (processes_size whole p part) in
     ⊎_elim
+    -- an edge of this part: a copy in one of its instances
     (λ (d : Contains (edges_of whole first part) e).
     let (i, among, here) = Contains-flat_map_parts (edges_in first part) (instances whole part) e d in
     let (old, has, is) = Contains-map_parts (copied_edge (first_in first part i)) part.problem.edges e here in
     edge_of_instance first i (whole / part.period) (size_of part) e old (numbers-Contains (whole / part.period) i among)
     (contained (IsEdgeWithin (size_of part)) part.problem.edges old (h part (Contains-first part parts)).edges has) is _
     (omega (arith, long)))
+    -- an edge of a later part
     (λ (d : Contains (edges_from whole (after_part whole first part) parts) e).
     subst (λ n. IsEdgeWithin n e) (moved first (whole / part.period * size_of part) (length rest) _ long)
     (edges_within whole (after_part whole first part) (p + 1) parts
@@ -144,9 +155,11 @@ edges_within whole first p (part ∷ parts) h e c =
 
 -- ---- names
 
+-- two processes have different names
 abbrev pub Differ : Process → Process → Type 0
 Differ a b = a.name ≢ b.name
 
+-- an instance's number fits in 64 bits
 small : (whole period i : ℕ) → whole ≤ 1000000000 → i < whole / period → i < 2 ^ 64
 small whole period i short l = omega (arith, short, l, div-le_self whole period)
 
@@ -190,6 +203,7 @@ names_differ whole p (part ∷ parts) short few h =
 
 -- ---- the whole
 
+-- what holds of each element of a list holds of all
 all_from : {X : Type 0} (P : X → Type 0) (xs : List X) → ((x : X) → Contains xs x → P x) → All P xs
 all_from P xs h k d l = h (get_or xs k d) (Contains-get_or xs k d l)
 
@@ -209,9 +223,11 @@ first_there (part ∷ parts) d h = refl
 -- limits
 module _ (whole : ℕ) (parts : List Part) (some : 1 ≤ length parts) (few : length parts ≤ 4) (over : AreOver parts whole)
     (within : HoldsOfEach (λ p part. IsWithinLimits part.problem) parts) where
+  -- the first part's graph is within the limits
   first_within : IsWithinLimits (first_graph parts)
   first_within = subst IsWithinLimits (first_there parts none some) (within 0 none some)
     where
+      -- what stands where there is no part
       none : Part
       none = record { period = 0; problem = first_graph [] }
 
@@ -224,20 +240,24 @@ module _ (whole : ℕ) (parts : List Part) (some : 1 ≤ length parts) (few : le
       let among = of_parts whole 0 parts x c in
       let part = among.part in
       let q = among.copy.process in
+      -- the part is within the limits, has the first part's nodes, and fits its period
       let here : IsWithinLimits part.problem =
       subst (λ (d : Part). IsWithinLimits d.problem) among.there (within among.place part among.within) in
       let alike =
       subst (λ d. IsAlike (first_graph parts) d) among.there (over.fitting.alike among.place part among.within) in
       let fits = subst FitsPeriod among.there (over.fitting.fitting among.place part among.within) in
+      -- so is q
       let old : IsProcessWithin (length part.problem.nodes) q = contained (IsProcessWithin (length part.problem.nodes))
       part.problem.processes q here.processes among.copy.has in
       let soon : q.release ≤ part.period =
       contained (λ r. r.release ≤ part.period) part.problem.processes q fits.releases among.copy.has in
+      -- its release and its due are within the whole
       let release = in_time among.copy.instance (whole / part.period) part.period whole q.release among.copy.early
       (div-mul-le_self whole part.period) soon in
       let due = in_time among.copy.instance (whole / part.period) part.period whole
       (lesser_due part.problem.deadline q.deadline) among.copy.early (div-mul-le_self whole part.period)
       (omega (arith, lesser_due_le part.problem.deadline q.deadline, fits.deadline)) in
+      -- the copy is within the limits
       let made : IsProcessWithin (length (first_graph parts).nodes)
       (copied_process (0 + among.place) among.copy.instance part q) = record {
         node = omega (arith, old.node, ap length alike.nodes);
@@ -259,6 +279,7 @@ module _ (whole : ℕ) (parts : List Part) (some : 1 ≤ length parts) (few : le
       let limits = λ (part : Part) (c : Contains parts part).
       (each_contained (λ p d. IsWithinLimits d.problem) parts within part c).1 in
       record {
+        -- the whole is short enough, and faults, nodes and slots are those of the first part
         faults = first_within.faults;
         deadline = over.short;
         few_nodes = first_within.few_nodes;
@@ -267,12 +288,14 @@ module _ (whole : ℕ) (parts : List Part) (some : 1 ≤ length parts) (few : le
         few_edges = counts.edges;
         few_conditions = counts.conditions;
         slots = first_within.slots;
+        -- each process and each edge has numbers in range
         processes =
             all_from (IsProcessWithin (length (first_graph parts).nodes)) (processes_from whole 0 parts) process_within;
         edges = all_from (IsEdgeWithin (length (processes_from whole 0 parts))) (edges_from whole 0 parts)
             (λ e c. subst (λ n. IsEdgeWithin n e) (nothing_before (length (processes_from whole 0 parts)))
             (edges_within whole 0 0 parts limits e c));
         node_names = first_within.node_names;
+        -- the copies have names of their own
         process_names = names_differ whole 0 parts over.short (omega (arith, few)) limits;
         own_slots = first_within.own_slots;
         order = tt;

@@ -23,20 +23,24 @@ abbrev IsValueOf : Log → Value → Type 0
 IsValueOf l (log_value m) = m ≡ l
 IsValueOf l v = Unit {0}
 
+-- a scenario that was read after a graph is of that graph
 played_fits : (g : Graph) (bytes : Text) (p : Played) → Says (Some g) ScenarioFile bytes (played_value p) → IsPlayed g p
 played_fits g bytes p (q, e, are) =
     let same : q ≡ p = subst (IsAlike (played_value p)) e refl in subst (IsPlayed g) same are.lawful
 
+-- a log that was read after a graph is of that graph
 log_fits : (g : Graph) (bytes : Text) (l : Log) → Says (Some g) LogFile bytes (log_value l) → IsLog g l
 log_fits g bytes l (m, e, are) =
     let same : m ≡ l = subst (IsValueOf l) e refl in subst (IsLog g) same are.lawful
 
+-- the scenario of `play` is of the graph before it
 play_fits : (a : Admission) (t : Tables) (p : Played) (graph pack scenario : Text) (turns : ℕ) (past now : List Fetch) →
     Reads None (files_of (Play graph pack scenario turns)) past now
     (graph_value a ∷ tables_value t ∷ played_value p ∷ []) → IsPlayed a.graph p
 play_fits a t p graph pack scenario turns past now reads = let last = reads.2.2 in
     played_fits a.graph last.0.given p last.1.says
 
+-- the log of `audit` is of the graph before it
 audit_fits : (a : Admission) (t : Tables) (l : Log) (graph pack log : Text) (past now : List Fetch) →
     Reads None (files_of (Audit graph pack log)) past now (graph_value a ∷ tables_value t ∷ log_value l ∷ []) →
     IsLog a.graph l

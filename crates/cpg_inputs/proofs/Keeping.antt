@@ -8,6 +8,7 @@ use Rattle.cpg_io.specs.State.{ShelfState}
 use Rattle.cpg_io.proofs.Agreeing.{fetched_on, fetched_same}
 
 module _ (old mid new : ShelfState) (a : KeepsShelf old mid) (b : KeepsShelf mid new) where
+  -- a failed fetch that is new since `old` has raised the count of faults
   counted_rose : (fetch : Fetch) (past : List Fetch) → new.history ≡ fetch ∷ past → fetch.failed ≡ true →
       (new.history ≡ old.history) ⊎ Rose old.faults new.faults
   counted_rose fetch past is failed = elim (b.rose fetch past is failed) [

@@ -28,6 +28,7 @@ use Rattle.cpg_inputs.specs.Reading.{IsRead, Reads, StopsAt, StopsReading}
 
 -- ---- results are one thing
 
+-- the value of a result, or another one if there is none
 abbrev value_or : {T E : Type 0} → T → Result T E → T
 value_or d (Ok x) = x
 value_or d (Err e) = d
@@ -36,6 +37,7 @@ value_or d (Err e) = d
 pub same_value : {T E : Type 0} (r : Result T E) (x y : T) → r ≡ Ok x → r ≡ Ok y → x ≡ y
 same_value r x y a b = ap (value_or x) (sym a ∙ b)
 
+-- whether a result is an error
 abbrev is_fault : {T E : Type 0} → Result T E → Bool
 is_fault (Ok x) = false
 is_fault (Err e) = true
@@ -46,6 +48,7 @@ not_both r x e a b = both_ways _ refl (ap is_fault (sym a ∙ b) ∙ refl)
 
 -- ---- one graph with one order
 
+-- two admissions have the same graph and the same urgency order
 pub record AreAlike (a b : Admission) : Type 0 where
   pub graph : b.graph ≡ a.graph
   pub order : b.order ≡ a.order
@@ -66,6 +69,8 @@ moved a b same P p = subst (P a.graph) same.order (subst (λ g. P g b.order) sam
 
 -- ---- one value
 
+-- two values of one kind are alike: admissions if their graphs and orders are, logs always, all others if they are
+-- equal
 abbrev pub IsAlike : Value → Value → Type 0
 IsAlike (graph_value a) (graph_value b) = AreAlike a b
 IsAlike (part_value g) (part_value h) = h ≡ g
@@ -74,6 +79,7 @@ IsAlike (played_value p) (played_value q) = q ≡ p
 IsAlike (log_value l) (log_value m) = Unit {0}
 IsAlike v w = ⊥
 
+-- two lists have values that are alike, one by one
 abbrev pub AllAlike : List Value → List Value → Type 0
 AllAlike [] [] = Unit {0}
 AllAlike [] (w ∷ ws) = ⊥
@@ -132,6 +138,7 @@ not_refused (Some g) LogFile bytes v h (l, e, x) none = absurd (no_bad_line g by
 not_refused None ScenarioFile bytes v h x none = absurd x
 not_refused None LogFile bytes v h x none = absurd x
 
+-- a file that was read doesn't stop the run, unless memory runs out
 not_stopped : (g : Option Graph) (f : File) (fetch : Fetch) (v : Value) (h : Halt) → IsRead g f fetch v →
     StopsAt g f fetch h → h ≡ Memory
 not_stopped g f fetch v h r (inl unread) = absurd (true≢false (sym unread.failed ∙ r.whole.sound))
@@ -147,6 +154,7 @@ pub record HasGrown (past now : List Fetch) : Type 0 where
   pub fetches : List Fetch
   pub is : now ≡ fetches ++ past
 
+-- a history that has grown after a fetch has grown after those before it
 grown_on : (fetch : Fetch) (past now : List Fetch) → HasGrown (fetch ∷ past) now → HasGrown past now
 grown_on fetch past now g =
     record { fetches = g.fetches ++ fetch ∷ []; is = g.is ∙ sym (append_assoc g.fetches (fetch ∷ []) past) }
@@ -170,23 +178,28 @@ stops_grown g (f ∷ fs) past now h (fetch, inl here) = record { fetches = fetch
 stops_grown g (f ∷ fs) past now h (fetch, inr (v, read, there)) =
     grown_on fetch past now (stops_grown (graph_after g v) fs (fetch ∷ past) now h there)
 
+-- the newest fetch of a history
 abbrev head_or : Fetch → List Fetch → Fetch
 head_or d [] = d
 head_or d (f ∷ fs) = f
 
+-- a history without its newest fetch
 abbrev tail_of : List Fetch → List Fetch
 tail_of [] = []
 tail_of (f ∷ fs) = fs
 
+-- a history isn't longer than itself
 too_long : (x y z : Fetch) (past xs : List Fetch) → x ∷ past ≡ y ∷ (xs ++ z ∷ past) → ⊥
 too_long x y z past xs e = let l = ap length e in let k = length-append xs (z ∷ past) in omega (arith, l, k)
 
+-- two histories that end alike had the same fetch there
 same_fetch : (xs ys : List Fetch) (f e : Fetch) (past : List Fetch) → xs ++ f ∷ past ≡ ys ++ e ∷ past → f ≡ e
 same_fetch [] [] f e past is = ap (head_or f) is
 same_fetch [] (y ∷ ys) f e past is = absurd (too_long f y e past ys is)
 same_fetch (x ∷ xs) [] f e past is = absurd (too_long e x f past xs (sym is))
 same_fetch (x ∷ xs) (y ∷ ys) f e past is = same_fetch xs ys f e past (ap tail_of is)
 
+-- after one history there is one next fetch
 one_fetch : (past now : List Fetch) (f e : Fetch) → HasGrown (f ∷ past) now → HasGrown (e ∷ past) now → f ≡ e
 one_fetch past now f e x y = same_fetch x.fetches y.fetches f e past (sym x.is ∙ y.is)
 
@@ -229,6 +242,7 @@ stops_memory g (f ∷ fs) past now (v ∷ vs) h r (fetch, inr (w, read, there)) 
 
 -- ---- graphs that were read are admitted, and tables lawful
 
+-- a value is lawful: tables are, and a graph is admitted
 abbrev pub IsLawfulValue : Value → Type 0
 IsLawfulValue (tables_value t) = AreLawful t
 IsLawfulValue (graph_value a) = IsAdmitted a.graph a.order a.guards
@@ -236,10 +250,12 @@ IsLawfulValue (part_value g) = Unit {0}
 IsLawfulValue (played_value p) = Unit {0}
 IsLawfulValue (log_value l) = Unit {0}
 
+-- all of some values are
 abbrev pub AllLawful : List Value → Type 0
 AllLawful [] = Unit {0}
 AllLawful (v ∷ vs) = IsLawfulValue v × AllLawful vs
 
+-- what bytes say as a value of some kind is lawful
 value_lawful : (g : Option Graph) (k : FileKind) (bytes : Text) (v : Value) → Says g k bytes v → IsLawfulValue v
 value_lawful g GraphFile bytes v (a, e, x) = subst IsLawfulValue (sym e) x.admitted
 value_lawful g PartFile bytes v (a, e, x) = subst IsLawfulValue (sym e) tt

@@ -20,14 +20,17 @@ use Rattle.cpg_inputs.proofs.Readings.{graph_behind, reads_more, reads_one, stop
 
 -- ---- lists of parts
 
+-- the files of two lists of pairs, one after the other
 files_more : (ps qs : List Pair) → part_files (ps ++ qs) ≡ part_files ps ++ part_files qs
 files_more [] qs = refl
 files_more (p ∷ ps) qs = ap (λ fs. file PartFile p.graph ∷ fs) (files_more ps qs)
 
+-- the values of two lists of parts, one after the other
 values_more : (ps qs : List Part) → part_values (ps ++ qs) ≡ part_values ps ++ part_values qs
 values_more [] qs = refl
 values_more (p ∷ ps) qs = ap (λ vs. part_value p.problem ∷ vs) (values_more ps qs)
 
+-- one more part with its pair's period
 periods_more : (ps : List Pair) (ds : List Part) (p : Pair) (d : Part) → HavePeriods ps ds → d.period ≡ p.period →
     HavePeriods (ps ++ p ∷ []) (ds ++ d ∷ [])
 periods_more [] [] p d have e = (e, tt)
@@ -49,6 +52,7 @@ periods_length (p ∷ ps) (d ∷ ds) have = omega (arith, periods_length ps ds h
 
 -- ---- one file more
 
+-- a part with a period
 abbrev part_of : ℕ → Graph → Part
 part_of period problem = record { period = period; problem = problem }
 
@@ -56,12 +60,15 @@ part_of period problem = record { period = period; problem = problem }
 module _ (pairs : List Pair) (i : ℕ) (pair : Pair) (l : i < length pairs) (is : pair ≡ get_or pairs i pair)
     (parts : List Part) (past mid now : List Fetch)
     (read : Reads None (part_files (take i pairs)) past mid (part_values parts)) where
+  -- the pairs up to the next one
   next : take (i + 1) pairs ≡ take i pairs ++ pair ∷ []
   next = take_more pairs i pair l ∙ ap (λ p. take i pairs ++ p ∷ []) (sym is)
 
+  -- their files, with the next one's file last
   files_next : part_files (take (i + 1) pairs) ≡ part_files (take i pairs) ++ file PartFile pair.graph ∷ []
   files_next = ap part_files next ∙ files_more (take i pairs) (pair ∷ [])
 
+  -- all files: those up to the next one, and those after it
   files_all : part_files pairs ≡ (part_files (take i pairs) ++ file PartFile pair.graph ∷ [])
       ++ part_files (drop (i + 1) pairs)
   files_all =

@@ -11,6 +11,7 @@ use Rattle.cpg_inputs.specs.Files.{File}
 use Rattle.cpg_inputs.specs.Says.{Value, graph_after}
 use Rattle.cpg_inputs.specs.Reading.{AreSound, Reads, StopsAt, StopsReading}
 
+-- the fetch didn't fail
 abbrev IsSound : Fetch → Type 0
 IsSound fetch = fetch.failed ≡ false
 
@@ -36,6 +37,7 @@ reads_sound g (f ∷ fs) past now [] r = absurd r
 reads_sound g (f ∷ fs) past now (v ∷ vs) r =
     sound_on r.0 past now r.1.whole.sound (reads_sound (graph_after g v) fs (r.0 ∷ past) now vs r.2)
 
+-- if a file stops the run, its fetch didn't fail, or the halt says that it did
 stop_sound : (g : Option Graph) (f : File) (fetch : Fetch) (h : Halt) → StopsAt g f fetch h → IsSound fetch ⊎ (h ≡ Read)
 stop_sound g f fetch h (inl unread) = inr unread.halt_is
 stop_sound g f fetch h (inr (inl long)) = inl long.sound

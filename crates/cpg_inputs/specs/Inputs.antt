@@ -44,8 +44,10 @@ AreInputs command values (Inputs.Trial number) = (command ≡ Trial number) × (
 
 -- the files of a command were read, and the inputs are what they say
 pub record HasInputs (command : Command) (past now : List Fetch) (inputs : Inputs) : Type 0 where
+  -- what the files say, in the order in which the command reads them
   pub values : List Value
   pub reads : Reads None (files_of command) past now values
+  -- the inputs are made of these
   pub are : AreInputs command values inputs
 
 -- the answer when a command's files are read

@@ -11,6 +11,7 @@ use Rattle.cpg_io.specs.Agreement.{Agrees, AreFetched, IsFrontOf, IsLeft, IsRest
 use Rattle.cpg_io.specs.Shelf.{HasGiven, SameNames, StartsAt, opened}
 use Rattle.cpg_io.specs.State.{ShelfState}
 
+-- a fact of the bytes that stand under a name, if any do, gives another one
 on_some : (told : Option (List ℕ)) (P Q : List ℕ → Type 0) → ((whole : List ℕ) → P whole → Q whole) → IfSome told P →
     IfSome told Q
 on_some None P Q f p = tt
@@ -18,25 +19,30 @@ on_some (Some whole) P Q f p = f whole p
 
 -- ---- a read
 
+-- if nothing is left, nothing was left after a piece, either
 none_left : (piece rest : List ℕ) → [] ≡ piece ++ rest → rest ≡ []
 none_left [] rest e = sym e
 none_left (x ∷ xs) rest e = absurd (cc e)
 
+-- a read into a buffer of some size that gives no byte read none
 none_read : (n : ℕ) (buf : List ℕ) → 0 < length buf → is_none (take n buf) ≡ true → n ≡ 0
 none_read zero buf some e = refl
 none_read (suc n) [] some e = absurd (omega (arith, some))
 none_read (suc n) (b ∷ bs) some e = absurd (true≢false (sym e))
 
+-- what follows from each of two tests follows from either
 either_end : (a b : Bool) (P : Type 0) → (a ≡ true → P) → (b ≡ true → P) → (a || b) ≡ true → P
 either_end true b P f g e = f refl
 either_end false b P f g e = g e
 
+-- after one more piece the file is still at its end
 end_on : (whole given piece : List ℕ) (left rest : Option (List ℕ)) → Consumes (Some whole) left given →
     Consumes left rest piece → IsAtEnd left → IsAtEnd rest
 end_on whole given piece None rest came more end = absurd came
 end_on whole given piece (Some ys) None came more end = absurd more
 end_on whole given piece (Some ys) (Some zs) came more end = none_left piece zs (sym end ∙ more)
 
+-- if what is left stays as it was, the file is still at its end
 end_kept : (whole given : List ℕ) (left rest : Option (List ℕ)) → Consumes (Some whole) left given → Keeps left rest →
     IsAtEnd left → IsAtEnd rest
 end_kept whole given None rest came kept end = absurd came
@@ -44,6 +50,7 @@ end_kept whole given (Some ys) None came kept end = absurd kept
 end_kept whole given (Some ys) (Some zs) came kept end = kept ∙ end
 
 module _ (old new : ShelfState) (names : SameNames old new) where
+  -- once a piece is given, the rest that is left belongs to the newest fetch
   gave_rest : (past : List Fetch) (piece : List ℕ) → Consumes old.left new.left piece →
       (is_none piece ≡ true → IsAtEnd new.left) → IsRestLeft old past →
       IsRestLeft new (gave piece past)
@@ -59,6 +66,7 @@ module _ (old new : ShelfState) (names : SameNames old new) where
             (λ e. end_on whole f.given piece old.left new.left l.came more (l.end e));
       }) r)
 
+  -- if a read failed, the rest that was left is still left
   failed_rest : (past : List Fetch) → Keeps old.left new.left → IsRestLeft old past → IsRestLeft new (failed past)
   failed_rest [] kept r = tt
   failed_rest (f ∷ past) kept r =
@@ -81,6 +89,7 @@ module _ (old new : ShelfState) (names : SameNames old new) where
 
   -- ---- a fetch
 
+  -- at the start of a fetch all of its bytes are left
   starts : (told : Option (List ℕ)) (f : Fetch) → f.given ≡ [] → f.ended ≡ false → StartsAt told new.left →
       IfSome told (λ whole. IsLeft whole new.left f)
   starts None f none unended s = tt
@@ -99,6 +108,7 @@ module _ (old new : ShelfState) (names : SameNames old new) where
 
   -- ---- what was fetched
 
+  -- what a fetch gave and what is left of it are the bytes of the name
   front_of : (whole : List ℕ) (left : Option (List ℕ)) (f : Fetch) → IsLeft whole left f → IsFrontOf whole f
   front_of whole None f l = absurd l.came
   front_of whole (Some rest) f l = record { rest = rest; front = l.came; all = l.end }
@@ -125,6 +135,7 @@ module _ (old new : ShelfState) (names : SameNames old new) where
         (names (get_or y.fetches i d).name) (y.agree i d lt)) x.agree;
   }
 
+-- a fetch that has given nothing gave the front of any bytes
 unfetched : (told : Option (List ℕ)) (f : Fetch) → f.given ≡ [] → f.ended ≡ false →
     IfSome told (λ whole. IsFrontOf whole f)
 unfetched None f none unended = tt

@@ -6,6 +6,7 @@ use Rattle.cpg_io.specs.Reading.{GivesPiece}
 use Rattle.cpg_io.specs.declared.reading.ReadAll.{ReadAll}
 use Rattle.cpg_io.specs.declared.reading.ReadAll.TheVariants.{Failed, TooLong, OutOfMemory}
 
+-- a piece that is given belongs to the newest fetch, so there is still one fetch before the past
 gave_more : (piece : List ℕ) (past now mid : List Fetch) (f : Fetch) → mid ≡ f ∷ past → now ≡ gave piece mid →
     (one : Fetch) × (now ≡ one ∷ past)
 gave_more piece past now mid f is more = (

@@ -17,6 +17,7 @@ pub record IsFirst (name : List ℕ) (files : List File) (place : ℕ) (d : File
   pub named : is_named name (get_or files place d) ≡ true
   pub before : (k : ℕ) → k < place → is_named name (get_or files k d) ≡ false
 
+-- a first place that isn't the first file's is one of the other files
 IsFirst-rest : (name : List ℕ) (file : File) (files : List File) (place : ℕ) (d : File) →
     IsFirst name (file ∷ files) (suc place) d →
     IsFirst name files place d
@@ -39,6 +40,7 @@ stands_in-passed : (name : List ℕ) (file : File) (files : List File) → is_na
     stands_in (file ∷ files) name ≡ stands_in files name
 stands_in-passed name file files off = rw off refl
 
+-- the first file has the name, so its bytes stand under it
 stands_in-named : (name : List ℕ) (file : File) (files : List File) → is_named name file ≡ true →
     stands_in (file ∷ files) name ≡ Some file.bytes
 stands_in-named name file files on = rw on refl
@@ -52,6 +54,7 @@ stands_in-first name (file ∷ files) (suc place) d h =
     stands_in-passed name file files (h.before 0 (omega arith))
     ∙ stands_in-first name files place d (IsFirst-rest name file files place d h)
 
+-- new bytes for the first file with the name stand under it
 stands_in-set : (name : List ℕ) (files : List File) (place : ℕ) (d file : File) → IsFirst name files place d →
     is_named name file ≡ true →
     stands_in (slice_set files place file) name ≡ Some file.bytes
@@ -61,6 +64,7 @@ stands_in-set name (old ∷ files) (suc place) d file h on =
     stands_in-passed name old (slice_set files place file) (h.before 0 (omega arith))
     ∙ stands_in-set name files place d file (IsFirst-rest name old files place d h) on
 
+-- what stands under other names stays
 stands_in-set_other : (other : List ℕ) (files : List File) (place : ℕ) (d file : File) →
     is_named other (get_or files place d) ≡ false →
     is_named other file ≡ false →
@@ -73,10 +77,12 @@ stands_in-set_other other (x ∷ files) (suc place) d file old new =
 
 -- ---- no place
 
+-- nothing is found if the first element doesn't pass and nothing is found in the rest
 none_rest : (b : Bool) (i : ℕ) (rest : Option ℕ) → cond b (Some i) rest ≡ None → (b ≡ false) × (rest ≡ None)
 none_rest true i rest h = absurd (cc h)
 none_rest false i rest h = (refl, h)
 
+-- if no file has the name, nothing stands under it
 none_from : (name : List ℕ) (files : List File) (i : ℕ) → position_from (is_named name) i files ≡ None →
     stands_in files name ≡ None
 none_from name [] i h = refl
@@ -89,17 +95,20 @@ pub stands_in-no_place : (name : List ℕ) (files : List File) → position (is_
     stands_in files name ≡ None
 stands_in-no_place name files h = none_from name files 0 (sym (position_from-zero (is_named name) files) ∙ h)
 
+-- a file that is passed over changes nothing
 none_passed : (b : Bool) (bytes : List ℕ) (rest longer goal : Option (List ℕ)) → (rest ≡ None → longer ≡ goal) →
     cond b (Some bytes) rest ≡ None →
     cond b (Some bytes) longer ≡ goal
 none_passed true bytes rest longer goal f h = absurd (cc h)
 none_passed false bytes rest longer goal f h = f h
 
+-- a file that is added at the end is found if no other one has its name
 stands_in-push : (name : List ℕ) (files : List File) (file : File) → stands_in files name ≡ None →
     stands_in (files ++ file ∷ []) name ≡ stands_in (file ∷ []) name
 stands_in-push name [] file h = refl
 stands_in-push name (x ∷ files) file h = none_passed (is_named name x) x.bytes _ _ _ (stands_in-push name files file) h
 
+-- a file that is added leaves what stands under other names
 stands_in-push_other : (other : List ℕ) (files : List File) (file : File) → is_named other file ≡ false →
     stands_in (files ++ file ∷ []) other ≡ stands_in files other
 stands_in-push_other other [] file off = stands_in-passed other file [] off
@@ -108,9 +117,11 @@ stands_in-push_other other (x ∷ files) file off =
 
 -- ---- bytes put under a name
 
+-- a file is named by its own name
 is_named-own : (file : File) (name : List ℕ) → file.name ≡ name → is_named name file ≡ true
 is_named-own file name same = (bytes_eq-Decides file.name name).1 same
 
+-- and by no other one
 is_named-other : (file : File) (name other : List ℕ) → file.name ≡ name → other ≢ name → is_named other file ≡ false
 is_named-other file name other same differs =
     false_from_ne_true _ (λ on. differs (sym ((bytes_eq-Decides file.name other).0 on) ∙ same))

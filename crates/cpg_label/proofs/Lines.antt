@@ -22,6 +22,7 @@ front-append labels [] ys = refl
 front-append labels (x ∷ xs) ys = ap (λ t. literal_text labels x ++ t) (flat_map-append (piece_text labels) xs ys)
     ∙ sym (append_assoc (literal_text labels x) (flat_map (piece_text labels) xs) (flat_map (piece_text labels) ys))
 
+-- one literal behind others is written as what it adds to their text
 rest_of_one : (labels : Labels) (xs : List Literal) (l : Literal) →
     rest_text labels xs (l ∷ []) ≡ added_text labels xs l
 rest_of_one labels [] l = append-nil (literal_text labels l)
@@ -82,6 +83,7 @@ line_none labels = record { text = refl; count = refl; ends = λ n le. none n le
     few zero le = omega arith
     few (suc n) le = absurd (omega (arith, le))
 
+    -- without literals the one end is 0
     none : (n : ℕ) → n ≤ 0 → get_or (0 ∷ []) n 0 ≡ length (front_text labels (take n []))
     none zero le = refl
     none (suc n) le = absurd (omega (arith, le))
@@ -114,14 +116,17 @@ line_more labels ls text ends l now h is few =
     long : length (ls ++ l ∷ []) ≡ length ls + 1
     long = length-append ls (l ∷ [])
 
+    -- the text with one literal more
     text_is : now ≡ front_text labels (ls ++ l ∷ [])
     text_is = is ∙ ap (λ t. t ++ added_text labels ls l) h.text ∙ sym (front_more labels ls l)
 
+    -- the ends before the new one are as they were
     before : (n : ℕ) → n ≤ length ls →
         get_or (ends ++ length now ∷ []) n 0 ≡ length (front_text labels (take n (ls ++ l ∷ [])))
     before n le = get_or-append ends (length now ∷ []) 0 n (omega (arith, h.count)) ∙ h.ends n le
         ∙ ap (λ xs. length (front_text labels xs)) (sym (take-append-le n ls (l ∷ []) le))
 
+    -- the new end is within the room for n literals
     last_short : (n : ℕ) → n ≤ length (ls ++ l ∷ []) → length ls < n → get_or (ends ++ length now ∷ []) n 0 ≤ 84 * n
     last_short n le lt =
         let at : get_or (ends ++ length now ∷ []) n 0 ≡ length now =
@@ -130,6 +135,7 @@ line_more labels ls text ends l now h is few =
         let whole : length text ≤ 84 * length ls = line_short labels ls text ends h in
         omega (arith, at, whole, few, le, lt, long)
 
+    -- the new end is where the text with the literal ends
     last : (n : ℕ) → n ≤ length (ls ++ l ∷ []) → length ls < n →
         get_or (ends ++ length now ∷ []) n 0 ≡ length (front_text labels (take n (ls ++ l ∷ [])))
     last n le lt = ap (λ i. get_or (ends ++ length now ∷ []) i 0) (omega (arith, long, h.count))
@@ -155,6 +161,7 @@ line_less labels ls text ends count h le =
         ∙ ap (take (length (front_text labels (take count ls)))) (h.text ∙ front_parted labels ls count)
         ∙ take-append_seam (front_text labels (take count ls)) (rest_text labels (take count ls) (drop count ls))
 
+    -- the ends that are kept are those of the literals that are kept
     ends_are : (n : ℕ) → n ≤ length (take count ls) →
         get_or (take (count + 1) ends) n 0 ≡ length (front_text labels (take n (take count ls)))
     ends_are n few = get_or-take (count + 1) ends n 0 (omega (arith, length-take-le count ls le))
@@ -183,6 +190,7 @@ line_new labels ls text ends e = rw e (line_none labels)
 module _ (labels : Labels) (ls : List Literal) (text ends : List ℕ) (count : ℕ)
     (h : AreLine labels (take count ls) (take (get_or ends count 0) text) (take (count + 1) ends))
     (room : count ≤ length ls) where
+  -- as many literals are kept as are counted
   long : length (take count ls) ≡ count
   long = length-take-le count ls room
 
@@ -191,6 +199,7 @@ module _ (labels : Labels) (ls : List Literal) (text ends : List ℕ) (count : �
   end_is = sym (get_or-take (count + 1) ends count 0 (omega arith)) ∙ h.ends count (omega (arith, long))
       ∙ ap (λ xs. length (front_text labels xs)) (take-take count count ls (omega arith))
 
+  -- the text that is kept is as long as the end of its last literal says
   text_long : length (take (get_or ends count 0) text) ≡ get_or ends count 0
   text_long = ap length h.text ∙ sym end_is
 

@@ -26,6 +26,7 @@ module _ (g : Graph) (order : List ℕ) (frozen : List (Option ℕ)) (s : Scenar
   spent_by : ℕ → ℕ
   spent_by m = spent (λ q. ltb (moment_of_end g order q) m) 0 s.faults
 
+  -- by a later moment no fewer faults are spent
   spent_later : (m l : ℕ) → m ≤ l → spent_by m ≤ spent_by l
   unfolding spent_by
   spent_later m l h =
@@ -45,6 +46,7 @@ module _ (g : Graph) (order : List ℕ) (frozen : List (Option ℕ)) (s : Scenar
       (le-ltb (moment_of_end g order p) m h)
       (lt-ltb (moment_of_end g order p) (moment_of_end g order p + 1) (omega arith))
 
+  -- before moment m no time of the run is later than the latest one with as many faults as are spent by it
   record AboveBefore (m : ℕ) : Type 0 where
     items : (n x : ℕ) → n ≤ g.faults → x < item_count g → moment g order x < m → spent_by (moment g order x) ≤ n →
         time_in t x ≤ time_in (late n) x
@@ -115,6 +117,7 @@ module _ (g : Graph) (order : List ℕ) (frozen : List (Option ℕ)) (s : Scenar
         ends = λ n p few l h b. end_le m p n a (omega arith) l few b;
       }
 
+  -- no more faults are spent than there are
   all_spent : (m n : ℕ) → sum s.faults ≤ n → spent_by m ≤ n
   unfolding spent_by
   all_spent m n h = omega (arith, h, spent-le (λ q. ltb (moment_of_end g order q) m) 0 s.faults)

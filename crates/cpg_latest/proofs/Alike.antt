@@ -36,6 +36,7 @@ pub record AreActiveAlike (g : Graph) (s u : Scenario) : Type 0 where
 -- given: two scenarios that agree on what is active in the first
 module _ (g : Graph) (urgency : List ℕ) (urgent : IsUrgencyOrder g urgency) (lawful : IsTopological g urgency)
     (s u : Scenario) (alike : AreActiveAlike g s u) where
+  -- each process has the same activation in both scenarios
   activation_is_same : (p : ℕ) → p < process_count g → activation g s.values p ≡ activation g u.values p
   activation_is_same p l = same_everywhere g urgency lawful s.values u.values p (omega arith) alike.values
 
@@ -43,11 +44,13 @@ module _ (g : Graph) (urgency : List ℕ) (urgent : IsUrgencyOrder g urgency) (l
   pub active_is_same : (p : ℕ) → p < process_count g → active g s.values p ≡ active g u.values p
   active_is_same p l = ap is_active (activation_is_same p l)
 
+  -- the same edges are live in both scenarios
   live_is_same : (e : ℕ) → e < edge_count g → live g s.values e ≡ live g u.values e
   live_is_same e l = live_same g urgency lawful s.values u.values e l
       (activation_is_same (source g e) (source_in_order g urgency lawful e l))
       (λ c k at acts. alike.values c k (subst (λ q. active g s.values q ≡ true) (sym at) acts))
 
+  -- the same conditions decide a process in both
   deciding_is_same : (p : ℕ) → deciding g s.values p ≡ deciding g u.values p
   deciding_is_same p = deciding_same g urgency urgent p s.values u.values
       (λ c l d. alike.values c l (deciding_is_active g urgency urgent lawful s.values p c l d))
@@ -76,6 +79,7 @@ module _ (g : Graph) (urgency : List ℕ) (urgent : IsUrgencyOrder g urgency) (l
         (ap (map (heard_there g t (node_of g p))) (same_flat_map (deciding g s.values) (deciding g u.values)
         (before_on_node g order p ++ p ∷ []) (λ q c. deciding_is_same q))))
 
+    -- what a send waits for is the same in both
     send_same : (x : ℕ) → send_bounds g order s t x ≡ send_bounds g order u t x
     send_same x = ap (λ ys. next_slot g (home g x) (end_in t (producer g x)) ∷ map (λ y. time_in t y + round g) ys)
         (same_filter (λ y. item_active g s.values (item_at g y)) (λ y. item_active g u.values (item_at g y))
@@ -93,6 +97,7 @@ module _ (g : Graph) (urgency : List ℕ) (urgent : IsUrgencyOrder g urgency) (l
     bounds_same x (inr (inr c)) =
         ap (bounds_of_item g order s t x) c.3 ∙ send_same x ∙ sym (ap (bounds_of_item g order u t x) c.3)
 
+    -- each item has one time in both
     time_same : (x : ℕ) → x < item_count g → time_by g order frozen s t x ≡ time_by g order frozen u t x
     time_same x l =
         ap₂ (λ b xs. if b then Some (greatest (greatest xs ∷ option_to_list (get_or frozen x None))) else None)
@@ -111,7 +116,7 @@ module _ (g : Graph) (urgency : List ℕ) (urgent : IsUrgencyOrder g urgency) (l
             ∙ sym (ap (option_map (λ start. start + duration g p (fault_of u p))) none)
       ]
 
-      -- so a run of the first is one of the second
+      -- a run of the first of two scenarios that are alike is one of the second
       pub run_of_alike : IsRun g order frozen u t
       run_of_alike = record {
         times = run.times ∙ same_map (time_by g order frozen s t) (time_by g order frozen u t)

@@ -39,6 +39,7 @@ pub last_first : (g : Graph) (late : ℕ → Times) (p : ℕ) → 0 ≡ last_end
 unfolding last_end
 last_first g late p = refl
 
+-- the latest end with n faults is the last end for m, which is n + 1
 last_at : (g : Graph) (late : ℕ → Times) (n m p : ℕ) → m ≡ suc n → latest_end g late n p ≡ last_end g late m p
 unfolding last_end
 last_at g late n m p e = subst (λ i. latest_end g late n p ≡ last_end g late i p) (sym e) refl
@@ -145,6 +146,7 @@ module _ (g : Graph) (order : List ℕ) (topological : IsTopological g order) (D
         gone : ForLatest g order Done frozen values
             (λ late. HasGone g order (with_faults values []) (late n) p 0 (begun c p (node_of g p) start end))
         gone more goes late are =
+            -- in the run with the latest times, the start that is found is the start of the process
             let s = with_faults values [] in
             let t = late n in
             let run : IsTimed g order more s t = latest_is_timed g order more s late are n (omega arith) in
@@ -152,14 +154,17 @@ module _ (g : Graph) (order : List ℕ) (topological : IsTopological g order) (D
             (frozen_in more p) =
             is_start ∙ ap (λ o. max (max (max ready (process_at g p).release) (greatest (input_bounds g s c.known p)))
             (unwrap_or o 0)) (sym (goes p (omega arith) done)) in
+            -- the end is the latest end
             let after : start ≤ end = let k = not_sooner g p n start last in omega (arith, k, is_end) in
             let right : end ≡ end_in t p = end_is_latest more goes late are ∙ sym (late_end_active g order more s late
             are n (omega arith) p l (start_acts g order more s t run p l acts)) in
+            -- with both set, the process can send
             let next = begun c p (node_of g p) start end in
             let can = can_send g order topological more s t run (place order p) p l refl on c.known c.ready c.free
             (course.at more goes late are) course.places.ready_count course.places.free_count
             is_ready.heard is_ready.is_heard acts ready start is_ready.is found end after right next.known
             course.places.times course.places.ends refl refl (get_or c.free (node_of g p) 0) refl in
+            -- what is known after the start: nothing is sent yet, and no other end is changed
             record {
               begun = next.known;
               frees = c.free;
@@ -196,6 +201,7 @@ module _ (g : Graph) (order : List ℕ) (topological : IsTopological g order) (D
   -- given: the next item that the process sends
   module _ (k : ℕ) (inside : k < length (queue_of g p)) (c : ProgressState)
       (sending : IsSending g order Done frozen values p k n c) where
+    -- the item at place k of what the process sends
     abbrev x : ℕ
     x = get_or (queue_of g p) k 0
 
@@ -227,6 +233,7 @@ module _ (g : Graph) (order : List ℕ) (topological : IsTopological g order) (D
         (on_item : item_active g values (item_at g x) ≡ true) (time : ℕ)
         (is_time : time ≡ max (max (next_slot g (node_of g p) (end_in c.known p)) (get_or c.free (node_of g p) 0))
         (frozen_in frozen x)) where
+      -- the end of the process in the course is the latest end
       end_there : ForLatest g order Done frozen values (λ late. end_in c.known p ≡ end_in (late n) p)
       end_there more goes late are = let h = sending.acts acts more goes late are in
           ap (λ es. unwrap_or (get_or es p None) 0) h.keeps.ends ∙ h.ended
@@ -265,12 +272,14 @@ module _ (g : Graph) (order : List ℕ) (topological : IsTopological g order) (D
       pub sends : (free : ℕ) → free ≡ time + round g →
           IsSending g order Done frozen values p (k + 1) n (sent c x (node_of g p) time free)
       sends free is = record {
+        -- there are as many times, ends and nodes as before
         places = record {
           times = length-set c.known.times x (Some time) ∙ sending.places.times;
           ends = sending.places.ends;
           ready_count = sending.places.ready_count;
           free_count = length-set c.free (node_of g p) free ∙ sending.places.free_count;
         };
+        -- the item is active: in the run it has this time, and the slots are free a round later
         acts = λ a more goes late are.
             let s = with_faults values [] in
             let h = sending.acts acts more goes late are in
@@ -281,6 +290,7 @@ module _ (g : Graph) (order : List ℕ) (topological : IsTopological g order) (D
             let next = sent c x (node_of g p) time free in
             let long : node_of g p < length h.frees = omega
             (arith, there, ap length h.free, length-set h.frees (node_of g p) (get_or c.free (node_of g p) 0)) in
+            -- one item more is sent; the start, the end and other times stay
             record {
               begun = h.begun;
               frees = h.frees;

@@ -53,6 +53,7 @@ module _ (g : Graph) (order : List ℕ) (topological : IsTopological g order) (D
     latest_small = late_small g order frozen values (the_latest g order frozen values topological) within topological
         long early (latest_exist g order frozen values topological) n (omega arith)
 
+    -- all times of a course are small enough to be added to
     pub course_small : (i : ℕ) (c : ProgressState) → IsCourse g order Done frozen values i n c → AreSmall c.known
     course_small i c a =
         let at = so_far (λ late. IsAt g order (with_faults values []) (late n) i c.known c.ready c.free) a.at in

@@ -19,11 +19,13 @@ module _ (g : Graph) (late : ℕ → Times) (p : ℕ) where
   among n j l = greatest_above (map (end_with g late n p) (numbers_below (n + 1))) (end_with g late n p j)
       (Contains-map (end_with g late n p) (numbers_below (n + 1)) j (Contains-numbers (n + 1) j (omega (arith, l))))
 
+  -- a bound of the ends with each number of own faults bounds the latest end
   no_more : (n b : ℕ) → ((j : ℕ) → j ≤ n → end_with g late n p j ≤ b) → latest_end g late n p ≤ b
   no_more n b h = greatest-le (map (end_with g late n p) (numbers_below (n + 1))) b
       (λ v c. let r = Contains-map_parts (end_with g late n p) (numbers_below (n + 1)) v c in
       let l = numbers-Contains (n + 1) r.0 r.1 in subst (λ m. m ≤ b) r.2 (h r.0 (omega (arith, l))))
 
+  -- without own faults an execution ends a duration after the latest start
   none_of_it : (n : ℕ) → end_with g late n p 0 ≡ time_in (late n) p + duration g p 0
   none_of_it n = let e : n - 0 ≡ n = omega arith in omega (arith, ap (λ m. time_in (late m) p) e)
 
@@ -36,6 +38,7 @@ module _ (g : Graph) (late : ℕ → Times) (p : ℕ) where
       below zero l = omega (arith, none_of_it 0)
       below (suc j) l = absurd (omega (arith, l))
 
+  -- one own fault more makes it end later by one more part
   later_by : (n j : ℕ) → j ≤ n → end_with g late (suc n) p (suc j) ≡ end_with g late n p j + again g p
   later_by n j l = let e : suc n - suc j ≡ n - j = omega arith in
       omega (arith, ap (λ m. time_in (late m) p) e, duration_suc g p j)
@@ -57,6 +60,7 @@ module _ (g : Graph) (late : ℕ → Times) (p : ℕ) where
           below zero l = omega (arith, none_of_it (suc n))
           below (suc j) l = omega (arith, later_by n j (omega (arith, l)), among n j (omega (arith, l)))
 
+      -- with one fault more the latest end is later by at least one more part
       others : latest_end g late n p + again g p ≤ latest_end g late (suc n) p
       others =
           let bound = no_more n (latest_end g late (suc n) p - again g p)

@@ -12,10 +12,12 @@ abbrev pub spent : (ℕ → Bool) → ℕ → List ℕ → ℕ
 spent b i [] = 0
 spent b i (f ∷ fs) = (if b i then f else 0) + spent b (suc i) fs
 
+-- a count, or 0 in its place, is at most the count
 if_le : (b : Bool) (f : ℕ) → (if b then f else 0) ≤ f
 if_le true f = omega arith
 if_le false f = omega arith
 
+-- a count that is taken on a weaker condition is no less
 if_more : (b c : Bool) (f : ℕ) → (b ≡ true → c ≡ true) → (if b then f else 0) ≤ (if c then f else 0)
 if_more true c f h = omega (arith, cond-true c f 0 (h refl))
 if_more false c f h = omega arith
@@ -31,6 +33,7 @@ pub spent-more : (b c : ℕ → Bool) (i : ℕ) (fs : List ℕ) → ((q : ℕ) �
 spent-more b c i [] h = omega arith
 spent-more b c i (f ∷ fs) h = omega (arith, if_more (b i) (c i) f (h i), spent-more b c (suc i) fs h)
 
+-- an empty list has no faults at any place
 none_at : (fs : List ℕ) (j : ℕ) → length fs ≡ 0 → get_or fs j 0 ≡ 0
 none_at fs j e = get_or_past fs j 0 (omega (arith, e))
 
@@ -51,6 +54,7 @@ spent-one b c i (suc j) q (f ∷ fs) h e off on =
 
 -- ---- one process with more
 
+-- the list with `j` more at place `p`
 abbrev pub add_at : List ℕ → ℕ → ℕ → List ℕ
 add_at [] p j = []
 add_at (f ∷ fs) zero j = (f + j) ∷ fs
@@ -77,6 +81,7 @@ add_at-grows (f ∷ fs) zero j (suc q) = omega arith
 add_at-grows (f ∷ fs) (suc p) j zero = omega arith
 add_at-grows (f ∷ fs) (suc p) j (suc q) = add_at-grows fs p j q
 
+-- the place then has at least what was added
 pub add_at-there : (fs : List ℕ) (p j : ℕ) → p < length fs → j ≤ get_or (add_at fs p j) p 0
 add_at-there [] p j l = absurd (omega arith)
 add_at-there (f ∷ fs) zero j l = omega arith

@@ -6,13 +6,16 @@ use Rattle.std.proofs.lemmas.List.{get_or_past}
 use Rattle.cpg_base.specs.Numbers.{greatest}
 use Rattle.cpg_base.proofs.Lists.{greatest-cons}
 
+-- the end at a place, or 0 if there is none
 abbrev at : List (Option ℕ) → ℕ → ℕ
 at os p = unwrap_or (get_or os p None) 0
 
+-- the greatest of an end that may be missing and of others
 first_of : (o : Option ℕ) (ys : List ℕ) → greatest (option_to_list o ++ ys) ≡ max (unwrap_or o 0) (greatest ys)
 first_of None ys = omega arith
 first_of (Some n) ys = greatest-cons n ys
 
+-- behind the list there is no end
 past : (os : List (Option ℕ)) (p : ℕ) → length os ≤ p → at os p ≡ 0
 past os p l = ap (λ o. unwrap_or o 0) (get_or_past os p None l)
 

@@ -49,6 +49,7 @@ module _ (g : Graph) (order : List ℕ) where
     low = record { low = λ x time l e. absurd (none-some time (sym (none_frozen g x) ∙ e)) };
   }
 
+  -- what is known before the first place: no time, and all nodes free from 0 on
   abbrev nothing : ProgressState
   nothing = record { known = no_times g; ready = replicate (length g.nodes) 0; free = replicate (length g.nodes) 0 }
 
@@ -104,6 +105,7 @@ module _ (g : Graph) (order : List ℕ) where
 
 -- ---- after the last one
 
+-- the end at a place, or 0 if there is none
 abbrev there : List (Option ℕ) → ℕ → ℕ
 there os p = unwrap_or (get_or os p None) 0
 
@@ -149,12 +151,15 @@ module _ (g : Graph) (urgency order : List ℕ) (frozen : List (Option ℕ)) (tr
     (known : AreLanes g
     (λ values n c. IsCourse g order (IsEarlier g order (process_count g)) frozen values (process_count g) n c)
     tracks lanes) where
+  -- the latest times of each track
   abbrev lates : ℕ → ℕ → Times
   lates i = the_latest g order frozen (track_at tracks i) topological
 
+  -- the latest times of all tracks exist
   are : AreLatestOf g order frozen tracks lates
   are = record { all = all; each = λ i l. latest_exist g order frozen (track_at tracks i) topological }
 
+  -- what has been settled are the frozen times
   frozen_are : AreFrozenTimes g order frozen
   frozen_are = record {
     count = settled.count;
@@ -174,6 +179,7 @@ module _ (g : Graph) (urgency order : List ℕ) (frozen : List (Option ℕ)) (tr
       ap (λ o. unwrap_or o 0)
       (at.knows.ends p h (place_in_order (process_count g) order topological.all p (omega (arith, h))))
 
+  -- the excess of a course is that of its track's latest times
   excess_same : (i : ℕ) → i < length tracks →
       excess_of_course g (last_course g (get_or lanes i [])) ≡ excess_in_run g (lates i g.faults)
   excess_same i l = ap greatest (same_map (λ p. end_in (last_course g (get_or lanes i [])).known p - due g p)

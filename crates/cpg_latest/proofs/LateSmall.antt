@@ -18,6 +18,7 @@ module _ (g : Graph) (order : List ℕ) (frozen : List (Option ℕ)) (values : L
     (within : IsWithinLimits g) (topological : IsTopological g order)
     (long : length values ≡ condition_count g) (early : AreEarly frozen) (are : AreLatest g order frozen values late)
     (n : ℕ) (few : n ≤ g.faults) where
+  -- the latest times are reached in runs
   reached : AreReached g order frozen values late n
   reached = are_reached g order frozen values late topological long are n few
 

@@ -18,6 +18,7 @@ module _ (g : Graph) (order : List ℕ) (frozen : List (Option ℕ)) (s : Scenar
   late_time x l = ap (λ ts. get_or ts x None) (are.times n few)
       ∙ get_or-map-below (time_by g order frozen s (late n)) (item_count g) x None l
 
+  -- the latest end of a process stands at its place
   pub late_end : (p : ℕ) → p < process_count g → get_or (late n).ends p None ≡ latest_end_by g late n p
   late_end p l = ap (λ ts. get_or ts p None) (are.ends n few)
       ∙ get_or-map-below (latest_end_by g late n) (process_count g) p None l

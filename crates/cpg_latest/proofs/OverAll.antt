@@ -36,6 +36,7 @@ use Rattle.cpg_latest.proofs.TimedSends.{here_sent, send_is}
 
 -- ---- one track after another
 
+-- two values that are there are equal if they are so as options
 some_same : (a b : ℕ) → Some a ≡ Some b → a ≡ b
 some_same a b e = ap (λ o. unwrap_or o 0) e
 
@@ -103,9 +104,11 @@ over_more Acts Is m latest time next o is (inr r) =
 module _ (g : Graph) (urgency order : List ℕ) (frozen : List (Option ℕ)) (tracks : List (List Bool))
     (urgent : IsUrgencyOrder g urgency) (lawful : IsTopological g urgency) (topological : IsTopological g order)
     (all : AreTracks g tracks) where
+  -- the latest times of each track
   abbrev lates : ℕ → ℕ → Times
   lates i = the_latest g order frozen (track_at tracks i) topological
 
+  -- the latest times of all tracks exist
   are : AreLatestOf g order frozen tracks lates
   are = record { all = all; each = λ i l. latest_exist g order frozen (track_at tracks i) topological }
 
@@ -229,6 +232,7 @@ module _ (g : Graph) (urgency order : List ℕ) (frozen : List (Option ℕ)) (tr
       (unset : get_or frozen (get_or (queue_of g p) k 0) None ≡ None) (lanes : List (List ProgressState))
       (before : AreLanes g
       (λ values n c. IsSending g order (IsDone g order p k) frozen values p k n c) tracks lanes) where
+    -- the item at place k of what the process sends
     abbrev x : ℕ
     x = get_or (queue_of g p) k 0
 
@@ -260,6 +264,7 @@ module _ (g : Graph) (urgency order : List ℕ) (frozen : List (Option ℕ)) (tr
           };
     }
 
+    -- the item is one that the process sends
     sent_there : Contains (queue_of g p) x
     sent_there = here_sent g order topological (with_faults [] []) p l k inside
 

@@ -42,6 +42,7 @@ module _ (g : Graph) (urgency order : List ℕ) (frozen : List (Option ℕ)) (tr
       length_of_outcome (condition_count g) (track_at tracks i)
       (Contains-filter_parts (is_track g) (outcomes (condition_count g)) (track_at tracks i) c).0
 
+  -- the latest times of a track are reached in runs
   of_track : (i : ℕ) → i < length tracks → AreReached g order frozen (track_at tracks i) (lates i) g.faults
   of_track i l = are_reached g order frozen (track_at tracks i) (lates i) topological (track_long i l)
       (are.each i l) g.faults (omega arith)
@@ -101,6 +102,7 @@ module _ (g : Graph) (urgency order : List ℕ) (frozen : List (Option ℕ)) (tr
     none = λ e time w. let b = would_below x time l w in true≢false (sym b.2 ∙ is.none e b.0 b.1);
   }
 
+  -- the latest time over all tracks is the frozen time
   frozen_time : (x : ℕ) → x < item_count g → IsLatestFrozen g order tracks lates x (get_or frozen x None) →
       IsFrozenTime g order frozen x
   frozen_time x l is = let u = unfrozen_is x (get_or frozen x None) l is in
@@ -124,9 +126,11 @@ module _ (g : Graph) (urgency order : List ℕ) (frozen : List (Option ℕ)) (tr
       of t ≤ of (lates i g.faults))
       (reached : (i : ℕ) → i < length tracks → (of (lates i g.faults) ≡ 0) ⊎
       IsReached g order frozen (track_at tracks i) g.faults of (of (lates i g.faults))) where
+    -- the greatest figure of all tracks, with all faults
     most : ℕ
     most = greatest (map (λ i. of (lates i g.faults)) (numbers_below (length tracks)))
 
+    -- what is found for a track is at most the greatest of all
     below_most : (i : ℕ) → i < length tracks → of (lates i g.faults) ≤ most
     unfolding most
     below_most i l =
@@ -145,6 +149,7 @@ module _ (g : Graph) (urgency order : List ℕ) (frozen : List (Option ℕ)) (tr
               (b.track.run order frozen t topological run) b.no_later refl,
         )
 
+    -- some run of some scenario comes to the number
     HasSome : ℕ → Type 0
     HasSome v = (s : Scenario) × (t : Times) × IsScenario g s × IsRun g order frozen s t × (of t ≡ v)
 
@@ -187,6 +192,7 @@ module _ (g : Graph) (urgency order : List ℕ) (frozen : List (Option ℕ)) (tr
           ]
     ]
 
+    -- no run comes to more, and one comes to it
     is_greatest : IsGreatest g order frozen of most
     unfolding HasSome
     is_greatest = record { above = above; reached = at_most }
@@ -206,6 +212,7 @@ module _ (g : Graph) (urgency order : List ℕ) (frozen : List (Option ℕ)) (tr
             (Contains-map (excess_of g u) (numbers_below (process_count g)) r.0 r.1),
       ))
 
+  -- the excess of a process is at most that of the run
   excess_above : (t : Times) (p : ℕ) → p < process_count g → excess_of g t p ≤ excess_in_run g t
   excess_above t p l = greatest_above (map (excess_of g t) (numbers_below (process_count g))) (excess_of g t p)
       (Contains-map (excess_of g t) (numbers_below (process_count g)) p (Contains-numbers (process_count g) p l))
@@ -238,9 +245,11 @@ module _ (g : Graph) (urgency order : List ℕ) (frozen : List (Option ℕ)) (tr
 
   -- ---- the finish
 
+  -- a run has an end, or none, for each process
   ends_long : (s : Scenario) (t : Times) → IsRun g order frozen s t → length t.ends ≡ process_count g
   ends_long s t run = ap length run.ends ∙ length-map-range_with_len (end_by g s t) 0 (process_count g)
 
+  -- the latest times have an end, or none, for each process
   latest_long : (i : ℕ) → i < length tracks → length (lates i g.faults).ends ≡ process_count g
   latest_long i l = ap length ((are.each i l).ends g.faults (omega arith))
       ∙ length-map-range_with_len (latest_end_by g (lates i) g.faults) 0 (process_count g)

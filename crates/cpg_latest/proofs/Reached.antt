@@ -39,6 +39,7 @@ module _ (g : Graph) (order : List ℕ) (frozen : List (Option ℕ)) (values : L
     is = omega (arith, e);
   }
 
+  -- the latest times before moment m are reached
   record ReachedBefore (m : ℕ) : Type 0 where
     items : (n x : ℕ) → n ≤ g.faults → x < item_count g → moment g order x < m →
         IsReached g order frozen values n (λ t. time_in t x) (time_in (late n) x)

@@ -34,9 +34,11 @@ use Rattle.cpg_run.specs.Run.{unfrozen_time}
 
 -- ---- later times have later slots
 
+-- without a round of the bus the number of turns makes no difference
 no_turn : (j k turn off : ℕ) → turn ≡ 0 → j * turn + off ≤ k * turn + off
 no_turn j k turn off e = subst (λ n. j * n + off ≤ k * n + off) (sym e) (omega arith)
 
+-- more turns take no less time
 more_turns : (j k turn off : ℕ) → j ≤ k → j * turn + off ≤ k * turn + off
 more_turns j k turn off l = omega (arith, mul-le-mul_right turn l)
 
@@ -58,6 +60,7 @@ pub data Cause : Type 0 where
   item : ℕ → Cause
   ended : ℕ → Cause
 
+-- the time that a cause has in a run: 0 for a fixed one
 abbrev pub value_in : Times → Cause → ℕ
 value_in t fixed = 0
 value_in t (item y) = time_in t y
@@ -98,6 +101,7 @@ module _ (g : Graph) (order : List ℕ) (topological : IsTopological g order) (s
         let h = (inputs_parts g p e c).0 in
         let up = input_goes_up g order topological p e c in
         elim (cases_Bool (is_message g e)) [
+          -- a message rests on its send
           | inl is ↦ record {
             cause = item (message_item g e);
             early = (omega arith, omega (arith, message_sooner g order topological p e h up));
@@ -111,6 +115,7 @@ module _ (g : Graph) (order : List ℕ) (topological : IsTopological g order) (s
               cond-true (is_message g e) (frame_there g w (message_item g e)) (end_in w (source g e)) is,
             );
           }
+          -- an edge within the node rests on the end of its source
           | inr is ↦ record {
             cause = ended (source g e);
             early = (
@@ -160,6 +165,7 @@ module _ (g : Graph) (order : List ℕ) (topological : IsTopological g order) (s
         let up : place order (process_of g c) < place order p =
         omega (arith, decides_earlier g order topological s.values q.0 c h r.1) in
         elim (cases_Bool (node_of g (process_of g c) == node_of g p)) [
+          -- a condition of the node itself rests on the end of its process
           | inl is ↦ record {
             cause = ended (process_of g c);
             early = (process_of_below g c h, omega (arith, end_sooner g order topological p (process_of g c) up));
@@ -175,6 +181,7 @@ module _ (g : Graph) (order : List ℕ) (topological : IsTopological g order) (s
                   (frame_there g w (broadcast_item g c)) is,
             );
           }
+          -- one of another node rests on its broadcast
           | inr is ↦ record {
             cause = item (broadcast_item g c);
             early = (omega arith, omega (arith, broadcast_sooner g order topological p c up));
@@ -197,6 +204,7 @@ module _ (g : Graph) (order : List ℕ) (topological : IsTopological g order) (s
         RestsIn g order m t (λ u. start_bounds g order s u p) v
     start_rests v c = elim (Contains-cases (process_at g p).release
         (input_bounds g s t p ++ processor_bounds g order s t p ++ hearing_bounds g order s t p) v c) [
+          -- the release is fixed
           | inl e ↦ record {
             cause = fixed;
             early = search rules;
@@ -207,6 +215,7 @@ module _ (g : Graph) (order : List ℕ) (topological : IsTopological g order) (s
           }
           | inr rest ↦ elim (Contains-append_cases (input_bounds g s t p ++ processor_bounds g order s t p)
               (hearing_bounds g order s t p) v rest) [
+                -- a bound by hearing rests on one end or broadcast
                 | inr h ↦
                     let r = Contains-map_parts (heard_there g t (node_of g p)) _ v h in
                     subst (RestsIn g order m t (λ u. start_bounds g order s u p)) r.2
@@ -217,6 +226,7 @@ module _ (g : Graph) (order : List ℕ) (topological : IsTopological g order) (s
                     (Contains-map (heard_there g u (node_of g p)) _ r.0 r.1))))
                 | inl early ↦
                     elim (Contains-append_cases (input_bounds g s t p) (processor_bounds g order s t p) v early) [
+                      -- a bound by an input rests on one end or message
                       | inl i ↦
                           let r = Contains-map_parts (input_there g t) (filter (live g s.values) (inputs g p)) v i in
                           subst (RestsIn g order m t (λ u. start_bounds g order s u p)) r.2 (input_rests r.0
@@ -225,6 +235,7 @@ module _ (g : Graph) (order : List ℕ) (topological : IsTopological g order) (s
                           (λ u. Contains-rest _ _ _
                           (Contains-append_left _ _ _
                           (Contains-append_left _ _ _ (Contains-map (input_there g u) _ r.0 r.1)))))
+                      -- a bound by the processor rests on the end of a process before on the node
                       | inr q ↦
                           let r =
                           Contains-map_parts (end_in t) (filter (active g s.values) (before_on_node g order p)) v q in
@@ -302,7 +313,7 @@ module _ (g : Graph) (order : List ℕ) (topological : IsTopological g order) (s
       Rests g order s t x v
   rests x v l k = rests_by x v l (item_cases g x l) k
 
-  -- so what an item would have grows with what is settled before it
+  -- the time that an item would have grows with what is settled before it
   pub unfrozen_grows : (u : Times) (x : ℕ) → x < item_count g →
       ((c : Cause) → IsBefore g order (moment g order x) c → value_in t c ≤ value_in u c)
       → unfrozen_time g order s t x ≤ unfrozen_time g order s u x

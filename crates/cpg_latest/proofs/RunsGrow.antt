@@ -44,10 +44,12 @@ module _ (g : Graph) (order : List ℕ) (frozen : List (Option ℕ)) (values : L
     (topological : IsTopological g order)
     (more : (q : ℕ) → get_or fs q 0 ≤ get_or hs q 0) (t u : Times) (run : IsRun g order frozen
     (with_faults values fs) t) (other : IsRun g order frozen (with_faults values hs) u) where
+  -- before moment m no time of the first run is later than that of the second
   record GrowBefore (m : ℕ) : Type 0 where
     items : (x : ℕ) → x < item_count g → moment g order x < m → time_in t x ≤ time_in u x
     ends : (p : ℕ) → p < process_count g → moment_of_end g order p < m → end_in t p ≤ end_in u p
 
+  -- what an item rests on is no sooner in the run with more faults
   cause_le : (m x : ℕ) → GrowBefore m → moment g order x ≤ m → (c : Cause) → IsBefore g order (moment g order x) c →
       value_in t c ≤ value_in u c
   cause_le m x a k fixed h = omega arith
@@ -97,5 +99,6 @@ module _ (g : Graph) (order : List ℕ) (frozen : List (Option ℕ)) (values : L
   pub times_grow : (x : ℕ) → x < item_count g → time_in t x ≤ time_in u x
   times_grow x l = (grow_before (last g)).items x l (moment_before_last g order topological x l)
 
+  -- no process ends sooner in the run with more faults
   pub ends_grow : (p : ℕ) → p < process_count g → end_in t p ≤ end_in u p
   ends_grow p l = (grow_before (last g)).ends p l (end_before_last g order topological p l)

@@ -65,6 +65,7 @@ module _ (g : Graph) (order : List ℕ) (topological : IsTopological g order) (w
       settled_more is_one more is same count = record {
         count = count ∙ settled.count;
         each = λ y h f done. elim (cases_eq y x) [
+          -- the item itself has the time that was set; others keep theirs
           | inl e ↦ subst (IsFrozenTime g order more) (sym e) (frozen_time_set g order topological frozen more x l
               (λ z w m. sym (same z (λ e. omega (arith, ap (moment g order) e)))) is)
           | inr apart ↦ elim (only y done) [
@@ -74,9 +75,11 @@ module _ (g : Graph) (order : List ℕ) (topological : IsTopological g order) (w
                 (settled.each y h f d)
           ]
         ];
+        -- an item that isn't settled has no time
         others = λ y no. same y
             (λ e. no (subst (λ z. z < item_count g) (sym e) l) (ap (is_frozen g) e ∙ is_one) (subst More (sym e) one))
             ∙ settled.others y (λ h f done. no h f (grows y done));
+        -- the time that was set is that of a run, so it is low
         low = record {
           low = λ y time w e. elim (cases_eq y x) [
             | inl at ↦
@@ -135,15 +138,18 @@ module _ (g : Graph) (order : List ℕ) (topological : IsTopological g order) (p
 
   -- ---- what it sends
 
+  -- the moment of an item that a process sends, by the process's place and the item's rank
   moment_of_sent : (x : ℕ) → Contains (queue_of g p) x →
       moment g order x ≡ place order p * phases g + (rank_of_item (item_at g x) + 2)
   moment_of_sent x c = let q = in_queue g p x c in
       ap₂ (λ r f. place order r * phases g + f) q.by (phase_is_rank g (item_at g x) q.sent)
 
   module _ (k : ℕ) (inside : k < length (queue_of g p)) where
+    -- the item at place k of what the process sends
     abbrev here : ℕ
     here = get_or (queue_of g p) k 0
 
+    -- the item at the place is one that the process sends
     in_here : Contains (queue_of g p) here
     in_here = Contains-get_or (queue_of g p) k 0 inside
 
@@ -175,6 +181,7 @@ module _ (g : Graph) (order : List ℕ) (topological : IsTopological g order) (p
     send_grows y (inr (inl e)) = inr (inl e)
     send_grows y (inr (inr c)) = inr (inr (in_next (queue_of g p) k y inside (inl c)))
 
+    -- with it the items up to the next place are settled
     pub send_one : IsDone g order p (k + 1) here
     send_one = inr (inr (in_next (queue_of g p) k here inside (inr refl)))
 

@@ -69,6 +69,7 @@ module _ (g : Graph) (order : List ℕ) (frozen : List (Option ℕ)) (s : Scenar
   pub start_acts : (p : ℕ) → p < process_count g → active g s.values p ≡ true → Acts p
   start_acts p l a = ap (item_active g s.values) (item_at-start g p l) ∙ a
 
+  -- a process whose start is active is active
   pub acts_start : (p : ℕ) → p < process_count g → Acts p → active g s.values p ≡ true
   acts_start p l a = sym (ap (item_active g s.values) (item_at-start g p l)) ∙ a
 
@@ -81,6 +82,7 @@ module _ (g : Graph) (order : List ℕ) (frozen : List (Option ℕ)) (s : Scenar
   pub has_end : (p : ℕ) → p < process_count g → active g s.values p ≡ true → get_or t.ends p None ≡ Some (run.end_of p)
   has_end p l a = end_is p l ∙ ap (option_map (λ start. run.end_of p)) (has_time p (omega arith) (start_acts p l a))
 
+  -- an active process has the end of the run
   pub end_active : (p : ℕ) → p < process_count g → active g s.values p ≡ true → end_in t p ≡ run.end_of p
   end_active p l a = ap (λ o. unwrap_or o 0) (has_end p l a)
 
@@ -93,11 +95,13 @@ module _ (g : Graph) (order : List ℕ) (frozen : List (Option ℕ)) (s : Scenar
         (Contains-first _ _),
   )
 
+  -- an active item is no sooner than any of its bounds
   bound_below : (x : ℕ) (b : ℕ) → x < item_count g → Acts x → Contains (bounds_of_item g order s t x (item_at g x)) b →
       b ≤ time_in t x
   bound_below x b l a k =
       omega (arith, unfrozen_below x l a, greatest_above (bounds_of_item g order s t x (item_at g x)) b k)
 
+  -- an active process starts no sooner than any of its bounds
   start_bound : (p b : ℕ) → p < process_count g → active g s.values p ≡ true → Contains (start_bounds g order s t p) b →
       b ≤ time_in t p
   start_bound p b l a k = bound_below p b (omega arith) (start_acts p l a)
@@ -133,6 +137,7 @@ module _ (g : Graph) (order : List ℕ) (frozen : List (Option ℕ)) (s : Scenar
       (Contains-rest _ _ _ (Contains-append_right (input_bounds g s t p ++ processor_bounds g order s t p)
       (hearing_bounds g order s t p) _ (Contains-map (heard_there g t (node_of g p)) _ c k)))
 
+  -- the bounds of an item that is sent are those of a send
   sent_bounds : (x : ℕ) (i : Item) → is_sent_item g i ≡ true →
       bounds_of_item g order s t x i ≡ send_bounds g order s t x
   sent_bounds x (Start p) h = absurd (true≢false (sym h))
@@ -143,6 +148,7 @@ module _ (g : Graph) (order : List ℕ) (frozen : List (Option ℕ)) (s : Scenar
   pub unfrozen_sent : (x : ℕ) → is_sent g x ≡ true → unfrozen_time g order s t x ≡ greatest (send_bounds g order s t x)
   unfrozen_sent x e = ap greatest (sent_bounds x (item_at g x) e)
 
+  -- an active item that is sent is no sooner than any of them
   send_bound : (x b : ℕ) → x < item_count g → Acts x → is_sent g x ≡ true → Contains (send_bounds g order s t x) b →
       b ≤ time_in t x
   send_bound x b l a e k = bound_below x b l a (subst (λ bs. Contains bs b) (sym (sent_bounds x (item_at g x) e)) k)

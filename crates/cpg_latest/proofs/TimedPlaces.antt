@@ -31,9 +31,11 @@ module _ (g : Graph) (order : List ℕ) (topological : IsTopological g order) (f
     (long : length readies ≡ length g.nodes) (far : length frees ≡ length g.nodes)
     (heard : ℕ) (is_heard : IsMost (λ c. (c < condition_count g) × (decides g s.values p c ≡ true))
     (heard_there g known (node_of g p)) heard) where
+  -- the node of the process
   abbrev node : ℕ
   node = node_of g p
 
+  -- when all that decides the process has been heard is the same by the run
   heard_in_run : IsMost (λ c. (c < condition_count g) × (decides g s.values p c ≡ true))
       (heard_there g t (node_of g p)) heard
   heard_in_run = decided_in_run g order t i known a.knows topological s p l at heard is_heard

@@ -48,9 +48,11 @@ module _ (g : Graph) (order : List ℕ) (t : Times) (i : ℕ) (known : Times) (k
   pub known_item : (x : ℕ) → x < item_count g → place order (producer g x) < i → time_in known x ≡ time_in t x
   known_item x l h = ap (λ o. unwrap_or o 0) (knows.times x l h)
 
+  -- the end of an earlier process is known
   pub known_end : (q : ℕ) → q < process_count g → place order q < i → end_in known q ≡ end_in t q
   known_end q l h = ap (λ o. unwrap_or o 0) (knows.ends q l h)
 
+  -- the frame of an earlier process's item is known
   known_frame : (x : ℕ) → x < item_count g → place order (producer g x) < i → frame_there g known x ≡ frame_there g t x
   known_frame x l h = ap (λ n. n + slot_length g (home g x)) (known_item x l h)
 
@@ -107,6 +109,7 @@ module _ (g : Graph) (order : List ℕ) (t : Times) (i : ℕ) (known : Times) (k
         place order (process_of g c) < i
     decided_sooner q c h k d = omega (arith, decides_earlier g order topological s.values q c k d)
 
+    -- an earlier process on the same node is one of those before it there
     before_in : (q : ℕ) → q < process_count g → place order q < i → node_of g q ≡ node_of g p →
         Contains (before_on_node g order p) q
     before_in q k less same =
@@ -137,29 +140,35 @@ module _ (g : Graph) (order : List ℕ) (t : Times) (i : ℕ) (known : Times) (k
         (ready heard : ℕ) (is_ready : IsReady g order s t i (node_of g p) ready)
         (is_heard : IsMost (λ c. (c < condition_count g) × (decides g s.values p c ≡ true))
         (heard_there g known (node_of g p)) heard) where
+      -- when the inputs are there
       abbrev inputs_by : ℕ
       inputs_by = greatest (input_bounds g s known p)
 
+      -- the time found: the greatest of all bounds and the frozen time
       abbrev found : ℕ
       found = max (max (max (max ready heard) (process_at g p).release) inputs_by) (frozen_in frozen p)
 
+      -- the start is the greatest of its bounds and its frozen time
       time_is : time_in t p ≡ max (greatest (start_bounds g order s t p)) (frozen_in frozen p)
       time_is = time_in_active g order frozen s t run p (omega arith) (start_acts g order frozen s t run p l acts)
           ∙ greatest-cons (unfrozen_time g order s t p) (option_to_list (get_or frozen p None))
           ∙ ap₂ max (ap (λ j. greatest (bounds_of_item g order s t p j)) (item_at-start g p l))
           (greatest_option (get_or frozen p None))
 
+      -- the node is ready by the start
       ready_by : ready ≤ time_in t p
       ready_by = is_ready.least (time_in t p)
           (λ q k less same a. before_below g order frozen s t run p q l acts (before_in q k less same) a)
           (λ q c k less same h d. hearing_below g order frozen s t run p c l acts (in_hearing q c
           (Contains-append_left (before_on_node g order p) (p ∷ []) q (before_in q k less same)) h d))
 
+      -- all that decides the process has been heard by the start
       heard_by : heard ≤ time_in t p
       heard_by = (decided_in_run heard is_heard).least (time_in t p)
           (λ c d. hearing_below g order frozen s t run p c l acts (in_hearing p c
           (Contains-append_right (before_on_node g order p) (p ∷ []) p (Contains-first p [])) d.0 d.1))
 
+      -- the inputs are there by the start
       inputs_in : inputs_by ≤ time_in t p
       inputs_in = greatest-le (input_bounds g s known p) (time_in t p)
           (λ v c. passing_le (input_there g known) (filter (live g s.values) (inputs g p)) v (time_in t p)

@@ -24,21 +24,25 @@ use Rattle.cpg_latest.proofs.Alike.{AreActiveAlike, active_is_same, item_is_same
 abbrev pub cleared : Graph → List Bool → List Bool
 cleared g o = map (λ c. get_or o c false && active g o (process_of g c)) (numbers_below (condition_count g))
 
+-- a condition that holds leaves a conjunction as it is
 and_on : (a b : Bool) → b ≡ true → a ≡ (a && b)
 and_on true b e = sym e
 and_on false b e = refl
 
+-- a condition that fails makes a conjunction false
 and_off : (a b : Bool) → b ≡ false → (a && b) ≡ false
 and_off true b e = e
 and_off false b e = refl
 
 module _ (g : Graph) (urgency : List ℕ) (urgent : IsUrgencyOrder g urgency) (lawful : IsTopological g urgency)
     (s : Scenario) where
+  -- a cleared value is the old one if its process is active, and else false
   at_condition : (c : ℕ) → c < condition_count g →
       get_or (cleared g s.values) c false ≡ (get_or s.values c false && active g s.values (process_of g c))
   at_condition c l = get_or-map-below (λ c. get_or s.values c false && active g s.values (process_of g c))
       (condition_count g) c false l
 
+  -- clearing the values of inactive processes changes nothing of what is active
   alike : AreActiveAlike g s (with_faults (cleared g s.values) s.faults)
   alike = record {
     values =
@@ -46,6 +50,7 @@ module _ (g : Graph) (urgency : List ℕ) (urgent : IsUrgencyOrder g urgency) (l
     faults = λ p l acts. refl;
   }
 
+  -- there is still a value for each condition
   long : length (cleared g s.values) ≡ condition_count g
   long = length-map-range_with_len (λ c. get_or s.values c false && active g s.values (process_of g c)) 0
       (condition_count g)
@@ -61,6 +66,7 @@ module _ (g : Graph) (urgency : List ℕ) (urgent : IsUrgencyOrder g urgency) (l
         (ap not (at_condition c l ∙ and_off (get_or s.values c false) (active g s.values (process_of g c)) idle))
   ]
 
+  -- the cleared values are a track
   cleared_is_track : is_track g (cleared g s.values) ≡ true
   cleared_is_track =
       all_from (λ c. not (get_or (cleared g s.values) c false) || active g (cleared g s.values) (process_of g c))

@@ -33,6 +33,7 @@ module _ (ms : Members) where
       let (g, e) = subst (λ faults. IsFirst faults (read_raw ms)) (good_fields ms good) (fields_first ms) in
       e ∙ ap Ok (graph_is ms g e)
 
+  -- each listed fault of the graph is one of the document
   graph_is_faulty : HasGoodFields ms → Each (IsFaultOf ms) (graph_faults (Ok (graph_in ms)))
   graph_is_faulty good =
       each_joined (IsFaultOf ms) (limit_faults (graph_in ms))
@@ -45,29 +46,34 @@ module _ (ms : Members) where
       (each_weaker (IsNameless ms) (IsFaultOf ms) (λ fault h. subst (IsFaultOf ms) (sym h.1) (good, h.2))
       (unknown_faults (graph_in ms)) (unknowns_stand ms good)))
 
+  -- each fault that is listed after the field faults is one of the document
   rest_is_faulty : (faults : List ReadFault) → field_faults ms ≡ faults → IsFirst faults (read_raw ms) →
       Each (IsFaultOf ms) (graph_faults (read_raw ms))
   rest_is_faulty [] none h = let good = fields_are_good ms none in
       subst (λ r. Each (IsFaultOf ms) (graph_faults r)) (sym (read_is good)) (graph_is_faulty good)
   rest_is_faulty (fault ∷ faults) is h = subst (λ r. Each (IsFaultOf ms) (graph_faults r)) (sym h) tt
 
+  -- each listed fault is one of the document
   document_is_faulty : Each (IsFaultOf ms) (document_faults (Ok ms))
   document_is_faulty = each_joined (IsFaultOf ms) (field_faults ms) (graph_faults (read_raw ms))
       (each_weaker (IsBad ms) (IsFaultOf ms) (λ fault h. subst (IsFaultOf ms) (sym h.1) h.2) (field_faults ms)
       (fields_are_bad ms))
       (rest_is_faulty (field_faults ms) refl (fields_first ms))
 
+  -- a listed fault of the graph is listed for the document
   in_graph : HasGoodFields ms → (fault : ReadFault) → Contains (graph_faults (Ok (graph_in ms))) fault →
       Contains (document_faults (Ok ms)) fault
   in_graph good fault c = Contains-append_right (field_faults ms) (graph_faults (read_raw ms)) fault
       (subst (λ r. Contains (graph_faults r) fault) (sym (read_is good)) c)
 
+  -- a listed fault of names is listed for the document
   in_names : HasGoodFields ms → (fault : ReadFault) →
       Contains (double_faults (graph_in ms) ++ unknown_faults (graph_in ms)) fault →
       Contains (document_faults (Ok ms)) fault
   in_names good fault c = in_graph good fault (Contains-append_right (limit_faults (graph_in ms))
       (double_faults (graph_in ms) ++ unknown_faults (graph_in ms)) fault c)
 
+  -- each fault of the document is listed
   fault_there : (fault : ReadFault) → IsFaultOf ms fault → Contains (document_faults (Ok ms)) fault
   fault_there NotToml h = absurd h
   fault_there (BadField at) h =
@@ -83,6 +89,7 @@ module _ (ms : Members) where
 
 -- ---- one file
 
+-- the listed faults of a document, or of none, are the faults in it
 faults_are : (o : Option Members) (fault : ReadFault) →
     Contains (document_faults (members_if o)) fault ↔ IsFaultIn o fault
 faults_are None fault = (
@@ -92,10 +99,12 @@ faults_are None fault = (
 faults_are (Some ms) fault =
     (each_contained (IsFaultOf ms) (document_faults (Ok ms)) (document_is_faulty ms) fault, fault_there ms fault)
 
+-- the listed faults of a file are its faults
 file_faults_are : (bytes : List ℕ) (fault : ReadFault) → Contains (faults_of bytes) fault ↔ IsFaulty bytes fault
 unfolding document_of
 file_faults_are bytes fault = faults_are (document bytes) fault
 
+-- the first of some faults is the first of the same faults said otherwise
 first_by : (P Q : ReadFault → Type 0) → ((fault : ReadFault) → P fault → Q fault) →
     ((fault : ReadFault) → Q fault → P fault) → (fault : ReadFault) → IsFirstOf P fault →
     IsFirstOf Q fault
@@ -105,21 +114,26 @@ first_by P Q there back fault h = record {
   places = λ other c. h.places other (back other c);
 }
 
+-- a reading is refused with one fault
 same_fault : {T : Type 0} (r : Reading T) (fault other : ReadFault) → r ≡ Err fault → r ≡ Err other → fault ≡ other
 same_fault r fault other e f = cc
 
+-- a reading that shows the first of some faults succeeds exactly if there are none
 read_where : {T : Type 0} (faults : List ReadFault) (r : Reading T) → IsFirst faults r →
     ((x : T) × (r ≡ Ok x)) ↔ ((fault : ReadFault) → Contains faults fault → ⊥)
 read_where [] r told = (λ h fault c. Contains-nil fault c, λ none. told)
 read_where (f ∷ faults) r told = (λ h. absurd (let ok = h.1 in cc), λ none. absurd (none f (Contains-first f faults)))
 
 module _ (bytes : List ℕ) where
+  -- each listed fault is one of the file
   there : (fault : ReadFault) → Contains (faults_of bytes) fault → IsFaulty bytes fault
   there fault = (file_faults_are bytes fault).0
 
+  -- each fault of the file is listed
   back : (fault : ReadFault) → IsFaulty bytes fault → Contains (faults_of bytes) fault
   back fault = (file_faults_are bytes fault).1
 
+  -- the file is refused by the first of its faults
   first_is_told : (fault : ReadFault) → (problem_of bytes ≡ Err fault) ↔ IsFirstOf (IsFaulty bytes) fault
   first_is_told fault =
       let (told, first) = (refusals_are_first bytes).first fault in (
@@ -127,6 +141,7 @@ module _ (bytes : List ℕ) where
         λ h. first (first_by (IsFaulty bytes) (Contains (faults_of bytes)) back there fault h),
       )
 
+  -- the file is read as a graph exactly if it has no fault
   read_is_faultless : ((g : Graph) × (problem_of bytes ≡ Ok g)) ↔ ((fault : ReadFault) → IsFaulty bytes fault → ⊥)
   read_is_faultless =
       let (faultless, read) = read_where (faults_of bytes) (problem_of bytes) (graph_files_show_first_faults bytes) in

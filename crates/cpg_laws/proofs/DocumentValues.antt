@@ -22,18 +22,22 @@ use Rattle.cpg_laws.specs.GraphFiles.{top_of, elements}
 record Gives {T : Type 0} (r : Reading T) (x : T) : Type 0 where
   is : (y : T) → r ≡ Ok y → y ≡ x
 
+-- two steps one after the other give what the second does for what the first gives
 bind_gives : {T U : Type 0} (r : Reading T) (next : T → Reading U) (x : T) (z : U) → Gives r x → Gives (next x) z →
     Gives (r >>= next) z
 bind_gives (Ok w) next x z h k = record { is = λ y e. k.is y (subst (λ v. next v ≡ Ok y) (h.is w refl) e) }
 bind_gives (Err fault) next x z h k = record { is = λ y e. cc }
 
+-- a check before a step doesn't change what the step gives
 seq_gives : {T U : Type 0} (r : Reading T) (next : Reading U) (z : U) → Gives next z → Gives (r >> next) z
 seq_gives (Ok w) next z k = k
 seq_gives (Err fault) next z k = record { is = λ y e. cc }
 
+-- a value by itself is given
 pure_gives : {T : Type 0} (x : T) → Gives (pure x) x
 pure_gives x = record { is = λ y e. cc }
 
+-- if a step gives the value of a function for each element, the steps give the mapped list
 each_gives : {T U : Type 0} (step : ℕ → T → Reading U) (f : T → U) → ((i : ℕ) (x : T) → Gives (step i x) (f x)) →
     (i : ℕ) (xs : List T) →
     Gives (each step i xs) (map f xs)
@@ -45,16 +49,20 @@ each_gives step f gives i (x ∷ xs) =
 
 -- ---- what stands at a key
 
+-- the value of a type that a table has at a key, if it has one
 abbrev pub value_in : {T : Type 0} → (Data → Option T) → Members → Key → Option T
 value_in as_type ms key = option_and_then as_type (get_member (text_of key) ms)
 
+-- the name at a key, empty if there is none
 abbrev pub name_in : Members → Key → List ℕ
 name_in ms key = unwrap_or (value_in as_name ms key) []
 
+-- the integer at a key, or a default
 abbrev pub integer_in : Members → Key → ℤ → ℤ
 integer_in ms key absent = unwrap_or (value_in as_integer ms key) absent
 
 module _ {T : Type 0} (as_type : Data → Option T) (row : DocumentRow) (key : Key) where
+  -- an optional value is what stands there, if anything does
   optional_by : (o : Option Data) → Gives (optional_in row key as_type o) (option_and_then as_type o)
   optional_by None = pure_gives None
   optional_by (Some d) = by (as_type d)
@@ -63,19 +71,23 @@ module _ {T : Type 0} (as_type : Data → Option T) (row : DocumentRow) (key : K
       by None = record { is = λ y e. cc }
       by (Some x) = pure_gives (Some x)
 
+  -- a required value is what stands there
   required_by : (x : T) (o : Option T) → Gives (required_in row key o) (unwrap_or o x)
   required_by x None = record { is = λ y e. cc }
   required_by x (Some y) = pure_gives y
 
+  -- an optional value is what stands there, if anything does
   optional_gives : Gives (optional as_type row key) (value_in as_type row.members key)
   unfolding optional
   optional_gives = optional_by (value_at row key)
 
+  -- a required value is what stands at its key
   required_gives : (x : T) → Gives (required as_type row key) (unwrap_or (value_in as_type row.members key) x)
   required_gives x = bind_gives (optional as_type row key) (required_in row key) (value_in as_type row.members key)
       (unwrap_or (value_in as_type row.members key) x) optional_gives
       (required_by x (value_in as_type row.members key))
 
+  -- a value with a default is what stands at its key, or the default
   default_gives : (x : T) → Gives (with_default x as_type row key) (unwrap_or (value_in as_type row.members key) x)
   default_gives x = bind_gives (optional as_type row key) (λ found. pure (unwrap_or found x))
       (value_in as_type row.members key) (unwrap_or (value_in as_type row.members key) x) optional_gives
@@ -83,6 +95,7 @@ module _ {T : Type 0} (as_type : Data → Option T) (row : DocumentRow) (key : K
 
 -- ---- the elements
 
+-- the name of a node that its table says
 abbrev pub node_in : Members → List ℕ
 node_in ms = name_in ms Name
 
@@ -91,6 +104,7 @@ abbrev pub slot_in : Members → RawSlot
 slot_in ms =
     record { node = name_in ms Node; length = integer_in ms Length (pos 1); bytes = integer_in ms Bytes (pos 1) }
 
+-- the process that its table says
 abbrev pub process_in : Members → RawProcess
 process_in ms = record {
   name = name_in ms Name;
@@ -108,6 +122,7 @@ process_in ms = record {
   deadline = value_in as_integer ms Deadline;
 }
 
+-- the edge that its table says
 abbrev pub edge_in : Members → RawEdge
 edge_in ms = record {
   from = name_in ms From;
@@ -131,36 +146,44 @@ graph_in ms = record {
 }
 
 module _ (row : DocumentRow) where
+  -- a name is what stands at its key
   name_gives : (key : Key) → Gives (read_name row key) (name_in row.members key)
   unfolding read_name
   name_gives key = required_gives as_name row key []
 
+  -- an integer is what stands at its key
   integer_gives : (key : Key) (absent : ℤ) → Gives (read_integer row key) (integer_in row.members key absent)
   unfolding read_integer
   integer_gives key absent = required_gives as_integer row key absent
 
+  -- an integer with a default is what stands at its key, or the default
   integer_or_gives : (key : Key) (absent : ℤ) → Gives (integer_or absent row key) (integer_in row.members key absent)
   unfolding integer_or
   integer_or_gives key absent = default_gives as_integer row key absent
 
+  -- a flag is what stands at its key, or its default
   flag_gives : (key : Key) (absent : Bool) →
       Gives (flag_or absent row key) (unwrap_or (value_in as_bool row.members key) absent)
   unfolding flag_or
   flag_gives key absent = default_gives as_bool row key absent
 
+  -- a list of tables is what stands at its key, or empty
   list_gives : (key : Key) → Gives (read_array row key) (unwrap_or (value_in as_tables row.members key) [])
   unfolding read_array
   list_gives key = default_gives as_tables row key []
 
+  -- a node is what its table says
   node_gives : Gives (read_node row) (node_in row.members)
   unfolding read_node
   node_gives = bind_gives _ _ _ _ (name_gives Name) (seq_gives _ _ _ (pure_gives _))
 
+  -- a slot is what its table says
   slot_gives : Gives (read_slot row) (slot_in row.members)
   unfolding read_slot
   slot_gives = bind_gives _ _ _ _ (name_gives Node) (bind_gives _ _ _ _ (integer_gives Length (pos 1))
       (bind_gives _ _ _ _ (integer_gives Bytes (pos 1)) (seq_gives _ _ _ (pure_gives _))))
 
+  -- a process is what its table says
   process_gives : Gives (read_process row) (process_in row.members)
   unfolding read_process
   process_gives =
@@ -173,6 +196,7 @@ module _ (row : DocumentRow) where
       (bind_gives _ _ _ _ (integer_or_gives Release (pos 0))
       (bind_gives _ _ _ _ (optional_gives as_integer row Deadline) (seq_gives _ _ _ (pure_gives _))))))))))))
 
+  -- an edge is what its table says
   edge_gives : Gives (read_edge row) (edge_in row.members)
   unfolding read_edge
   edge_gives = bind_gives _ _ _ _ (name_gives From)
@@ -180,6 +204,7 @@ module _ (row : DocumentRow) where
       (bind_gives _ _ _ _ (optional_gives as_bool row When)
       (bind_gives _ _ _ _ (flag_gives Frozen false) (seq_gives _ _ _ (pure_gives _))))))
 
+-- if an element gives what its table says, so do all elements of a table
 rows_give : {T : Type 0} (table : Table) (element_at : DocumentRow → Reading T) (element_in : Members → T) →
     ((row : DocumentRow) → Gives (element_at row) (element_in row.members)) →
     (members : List Members) → Gives (read_rows table element_at members) (map element_in members)
@@ -187,6 +212,7 @@ rows_give table element_at element_in gives members =
     each_gives (λ i ms. element_at (record { table = table; index = i; members = ms })) element_in
     (λ i ms. gives (record { table = table; index = i; members = ms })) 0 members
 
+-- reading gives the graph that the document says
 graph_gives : (ms : Members) → Gives (read_raw ms) (graph_in ms)
 unfolding read_raw
 graph_gives ms =

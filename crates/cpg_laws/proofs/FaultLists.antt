@@ -10,6 +10,7 @@ use Rattle.cpg_base.proofs.Lists.{Contains-first, Contains-cases, Contains-nil}
 use Rattle.cpg_reader.specs.declared.place.ReadFault.{ReadFault}
 use Rattle.cpg_laws.specs.GraphFiles.{unless, of_each}
 
+-- a fact that holds for each fault of a list
 abbrev pub Each : (ReadFault → Type 0) → List ReadFault → Type 0
 Each P [] = Unit {0}
 Each P (fault ∷ faults) = P fault × Each P faults
@@ -55,10 +56,12 @@ pub unless_contains : (b : Bool) (fault : ReadFault) → b ≡ false → Contain
 unless_contains true fault e = absurd (false≢true (sym e))
 unless_contains false fault e = Contains-first fault []
 
+-- one step on, counted at the front or at the back
 onward : (i k : ℕ) → i + suc k ≡ (i + 1) + k
 onward i k = omega arith
 
 module _ {T : Type 0} where
+  -- what holds of each element at its place holds of all, counted from i
   stand_from : (Q : ℕ → T → Type 0) (i : ℕ) (xs : List T) → ((k : ℕ) (x : T) → slice_get xs k ≡ Some x → Q (i + k) x) →
       Stand Q i xs
   stand_from Q i [] h = tt
@@ -72,6 +75,7 @@ module _ {T : Type 0} where
       Stand Q 0 xs
   stand_all Q xs h = stand_from Q 0 xs (λ k x e. subst (λ n. Q n x) (sym (zero-add k)) (h k x e))
 
+  -- a fault of the element at a place is among those of all elements
   contains_from : (faults : ℕ → T → List ReadFault) (fault : ReadFault) (i k : ℕ) (xs : List T) (x : T) →
       slice_get xs k ≡ Some x →
       Contains (faults (i + k) x) fault →
@@ -100,6 +104,7 @@ of_each_mapped faults f i (x ∷ xs) = ap (λ rest. faults i (f x) ++ rest) (of_
 
 -- ---- a position is found where some element passes
 
+-- there is a place that passes a test exactly if some element does
 some_from : {T : Type 0} (test : T → Bool) (i : ℕ) (xs : List T) → is_some (position_from test i xs) ≡ list_any test xs
 some_from test i [] = refl
 some_from test i (x ∷ xs) = by (test x) (some_from test (i + 1) xs)

@@ -32,17 +32,21 @@ use Rattle.cpg_laws.proofs.FaultLists.{of_each_contains}
 
 -- ---- keys
 
+-- the keys of fields
 abbrev keys_of : List Field → List Key
 keys_of fields = map (λ f. f.key) fields
 
+-- whether a text is one of the keys
 abbrev is_key : List Field → List ℕ → Bool
 is_key fields text = list_any (λ key. bytes_eq (text_of key) text) (keys_of fields)
 
+-- the text of a field's key is one of the keys
 key_is : (fields : List Field) (text : List ℕ) (f : Field) → Contains fields f → text_of f.key ≡ text →
     is_key fields text ≡ true
 key_is fields text f c same = list_any_true (λ key. bytes_eq (text_of key) text) (keys_of fields) f.key
     (Contains-map (λ f. f.key) fields f c) ((bytes_eq-Decides (text_of f.key) text).1 same)
 
+-- a text that is one of the keys is the text of a field's key
 is_some_key : (fields : List Field) (text : List ℕ) → is_key fields text ≡ true →
     (f : Field) × Contains fields f × (text_of f.key ≡ text)
 is_some_key fields text e =
@@ -55,6 +59,7 @@ at_own_key : (text : List ℕ) (d : Data) (ms : Members) → get_member text (me
 at_own_key text d ms =
     ap (λ o. match_ordering o (get_member text ms) (Some d) (get_member text ms)) (tied_itself nat_list_cmp_total text)
 
+-- a key that is there is there still when another member is put in front
 still_there : (text : List ℕ) (d : Data) (other : List ℕ) (e : Data) (ms : Members) → get_member text ms ≡ Some d →
     (z : Data) × (get_member text (member other e ms) ≡ Some z)
 still_there text d other e ms is = by (slice_cmp nat_cmp text other)
@@ -64,6 +69,7 @@ still_there text d other e ms is = by (slice_cmp nat_cmp text other)
     by Equal = (e, refl)
     by Greater = (d, is)
 
+-- a table whose keys aren't all listed has another key
 unlisted : (fields : List Field) (members : Members) → are_listed (keys_of fields) members ≡ false →
     HasOtherKey members fields
 unlisted fields no_members e = absurd (true≢false e)
@@ -79,9 +85,11 @@ unlisted fields (member text d ms) e = by (is_key fields text) refl e (unlisted 
     by false is rest more =
         (text, d, at_own_key text d ms, λ f c same. true≢false (sym (key_is fields text f c same) ∙ is))
 
+-- texts that compare as equal are equal
 same_text : (text other : List ℕ) → slice_cmp nat_cmp text other ≡ Equal → text ≡ other
 same_text text other e = (bytes_eq-Decides text other).0 (sym (is_eq-slice_cmp text other) ∙ ap is_eq e)
 
+-- if all keys of a table are listed, each of its keys is a field's
 listed : (fields : List Field) (text : List ℕ) (d : Data) (members : Members) →
     are_listed (keys_of fields) members ≡ true → get_member text members ≡ Some d →
     is_key fields text ≡ true
@@ -97,6 +105,7 @@ listed fields text d (member other z ms) e is =
     by Equal o here is more = subst (λ t. is_key fields t ≡ true) (sym (same_text text other o)) here
     by Greater o here is more = more is
 
+-- a table with another key has keys that aren't all listed
 other_key : (fields : List Field) (members : Members) → HasOtherKey members fields →
     are_listed (keys_of fields) members ≡ false
 other_key fields members (text, d, is, apart) = false_from_ne_true (are_listed (keys_of fields) members)
@@ -109,6 +118,7 @@ abbrev pub IsBad : Members → ReadFault → Type 0
 IsBad ms fault = (place : Place) × (fault ≡ BadField place) × IsBadField ms place
 
 module _ (ms : Members) (row : DocumentRow) (at : table_at ms row.table row.index ≡ Some row.members) where
+  -- each bad field found by a list of fields is one of the document
   bad_keys : (fields : List Field) → ((f : Field) → Contains fields f → Contains (fields_of row.table) f) →
       Each (IsBad ms) (bad_fields row (keys_of (fields_of row.table)) fields)
   bad_keys [] those =
@@ -121,10 +131,12 @@ module _ (ms : Members) (row : DocumentRow) (at : table_at ms row.table row.inde
       (λ e. (place_in row f.key, refl, (row.members, at, inl (f, those f (Contains-first f fields), refl, e)))))
       (bad_keys fields (λ g c. those g (Contains-rest f fields g c)))
 
+  -- each bad field found in a row is one of the document
   row_is_bad : Each (IsBad ms) (bad_in (fields_of row.table) row)
   row_is_bad = bad_keys (fields_of row.table) (λ f c. c)
 
 module _ (row : DocumentRow) (keys : List Key) where
+  -- a bad value at a key of the fields is found
   value_there : (fields : List Field) (f : Field) → Contains fields f → is_good_value f (value_at row f.key) ≡ false →
       Contains (bad_fields row keys fields) (BadField (place_in row f.key))
   value_there [] f c e = absurd (Contains-nil f c)
@@ -139,6 +151,7 @@ module _ (row : DocumentRow) (keys : List Key) where
         (value_there fields f rest e)
   ]
 
+  -- if a key isn't listed, the row has the fault of an unknown key
   key_there : (fields : List Field) → are_listed keys row.members ≡ false →
       Contains (bad_fields row keys fields) (BadField (place_in row Unknown))
   key_there [] e = unless_contains (are_listed keys row.members) (BadField (place_in row Unknown)) e
@@ -149,9 +162,11 @@ module _ (row : DocumentRow) (keys : List Key) where
 
 -- ---- the document
 
+-- an element of a table as a row of the document
 abbrev row_of : Table → ℕ → Members → DocumentRow
 row_of table i ms = record { table = table; index = i; members = ms }
 
+-- each bad field found in the elements is one of the document
 elements_are_bad : (ms : Members) (table : Table) (members : List Members) →
     ((i : ℕ) → table_at ms table i ≡ slice_get members i) →
     Each (IsBad ms) (bad_elements table (fields_of table) members)
@@ -171,6 +186,7 @@ fields_are_bad ms =
 
 -- what stands in the faults of a table stands in those of the document
 module _ (ms : Members) (fault : ReadFault) where
+  -- the bad fields of the elements at a key
   abbrev part : Table → Key → List Field → List ReadFault
   part table key fields = bad_elements table fields (elements ms key)
 

@@ -41,12 +41,14 @@ use Rattle.cpg_laws.specs.GraphFiles.{GraphFilesShowFirstFaults}
 
 -- ---- steps one after another
 
+-- two steps, the second on what the first reads, are refused by the first fault of both lists
 bind : {T U : Type 0} (fs gs : List ReadFault) (r : Reading T) (next : T → Reading U) → IsFirst fs r →
     ((x : T) → r ≡ Ok x → IsFirst gs (next x)) →
     IsFirst (fs ++ gs) (r >>= next)
 bind [] gs r next h more = subst (λ z. IsFirst gs (z >>= next)) (sym h.1) (more h.0 h.1)
 bind (f ∷ fs) gs r next h more = ap (λ z. z >>= next) h
 
+-- two steps one after the other are refused by the first fault of both lists
 seq : {T U : Type 0} (fs gs : List ReadFault) (r : Reading T) (next : Reading U) → IsFirst fs r → IsFirst gs next →
     IsFirst (fs ++ gs) (r >> next)
 seq [] gs r next h more = subst (λ z. IsFirst gs (z >> next)) (sym h.1) more
@@ -58,6 +60,7 @@ bind_last : {T U : Type 0} (fs : List ReadFault) (r : Reading T) (f : T → U) �
 bind_last [] r f h = (f h.0, ap (λ z. z >>= (λ x. pure (f x))) h.1)
 bind_last (g ∷ gs) r f h = ap (λ z. z >>= (λ x. pure (f x))) h
 
+-- a step and then a value are refused by the first fault of the step
 seq_last : {T U : Type 0} (fs : List ReadFault) (r : Reading T) (y : U) → IsFirst fs r → IsFirst fs (r >> pure y)
 seq_last [] r y h = (y, ap (λ z. z >> pure y) h.1)
 seq_last (g ∷ gs) r y h = ap (λ z. z >> pure y) h
@@ -69,6 +72,7 @@ bind_within : {T U : Type 0} (fs gs hs : List ReadFault) (r : Reading T) (next :
 bind_within [] gs hs r next h more = subst (λ z. IsFirst (gs ++ hs) (z >>= next)) (sym h.1) (more h.0 h.1)
 bind_within (f ∷ fs) gs hs r next h more = ap (λ z. z >>= next) h
 
+-- the same of three lists, of which the last two are the second step's
 seq_within : {T U : Type 0} (fs gs hs : List ReadFault) (r : Reading T) (next : Reading U) → IsFirst fs r →
     IsFirst (gs ++ hs) next →
     IsFirst ((fs ++ gs) ++ hs) (r >> next)
@@ -81,11 +85,13 @@ or_next : {T : Type 0} (b : Bool) (fault : ReadFault) (fs : List ReadFault) (nex
 or_next true fault fs next h = h
 or_next false fault fs next h = refl
 
+-- a test before a step is refused first
 if_next : {T : Type 0} (b : Bool) (fault : ReadFault) (fs : List ReadFault) (next : Reading T) → IsFirst fs next →
     IsFirst (unless (not b) fault ++ fs) (if b then Err fault else next)
 if_next true fault fs next h = refl
 if_next false fault fs next h = h
 
+-- if a step is refused by the first of its faults, so are the steps over a list
 each_first : {T U : Type 0} (faults : ℕ → T → List ReadFault) (step : ℕ → T → Reading U) →
     ((i : ℕ) (x : T) → IsFirst (faults i x) (step i x)) →
     (i : ℕ) (xs : List T) →
@@ -105,32 +111,39 @@ of_field row key needed as_type o =
     (BadField (place_in row key))
 
 module _ {T : Type 0} (row : DocumentRow) (key : Key) (as_type : Data → Option T) where
+  -- a value of the wrong type is refused
   typed : (x : Option T) → IsFirst (unless (is_some x) (BadField (place_in row key))) (typed_in row key x)
   typed None = refl
   typed (Some x) = (Some x, refl)
 
+  -- a required value is refused if it is missing
   typed_required : (x : Option T) →
       IsFirst (unless (is_some x) (BadField (place_in row key))) (typed_in row key x >>= required_in row key)
   typed_required None = refl
   typed_required (Some x) = (x, refl)
 
+  -- an optional value is refused if it has the wrong type
   optional_by : (o : Option Data) → IsFirst (of_field row key false as_type o) (optional_in row key as_type o)
   optional_by None = (None, refl)
   optional_by (Some d) = typed (as_type d)
 
+  -- a required value is refused if it is missing or has the wrong type
   required_by : (o : Option Data) →
       IsFirst (of_field row key true as_type o) (optional_in row key as_type o >>= required_in row key)
   required_by None = refl
   required_by (Some d) = typed_required (as_type d)
 
+  -- the same of the value at a key that may be missing
   optional_first : IsFirst (of_field row key false as_type (value_at row key)) (optional as_type row key)
   unfolding optional
   optional_first = optional_by (value_at row key)
 
+  -- the value at a key that has to be there is refused if it is missing or has the wrong type
   required_first : IsFirst (of_field row key true as_type (value_at row key)) (required as_type row key)
   unfolding optional
   required_first = required_by (value_at row key)
 
+  -- the value at a key with a default is refused if it has the wrong type
   default_first : (value : T) →
       IsFirst (of_field row key false as_type (value_at row key)) (with_default value as_type row key)
   default_first value = bind_last (of_field row key false as_type (value_at row key)) (optional as_type row key)
@@ -148,12 +161,14 @@ module _ {T : Type 0} (row : DocumentRow) (key : Key) (as_type : Data → Option
       by None e = cc
       by (Some y) e = cc
 
+  -- what is read with a default is what stands there, or the default
   default_is : (value x : T) → with_default value as_type row key ≡ Ok x →
       x ≡ unwrap_or (option_and_then as_type (value_at row key)) value
   unfolding optional
   default_is value x e = default_by value (value_at row key) x e
 
 module _ (row : DocumentRow) where
+  -- a row is refused if it has a key that isn't listed
   only_first : (keys : List Key) →
       IsFirst (unless (are_listed keys row.members) (BadField (place_in row Unknown))) (only keys row)
   unfolding only
@@ -163,18 +178,21 @@ module _ (row : DocumentRow) where
       by true = (tt, refl)
       by false = refl
 
+  -- a name is refused if it is missing or not a name
   name_first : (key : Key) →
       IsFirst (unless (is_good_value (needed_name key) (value_at row key)) (BadField (place_in row key)))
       (read_name row key)
   unfolding read_name
   name_first key = required_first row key as_name
 
+  -- an integer is refused if it is missing or not one
   integer_first : (key : Key) →
       IsFirst (unless (is_good_value (needed_integer key) (value_at row key)) (BadField (place_in row key)))
       (read_integer row key)
   unfolding read_integer
   integer_first key = required_first row key as_integer
 
+  -- a list of tables is refused if it isn't one
   list_first : (key : Key) →
       IsFirst (unless (is_good_value (list key) (value_at row key)) (BadField (place_in row key))) (read_array row key)
   unfolding read_array
@@ -183,16 +201,19 @@ module _ (row : DocumentRow) where
 -- ---- elements
 
 module _ (row : DocumentRow) where
+  -- a node is refused by the first of its bad fields
   node_first : IsFirst (bad_in node_fields row) (read_node row)
   unfolding read_node
   node_first = bind _ _ _ _ (name_first row Name) (λ name _. seq_last _ _ _ (only_first row (Name ∷ [])))
 
+  -- a slot is refused by the first of its bad fields
   slot_first : IsFirst (bad_in slot_fields row) (read_slot row)
   unfolding read_slot
   slot_first = bind _ _ _ _ (name_first row Node)
       (λ node _. bind _ _ _ _ (integer_first row Length) (λ length _. bind _ _ _ _ (integer_first row Bytes)
       (λ bytes _. seq_last _ _ _ (only_first row (Node ∷ Length ∷ Bytes ∷ [])))))
 
+  -- a process is refused by the first of its bad fields
   process_first : IsFirst (bad_in process_fields row) (read_process row)
   unfolding read_process integer_or flag_or
   process_first = bind _ _ _ _ (name_first row Name)
@@ -209,6 +230,7 @@ module _ (row : DocumentRow) where
       (λ deadline _. seq_last _ _ _ (only_first row
       (Name ∷ Node ∷ Wcet ∷ Parts ∷ Alpha ∷ Chi ∷ Mu ∷ Join ∷ Frozen ∷ Release ∷ Deadline ∷ [])))))))))))))
 
+  -- an edge is refused by the first of its bad fields
   edge_first : IsFirst (bad_in edge_fields row) (read_edge row)
   unfolding read_edge integer_or flag_or
   edge_first = bind _ _ _ _ (name_first row From)
@@ -218,6 +240,7 @@ module _ (row : DocumentRow) where
       (λ when _. bind _ _ _ _ (default_first row Frozen as_bool false)
       (λ frozen _. seq_last _ _ _ (only_first row (From ∷ To ∷ Bytes ∷ When ∷ Frozen ∷ [])))))))
 
+-- reading the elements of a table is refused by the first bad field in them
 rows_first : {T : Type 0} (table : Table) (fields : List Field) (element_at : DocumentRow → Reading T) →
     ((row : DocumentRow) → IsFirst (bad_in fields row) (element_at row)) →
     (members : List Members) → IsFirst (bad_elements table fields members) (read_rows table element_at members)
@@ -258,6 +281,7 @@ fields_first ms =
 
 -- ---- limits
 
+-- a count over the limit is refused
 at_most_first : {T : Type 0} (limit : ℕ) (what : What) (xs : List T) →
     IsFirst (too_many limit what xs) (at_most limit what xs)
 at_most_first limit what xs = by (nat_le (length xs) limit)
@@ -266,6 +290,7 @@ at_most_first limit what xs = by (nat_le (length xs) limit)
     by true = (tt, refl)
     by false = refl
 
+-- the first number out of range is refused
 range_first : (table : Table) (i : ℕ) (ns : List BoundedField) → IsFirst (out_of_range table i ns) (in_range table i ns)
 range_first table i [] = (tt, refl)
 range_first table i (n ∷ ns) =
@@ -273,12 +298,14 @@ range_first table i (n ∷ ns) =
     (out_of_range table i ns) (in_range table i ns)
     (range_first table i ns)
 
+-- the same over all elements of a table
 ranges_first : {T : Type 0} (table : Table) (numbers_of : T → List BoundedField) (i : ℕ) (xs : List T) →
     IsFirst (of_each (λ i x. out_of_range table i (numbers_of x)) i xs) (all_in_range table numbers_of i xs)
 ranges_first table numbers_of i [] = (tt, refl)
 ranges_first table numbers_of i (x ∷ xs) =
     seq _ _ _ _ (range_first table i (numbers_of x)) (ranges_first table numbers_of (i + 1) xs)
 
+-- the limits of a graph are refused by the first of its limit faults
 limits_first : (g : RawGraph) → IsFirst (limit_faults g) (limits g)
 unfolding limits
 limits_first g =
@@ -296,6 +323,7 @@ limits_first g =
 
 -- names of elements, each at a place of its own
 module _ (table : Table) (key : Key) (own : (i : ℕ) → name_place table i key ≡ place table i key) where
+  -- names from one on are refused by the first that stands before
   apart_from_first : (i : ℕ) (earlier names : List (List ℕ)) →
       IsFirst (doubles_from table key i earlier names) (apart_from table key i earlier names)
   apart_from_first i earlier [] = (tt, refl)
@@ -308,6 +336,7 @@ module _ (table : Table) (key : Key) (own : (i : ℕ) → name_place table i key
       (apart_from table key (i + 1) (earlier ++ name ∷ []) names)
       (apart_from_first (i + 1) (earlier ++ name ∷ []) names))
 
+  -- names are refused by the first that stands before
   apart_first : (names : List (List ℕ)) → IsFirst (doubles_from table key 0 [] names) (apart table key names)
   unfolding apart
   apart_first names = apart_from_first 0 [] names
@@ -318,6 +347,7 @@ if_one : {T : Type 0} (b c : Bool) (fault : ReadFault) (next : Reading T) → Is
 if_one true c fault next h = refl
 if_one false c fault next h = h
 
+-- the names of an order, from one on, are refused for one that stands before
 order_apart_from : (i : ℕ) (earlier names : List (List ℕ)) →
     IsFirst (unless (differ_from earlier names) (DoubleName order_place)) (apart_from tables.Top Order i earlier names)
 order_apart_from i earlier [] = (tt, refl)
@@ -326,41 +356,49 @@ order_apart_from i earlier (name ∷ names) =
     (apart_from tables.Top Order (i + 1) (earlier ++ name ∷ []) names)
     (order_apart_from (i + 1) (earlier ++ name ∷ []) names)
 
+-- an order, if there is one, is refused for a name that stands twice
 order_apart_first : (order : Option (List (List ℕ))) → IsFirst (order_doubles (unwrap_or order [])) (order_apart order)
 unfolding order_apart apart
 order_apart_first None = (tt, refl)
 order_apart_first (Some names) = order_apart_from 0 [] names
 
+-- a name that isn't known is refused
 known_first : (at : Place) (o : Option ℕ) → IsFirst (unless (is_some o) (UnknownName at)) (known at o)
 known_first at None = refl
 known_first at (Some number) = (number, refl)
 
+-- the number of a name is refused if the name isn't known
 number_first : (names : List (List ℕ)) (name : List ℕ) (table : Table) (i : ℕ) (key : Key) →
     IsFirst (unknown names name table i key) (number_of names (place table i key) name)
 unfolding number_of
 number_first names name table i key = known_first (place table i key) (position (bytes_eq name) names)
 
+-- a slot is refused if its node isn't known
 slot_number_first : (nodes : List (List ℕ)) (i : ℕ) (s : RawSlot) →
     IsFirst (unknown nodes s.node tables.Slot i Node) (slot_of nodes i s)
 unfolding slot_of
 slot_number_first nodes i s = bind_last _ _ _ (number_first nodes s.node tables.Slot i Node)
 
+-- a process is refused if its node isn't known
 process_number_first : (nodes : List (List ℕ)) (i : ℕ) (p : RawProcess) →
     IsFirst (unknown nodes p.node tables.Process i Node) (process_of nodes i p)
 unfolding process_of
 process_number_first nodes i p = bind_last _ _ _ (number_first nodes p.node tables.Process i Node)
 
+-- an edge is refused for the first of its two ends that isn't known
 ends_first : (names : List (List ℕ)) (i : ℕ) (e : RawEdge) → IsFirst (unknown_ends names i e) (edge_of names i e)
 unfolding edge_of
 ends_first names i e = bind _ _ _ _ (number_first names e.from tables.Edge i From)
     (λ from e1. bind_last _ _ _ (number_first names e.to tables.Edge i To))
 
+-- a name that isn't known is refused before what comes after it
 known_next : {T : Type 0} (at : Place) (o : Option ℕ) (c : Bool) (next : ℕ → Reading T) →
     ((n : ℕ) → IsFirst (unless c (UnknownName at)) (next n)) →
     IsFirst (unless (is_some o && c) (UnknownName at)) (known at o >>= next)
 known_next at None c next h = refl
 known_next at (Some n) c next h = h n
 
+-- the numbers of an order's names are refused for a name that isn't known
 order_numbers : (names : List (List ℕ)) (i : ℕ) (order : List (List ℕ)) →
     IsFirst (order_unknowns names order) (each (ordered names) i order)
 unfolding number_of
@@ -370,12 +408,14 @@ order_numbers names i (name ∷ order) = known_next order_place (position (bytes
     (λ n. bind_last (order_unknowns names order) (each (ordered names) (i + 1) order) (λ ys. n ∷ ys)
     (order_numbers names (i + 1) order))
 
+-- an order, if there is one, is refused for a name that isn't known
 order_first : (names : List (List ℕ)) (order : Option (List (List ℕ))) →
     IsFirst (order_unknowns names (unwrap_or order [])) (order_of names order)
 unfolding order_of
 order_first names None = (None, refl)
 order_first names (Some order) = bind_last _ _ (λ numbers. Some numbers) (order_numbers names 0 order)
 
+-- resolving the names is refused by the first of the unknown ones
 resolved_first : (g : RawGraph) → IsFirst (unknown_faults g) (resolved g)
 unfolding resolved
 resolved_first g =
@@ -387,6 +427,7 @@ resolved_first g =
     (ends_first (process_names g.processes)) 0 g.edges) (λ edges e3.
     bind_last _ _ _ (order_first (process_names g.processes) g.order))))
 
+-- making the graph is refused by the first double name, or else the first unknown one
 names_first : (g : RawGraph) → IsFirst (double_faults g ++ unknown_faults g) (graph_of g)
 unfolding graph_of
 names_first g =
@@ -397,6 +438,7 @@ names_first g =
 
 -- ---- the whole
 
+-- a document's members are refused by the first of all their faults
 problem_first : (ms : Members) → IsFirst (field_faults ms ++ graph_faults (read_raw ms)) (read_members ms)
 unfolding read_members
 problem_first ms =
@@ -405,6 +447,7 @@ problem_first ms =
     (seq (limit_faults g) (double_faults g ++ unknown_faults g) (limits g) (graph_of g) (limits_first g)
     (names_first g)))
 
+-- a document is refused by the first of its faults, if only for being no document
 document_first : (r : Reading Members) → IsFirst (document_faults r) (r >>= read_members)
 document_first (Err fault) = refl
 document_first (Ok ms) = problem_first ms

@@ -33,6 +33,7 @@ none g answer other acyclic = record {
   shown = λ walk e. absurd (other walk e);
 }
 
+-- a graph with a topological order has no cycle
 acyclic : (g : Graph) (order : List ℕ) → IsOrdered g order → HasCycle g → ⊥
 acyclic g order is = no_cycle g order is.topological
 
@@ -80,6 +81,7 @@ first g OutOfMemory h = tt
 -- What a later cause says of the earlier ones.
 
 module _ (g : Graph) where
+  -- a graph that is refused for a later cause than a cycle has none
   no_cycle_then : (fault : RuleFault) → 0 < rank_of_fault fault → rank_of_fault fault < 6 →
       IsFirstCause g fault → HasCycle g → ⊥
   no_cycle_then (Cycle walk) l m h = absurd (omega (arith, l))
@@ -90,6 +92,7 @@ module _ (g : Graph) where
   no_cycle_then (BadOrder p) l m h = h.0
   no_cycle_then OutOfMemory l m h = absurd (omega (arith, m))
 
+  -- a graph that is refused for a later cause than its tracks has few enough of them
   few_then : (fault : RuleFault) → 1 < rank_of_fault fault → rank_of_fault fault < 6 → IsFirstCause g fault →
       track_count g ≤ most_tracks
   few_then (Cycle walk) l m h = absurd (omega (arith, l))
@@ -100,6 +103,7 @@ module _ (g : Graph) where
   few_then (BadOrder p) l m h = h.1
   few_then OutOfMemory l m h = absurd (omega (arith, m))
 
+  -- one that is refused for a later cause than its joins has only single ones
   joins_then : (fault : RuleFault) → 2 < rank_of_fault fault → rank_of_fault fault < 6 → IsFirstCause g fault →
       HasSingleJoins g
   joins_then (Cycle walk) l m h = absurd (omega (arith, l))
@@ -110,6 +114,7 @@ module _ (g : Graph) where
   joins_then (BadOrder p) l m h = h.2
   joins_then OutOfMemory l m h = absurd (omega (arith, m))
 
+  -- one that is refused for a later cause than its slots has those of all senders
   slots_then : (fault : RuleFault) → 3 < rank_of_fault fault → rank_of_fault fault < 6 → IsFirstCause g fault →
       HasSenderSlots g
   slots_then (Cycle walk) l m h = absurd (omega (arith, l))
@@ -120,6 +125,7 @@ module _ (g : Graph) where
   slots_then (BadOrder p) l m h = h.3
   slots_then OutOfMemory l m h = absurd (omega (arith, m))
 
+  -- one that is refused for a later cause than its sizes has all frames fit
   sizes_then : (fault : RuleFault) → 4 < rank_of_fault fault → rank_of_fault fault < 6 → IsFirstCause g fault → AllFit g
   sizes_then (Cycle walk) l m h = absurd (omega (arith, l))
   sizes_then TooManyTracks l m h = absurd (omega (arith, l))
@@ -129,6 +135,7 @@ module _ (g : Graph) where
   sizes_then (BadOrder p) l m h = h.4
   sizes_then OutOfMemory l m h = absurd (omega (arith, m))
 
+  -- of two causes the later one isn't the first
   apart : (fault other : RuleFault) → rank_of_fault fault < rank_of_fault other → rank_of_fault other < 6 →
       IsFirstCause g fault → IsFirstCause g other → ⊥
   apart (Cycle walk) other l m h k = no_cycle_then other l m k (walk, h)
@@ -143,6 +150,7 @@ module _ (g : Graph) where
   apart (BadOrder p) other l m h k = omega (arith, l, m)
   apart OutOfMemory other l m h k = omega (arith, l, m)
 
+  -- each cause but lack of memory has a rank below 6
   below : (fault : RuleFault) → fault ≢ OutOfMemory → rank_of_fault fault < 6
   below (Cycle walk) kept = omega arith
   below TooManyTracks kept = omega arith
@@ -152,6 +160,7 @@ module _ (g : Graph) where
   below (BadOrder p) kept = omega arith
   below OutOfMemory kept = absurd (kept refl)
 
+  -- two first causes have one rank
   one : (fault other : RuleFault) → fault ≢ OutOfMemory → other ≢ OutOfMemory → IsFirstCause g fault →
       IsFirstCause g other →
       rank_of_fault fault ≡ rank_of_fault other
@@ -177,9 +186,11 @@ one_first holds m n h before k earlier = elim (cases_lt m n) [
 ]
 
 module _ (g : Graph) where
+  -- a join with two live inputs isn't single
   not_single : (order : List ℕ) (p : ℕ) (s : Scenario) → AreAlternatives g order p s → IsSingleJoin g p → ⊥
   not_single order p s two single = true≢false (sym two.least.holds ∙ single s.values two.join two.least.lawful.values)
 
+  -- the first join with two live inputs is one
   one_join : (o r : List ℕ) (p q : ℕ) (s t : Scenario) → AreAlternatives g o p s → AreAlternatives g r q t → p ≡ q
   one_join o r p q s t a b = elim (cases_lt p q) [
     | inl l ↦ absurd (not_single o p s a (b.before p l))

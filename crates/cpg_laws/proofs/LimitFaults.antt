@@ -63,12 +63,15 @@ numbers_in row [] = []
 numbers_in row (r ∷ rs) =
     record { key = r.key; value = integer_in row r.key (pos r.low); low = r.low; high = r.high } ∷ numbers_in row rs
 
+-- a fault is that the document is over a limit
 abbrev pub IsOver : Members → ReadFault → Type 0
 IsOver ms fault = (what : What) × (fault ≡ OverLimit what) × IsOverLimit ms what
 
+-- the least number of a range is in it
 low_is_within : (low high : ℕ) → nat_le low high ≡ true → is_within low high (pos low) ≡ true
 low_is_within low high h = and_from (nat_le low low) (nat_le low high) (le-leb low low (omega arith)) h
 
+-- a number out of range stands in the document, since the default is in range
 outside : (low high : ℕ) (o : Option Data) → nat_le low high ≡ true →
     is_within low high (unwrap_or (option_and_then as_integer o) (pos low)) ≡ false →
     (z : ℤ) × (o ≡ Some (integer z)) ×
@@ -82,9 +85,11 @@ outside low high (Some (datetime t)) h e = absurd (true≢false (sym (low_is_wit
 outside low high (Some (array ds)) h e = absurd (true≢false (sym (low_is_within low high h) ∙ e))
 outside low high (Some (table m)) h e = absurd (true≢false (sym (low_is_within low high h) ∙ e))
 
+-- whether a range has a number
 abbrev is_range : Range → Bool
 is_range r = nat_le r.low r.high
 
+-- each range of a table has a number
 ranges_are : (t : Table) → list_all is_range (ranges_of t) ≡ true
 ranges_are tables.Top = refl
 ranges_are tables.Node = refl
@@ -92,10 +97,12 @@ ranges_are tables.Slot = refl
 ranges_are tables.Process = refl
 ranges_are tables.Edge = refl
 
+-- the fault of a number out of range, by its place
 abbrev number_fault : Table → ℕ → Key → ReadFault
 number_fault t i key = OverLimit (Number (record { table = t; index = i; key = key }))
 
 module _ (ms : Members) (t : Table) (i : ℕ) (row : Members) (at : table_at ms t i ≡ Some row) where
+  -- each number out of range that is found by some ranges stands in the document
   numbers_over : (rs : List Range) → ((r : Range) → Contains rs r → Contains (ranges_of t) r) →
       list_all is_range rs ≡ true →
       Each (IsOver ms) (out_of_range t i (numbers_in row rs))
@@ -113,9 +120,11 @@ module _ (ms : Members) (t : Table) (i : ℕ) (row : Members) (at : table_at ms 
       )))
       (numbers_over rs (λ q c. those q (Contains-rest r rs q c)) rest)
 
+  -- each number out of range that is found in a row stands in the document
   row_over : Each (IsOver ms) (out_of_range t i (numbers_in row (ranges_of t)))
   row_over = numbers_over (ranges_of t) (λ r c. c) (ranges_are t)
 
+-- each number out of range that is found in the elements of a table stands in the document
 rows_over : {T : Type 0} (ms : Members) (t : Table) (said : Members → T) (numbers : T → List BoundedField)
     (rows : List Members) →
     ((row : Members) → numbers (said row) ≡ numbers_in row (ranges_of t)) →
@@ -149,11 +158,13 @@ number_there t i row z (q ∷ rs) r c found out = elim (Contains-cases q rs r c)
 
 -- ---- counts
 
+-- a list over the limit has more elements than that
 more_than : {T : Type 0} (said : Members → T) (limit : ℕ) (rows : List Members) →
     nat_le (length (map said rows)) limit ≡ false →
     limit < length rows
 more_than said limit rows e = subst (λ n. limit < n) (length-map rows said) (leb-false (length (map said rows)) limit e)
 
+-- a list with more elements than the limit is listed as a fault
 too_many_there : {T : Type 0} (said : Members → T) (limit : ℕ) (what : What) (rows : List Members) →
     limit < length rows →
     Contains (too_many limit what (map said rows)) (OverLimit what)
@@ -162,11 +173,13 @@ too_many_there said limit what rows l = unless_contains (nat_le (length (map sai
 
 -- ---- conditions
 
+-- a good flag is read exactly if the key is there
 is_flag_there : (key : Key) (o : Option Data) → is_good_value (flag key) o ≡ true →
     is_some (option_and_then as_bool o) ≡ is_some o
 is_flag_there key None e = refl
 is_flag_there key (Some d) e = e
 
+-- the sources of the conditional edges are those of the tables with the key `when`
 edges_are_conditional : (es : List Members) →
     ((e : Members) → Contains es e → is_some (value_in as_bool e When) ≡ is_some (get_member (text_of When) e)) →
     sources (map edge_in es) ≡ map source_of (filter (λ e. is_some (get_member (text_of When) e)) es)
@@ -186,6 +199,7 @@ edges_are_conditional (e ∷ es) h =
     by true false same rest = absurd (true≢false same)
     by false true same rest = absurd (true≢false (sym same))
 
+-- the same of all edges of a document with good fields
 sources_are : (ms : Members) → HasGoodFields ms →
     sources (map edge_in (elements ms Edge)) ≡ map source_of (conditional_edges ms)
 sources_are ms good = edges_are_conditional (elements ms Edge) (λ e c.
@@ -226,31 +240,40 @@ module _ (ms : Members) (good : HasGoodFields ms) where
   abbrev node_count : List ReadFault
   node_count = too_many MOST_NODES Nodes (map node_in (elements ms Node))
 
+  -- the fault of too many slots
   abbrev slot_count : List ReadFault
   slot_count = too_many MOST_NODES Slots (map slot_in (elements ms Slot))
 
+  -- the fault of too many processes
   abbrev process_count : List ReadFault
   process_count = too_many MOST_PROCESSES Processes (map process_in (elements ms Process))
 
+  -- the fault of too many edges
   abbrev edge_count : List ReadFault
   edge_count = too_many MOST_EDGES Edges (map edge_in (elements ms Edge))
 
+  -- the numbers out of range of the top table
   abbrev top_part : List ReadFault
   top_part = out_of_range tables.Top 0 (top_numbers (graph_in ms))
 
+  -- the numbers out of range of the slots
   abbrev slot_part : List ReadFault
   slot_part = all_out_of_range tables.Slot slot_numbers (map slot_in (elements ms Slot))
 
+  -- the numbers out of range of the processes
   abbrev process_part : List ReadFault
   process_part = all_out_of_range tables.Process process_numbers (map process_in (elements ms Process))
 
+  -- the numbers out of range of the edges
   abbrev edge_part : List ReadFault
   edge_part = all_out_of_range tables.Edge edge_numbers (map edge_in (elements ms Edge))
 
+  -- the fault of too many conditions
   abbrev last_part : List ReadFault
   last_part = too_many MOST_CONDITIONS Conditions (different [] (sources (map edge_in (elements ms Edge))))
 
   module _ (fault : ReadFault) where
+    -- a fault behind those of the counts is a limit fault
     past_counts : Contains (top_part ++ (slot_part ++ (process_part ++ (edge_part ++ last_part)))) fault →
         Contains (limit_faults (graph_in ms)) fault
     past_counts c = Contains-append_right node_count _ fault
@@ -258,14 +281,17 @@ module _ (ms : Members) (good : HasGoodFields ms) where
         (Contains-append_right process_count _ fault (Contains-append_right edge_count
         (top_part ++ (slot_part ++ (process_part ++ (edge_part ++ last_part)))) fault c)))
 
+    -- a fault behind those of the top table is a limit fault
     past_top : Contains (slot_part ++ (process_part ++ (edge_part ++ last_part))) fault →
         Contains (limit_faults (graph_in ms)) fault
     past_top c =
         past_counts (Contains-append_right top_part (slot_part ++ (process_part ++ (edge_part ++ last_part))) fault c)
 
+    -- a fault behind those of the slots is a limit fault
     past_slots : Contains (process_part ++ (edge_part ++ last_part)) fault → Contains (limit_faults (graph_in ms)) fault
     past_slots c = past_top (Contains-append_right slot_part (process_part ++ (edge_part ++ last_part)) fault c)
 
+    -- a fault behind those of the processes is a limit fault
     past_processes : Contains (edge_part ++ last_part) fault → Contains (limit_faults (graph_in ms)) fault
     past_processes c = past_slots (Contains-append_right process_part (edge_part ++ last_part) fault c)
 

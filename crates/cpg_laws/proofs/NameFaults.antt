@@ -35,10 +35,12 @@ use Rattle.cpg_laws.proofs.LimitFaults.{good_value, found_in, found_parts}
 
 -- ---- names that are good
 
+-- a name that is read is the text itself
 name_by : (s : List ℕ) (b : Bool) → is_some (cond b (Some s) None) ≡ true → unwrap_or (cond b (Some s) None) [] ≡ s
 name_by s true e = refl
 name_by s false e = absurd (true≢false (sym e))
 
+-- a good name stands in the document as it is read
 said : (o : Option Data) → is_good_value (needed_name Name) o ≡ true →
     o ≡ Some (string (unwrap_or (option_and_then as_name o) []))
 said None e = absurd (true≢false (sym e))
@@ -50,18 +52,22 @@ said (Some (datetime t)) e = absurd (true≢false (sym e))
 said (Some (array ds)) e = absurd (true≢false (sym e))
 said (Some (table m)) e = absurd (true≢false (sym e))
 
+-- a value that a function made comes from one that was there
 mapped_parts : {S T : Type 0} (f : S → T) (o : Option S) (y : T) → option_map f o ≡ Some y →
     (x : S) × (o ≡ Some x) × (f x ≡ y)
 mapped_parts f None y e = cc
 mapped_parts f (Some x) y e = (x, refl, cc)
 
+-- nothing is no value
 nothing : {T : Type 0} (x : T) → None ≡ Some x → ⊥
 nothing x e = cc
 
+-- mapping twice is mapping once by both
 mapped_twice : {S T U : Type 0} (f : S → T) (g : T → U) (xs : List S) → map g (map f xs) ≡ map (λ x. g (f x)) xs
 mapped_twice f g [] = refl
 mapped_twice f g (x ∷ xs) = ap (λ ys. g (f x) ∷ ys) (mapped_twice f g xs)
 
+-- texts that the test finds equal are equal
 same_bytes : (a b : List ℕ) → bytes_eq a b ≡ true → a ≡ b
 same_bytes a b e = (bytes_eq-Decides a b).0 e
 
@@ -73,6 +79,7 @@ module _ (ms : Members) (good : HasGoodFields ms) where
   name_stands t i row key at field = found_in ms t i row key at
       ∙ said (get_member (text_of key) row) (good_value ms good t i row at (needed_name key) field)
 
+  -- a name that stands in a row of a table is the one read there
   name_is : (t : Table) (i : ℕ) (key : Key) (name : List ℕ) → Contains (fields_of t) (needed_name key) →
       found_at ms t i key ≡ Some (string name) →
       (row : Members) × (table_at ms t i ≡ Some row) ×
@@ -86,21 +93,25 @@ module _ (ms : Members) (good : HasGoodFields ms) where
   -- `t`, `key`, `field`: a table, and a key of it that holds a name; `rows`, `are`: its rows in the document
   module _ (t : Table) (key : Key) (rows : List Members) (are : (i : ℕ) → table_at ms t i ≡ slice_get rows i)
       (field : Contains (fields_of t) (needed_name key)) where
+    -- the names that were read
     abbrev names : List (List ℕ)
     names = map (λ row. name_in row key) rows
 
+    -- a name that was read stands at its place in the document
     name_found : (i : ℕ) (name : List ℕ) → slice_get names i ≡ Some name → found_at ms t i key ≡ Some (string name)
     name_found i name e =
         let (row, at, same) = mapped_parts (λ row. name_in row key) (slice_get rows i) name
         (sym (slice_get-map (λ row. name_in row key) rows i) ∙ e) in
         name_stands t i row key (are i ∙ at) field ∙ ap (λ n. Some (string n)) same
 
+    -- a name that stands at a place of the document was read there
     found_name : (i : ℕ) (name : List ℕ) → found_at ms t i key ≡ Some (string name) → slice_get names i ≡ Some name
     found_name i name e =
         let (row, at, same) = name_is t i key name field e in
         slice_get-map (λ row. name_in row key) rows i
         ∙ ap (option_map (λ row. name_in row key)) (sym (are i) ∙ at) ∙ ap Some same
 
+    -- all names that were read stand in the document
     names_stand : Stand (λ i name. found_at ms t i key ≡ Some (string name)) 0 names
     names_stand = stand_all (λ i name. found_at ms t i key ≡ Some (string name)) names name_found
 
@@ -111,6 +122,7 @@ module _ (ms : Members) (good : HasGoodFields ms) where
         ∙ list_any_true (bytes_eq name) names name (Contains-slice_get names j name (found_name j name found))
         ((bytes_eq-Decides name name).1 refl)) ∙ e)
 
+    -- a name that stands nowhere isn't found among those read
     name_missing : (name : List ℕ) → ((j : ℕ) → found_at ms t j key ≢ Some (string name)) →
         is_some (position (bytes_eq name) names) ≡ false
     name_missing name none = false_from_ne_true (is_some (position (bytes_eq name) names)) (λ e.
@@ -120,10 +132,12 @@ module _ (ms : Members) (good : HasGoodFields ms) where
 
 -- ---- double names
 
+-- a fault is that a name of the document stands twice
 abbrev pub IsTwice : Members → ReadFault → Type 0
 IsTwice ms fault = (at : Place) × (fault ≡ DoubleName at) × IsDouble ms at
 
 module _ (name : List ℕ) (before : List (List ℕ)) (last : List ℕ) where
+  -- a name among a longer list is among those before, or the last
   among_more : list_any (bytes_eq name) (before ++ last ∷ []) ≡ true →
       (list_any (bytes_eq name) before ≡ true) ⊎ (name ≡ last)
   among_more e = elim (or_cases (list_any (bytes_eq name) before) (bytes_eq name last || false)
@@ -132,19 +146,23 @@ module _ (name : List ℕ) (before : List (List ℕ)) (last : List ℕ) where
         | inr h ↦ inr (same_bytes name last (sym (or-false (bytes_eq name last)) ∙ h))
       ]
 
+  -- a name that stands before does so with one more
   still_among : list_any (bytes_eq name) before ≡ true → list_any (bytes_eq name) (before ++ last ∷ []) ≡ true
   still_among e = list_any-append (bytes_eq name) before (last ∷ [])
       ∙ or_left (list_any (bytes_eq name) before) (bytes_eq name last || false) e
 
+  -- a name that is the last of a list is among it
   now_among : last ≡ name → list_any (bytes_eq name) (before ++ last ∷ []) ≡ true
   now_among same = list_any-append (bytes_eq name) before (last ∷ [])
       ∙ or_right (list_any (bytes_eq name) before) (bytes_eq name last || false)
       (or_left (bytes_eq name last) false ((bytes_eq-Decides name last).1 (sym same)))
 
+-- one step on, counted at the front or at the back
 onward : (i k : ℕ) → (i + 1) + k ≡ i + suc k
 onward i k = omega arith
 
 module _ (ms : Members) (t : Table) (key : Key) (own : is_own_name t key ≡ true) where
+  -- a name stands at an earlier place of the document
   abbrev StandsBefore : ℕ → List ℕ → Type 0
   StandsBefore i name = (j : ℕ) × (j < i) × (found_at ms t j key ≡ Some (string name))
 
@@ -197,6 +215,7 @@ module _ (t : Table) (key : Key) where
       more (inr (zero, l, is)) = inl (now_among name before n (let same : n ≡ name = cc in same))
       more (inr (suc j, l, is)) = inr (j, omega (arith, l), is)
 
+  -- a name that stands at two places is a double at the second
   double_at : (i j : ℕ) (names : List (List ℕ)) (name : List ℕ) → slice_get names i ≡ Some name → j < i →
       slice_get names j ≡ Some name →
       Contains (doubles_from t key 0 [] names) (DoubleName (place t i key))
@@ -206,20 +225,24 @@ module _ (t : Table) (key : Key) where
 
 -- ---- names of a list
 
+-- the element behind a list stands at the list's length
 append_here : (xs ys : List (List ℕ)) (y : List ℕ) → slice_get (xs ++ y ∷ ys) (length xs) ≡ Some y
 append_here [] ys y = refl
 append_here (x ∷ xs) ys y = append_here xs ys y
 
+-- an element of a list stays at its place if others are appended
 append_there : (xs ys : List (List ℕ)) (k : ℕ) (x : List ℕ) → slice_get xs k ≡ Some x → slice_get (xs ++ ys) k ≡ Some x
 append_there [] ys k x e = cc
 append_there (z ∷ xs) ys zero x e = e
 append_there (z ∷ xs) ys (suc k) x e = append_there xs ys k x e
 
+-- a place with an element is below the length
 below_length : (xs : List (List ℕ)) (k : ℕ) (x : List ℕ) → slice_get xs k ≡ Some x → k < length xs
 below_length [] k x e = cc
 below_length (z ∷ xs) zero x e = omega arith
 below_length (z ∷ xs) (suc k) x e = omega (arith, below_length xs k x e)
 
+-- names that don't differ from each other and from those before have one that stands twice
 two_from : (before names : List (List ℕ)) → differ_from before names ≡ false → HasTwice (before ++ names)
 two_from before [] e = absurd (true≢false e)
 two_from before (name ∷ names) e = by (list_any (bytes_eq name) before) refl (two_from (before ++ name ∷ []) names) e
@@ -239,9 +262,11 @@ two_from before (name ∷ names) e = by (list_any (bytes_eq name) before) refl (
         )
     by false is later h = subst HasTwice (append_assoc before (name ∷ []) names) (later h)
 
+-- names that don't differ have one that stands twice
 stand_in_two : (names : List (List ℕ)) → differ_from [] names ≡ false → HasTwice names
 stand_in_two names e = two_from [] names e
 
+-- names that differ have no double
 none_double : (t : Table) (key : Key) (i : ℕ) (before names : List (List ℕ)) → differ_from before names ≡ true →
     doubles_from t key i before names ≡ []
 none_double t key i before [] e = refl
@@ -255,12 +280,14 @@ none_double t key i before (name ∷ names) e =
     by true later h = absurd (true≢false (sym h))
     by false later h = later h
 
+-- names of which one stands twice don't differ
 two_differ_not : (names : List (List ℕ)) → HasTwice names → differ_from [] names ≡ false
 two_differ_not names (name, i, here, j, l, there) = false_from_ne_true (differ_from [] names)
     (λ e. Contains-nil (DoubleName (place tables.Node i Name))
     (subst (λ faults. Contains faults (DoubleName (place tables.Node i Name)))
     (none_double tables.Node Name 0 [] names e) (double_at tables.Node Name i j names name here l there)))
 
+-- if a test doesn't pass for all, it fails for one
 some_fails : (test : List ℕ → Bool) (xs : List (List ℕ)) → list_all test xs ≡ false →
     (x : List ℕ) × Contains xs x × (test x ≡ false)
 some_fails test [] e = absurd (true≢false e)
@@ -271,10 +298,12 @@ some_fails test (x ∷ xs) e = by (test x) refl (some_fails test xs) e
     by true is later h = let (y, c, fails) = later h in (y, Contains-rest x xs y c, fails)
     by false is later h = (x, Contains-first x xs, is)
 
+-- a conjunction with a false part is false
 and_fails : (b c : Bool) → c ≡ false → (b && c) ≡ false
 and_fails true c e = e
 and_fails false c e = refl
 
+-- if a test fails for one, it doesn't pass for all
 one_fails : (test : List ℕ → Bool) (xs : List (List ℕ)) (x : List ℕ) → Contains xs x → test x ≡ false →
     list_all test xs ≡ false
 one_fails test [] x c fails = absurd (Contains-nil x c)
@@ -284,21 +313,27 @@ one_fails test (z ∷ xs) x c fails = elim (Contains-cases z xs x c) [
 ]
 
 module _ (ms : Members) (good : HasGoodFields ms) where
+  -- the names of the nodes
   abbrev node_names : List (List ℕ)
   node_names = map (λ row. name_in row Name) (elements ms Node)
 
+  -- the nodes that the slots name
   abbrev slot_nodes : List (List ℕ)
   slot_nodes = map (λ row. name_in row Node) (elements ms Slot)
 
+  -- the names of the processes
   abbrev all_processes : List (List ℕ)
   all_processes = map (λ row. name_in row Name) (elements ms Process)
 
+  -- the names read of the slots are these nodes
   slots_named : slot_names (map slot_in (elements ms Slot)) ≡ slot_nodes
   slots_named = mapped_twice slot_in (λ s. s.node) (elements ms Slot)
 
+  -- the names read of the processes are those of their tables
   processes_named : process_names (map process_in (elements ms Process)) ≡ all_processes
   processes_named = mapped_twice process_in (λ p. p.name) (elements ms Process)
 
+  -- a listed double name stands twice in the document
   stand_twice : (t : Table) (key : Key) (rows : List Members) → ((i : ℕ) → table_at ms t i ≡ slice_get rows i) →
       Contains (fields_of t) (needed_name key) →
       is_own_name t key ≡ true →
@@ -322,6 +357,7 @@ module _ (ms : Members) (good : HasGoodFields ms) where
       (each_unless (IsTwice ms) (differ_from [] (order_names ms)) (DoubleName order_place)
       (λ e. (order_place, refl, inr (refl, stand_in_two (order_names ms) e))))))
 
+  -- a name that stands twice at a key is listed as double
   double_of : (t : Table) (key : Key) (rows : List Members) → ((i : ℕ) → table_at ms t i ≡ slice_get rows i) →
       Contains (fields_of t) (needed_name key) →
       (texts : List (List ℕ)) →
@@ -376,27 +412,33 @@ module _ (ms : Members) (good : HasGoodFields ms) where
 
 -- ---- names that name nothing
 
+-- a fault is that a name of the document names nothing
 abbrev pub IsNameless : Members → ReadFault → Type 0
 IsNameless ms fault = (at : Place) × (fault ≡ UnknownName at) × IsUnknown ms at
 
 module _ (ms : Members) (good : HasGoodFields ms) where
+  -- the names of the processes
   abbrev process_texts : List (List ℕ)
   process_texts = process_names (map process_in (elements ms Process))
 
+  -- a name that isn't found among the nodes is no node's
   no_node : (name : List ℕ) → is_some (position (bytes_eq name) (node_names ms good)) ≡ false → (j : ℕ) →
       found_at ms tables.Node j Name ≢ Some (string name)
   no_node name e = no_name ms good tables.Node Name (elements ms Node) (λ i. refl) (0, omega arith, refl) name e
 
+  -- one that isn't found among the processes is no process's
   no_process : (name : List ℕ) → is_some (position (bytes_eq name) process_texts) ≡ false → (j : ℕ) →
       found_at ms tables.Process j Name ≢ Some (string name)
   no_process name e = no_name ms good tables.Process Name (elements ms Process) (λ i. refl) (0, omega arith, refl) name
       (ap (λ names. is_some (position (bytes_eq name) names)) (sym (processes_named ms good)) ∙ e)
 
+  -- a name that is no node's isn't found among the nodes
   node_missing : (name : List ℕ) → ((j : ℕ) → found_at ms tables.Node j Name ≢ Some (string name)) →
       is_some (position (bytes_eq name) (node_names ms good)) ≡ false
   node_missing name none =
       name_missing ms good tables.Node Name (elements ms Node) (λ i. refl) (0, omega arith, refl) name none
 
+  -- one that is no process's isn't found among the processes
   process_missing : (name : List ℕ) → ((j : ℕ) → found_at ms tables.Process j Name ≢ Some (string name)) →
       is_some (position (bytes_eq name) process_texts) ≡ false
   process_missing name none = ap (λ names. is_some (position (bytes_eq name) names)) (processes_named ms good) ∙
@@ -417,6 +459,7 @@ module _ (ms : Members) (good : HasGoodFields ms) where
         inl (others, named, name_in row key, name_stands ms good t i row key at field, missing (name_in row key) e),
       ))
 
+  -- a row stands at a place of a list of tables
   abbrev stands_in : Key → ℕ → Members → Type 0
   stands_in key i row = slice_get (elements ms key) i ≡ Some row
 
@@ -454,13 +497,16 @@ module _ (ms : Members) (good : HasGoodFields ms) where
   slots_part =
       of_each (λ i s. unknown (node_names ms good) s.node tables.Slot i Node) 0 (map slot_in (elements ms Slot))
 
+  -- the unknown nodes of processes
   abbrev processes_part : List ReadFault
   processes_part = of_each (λ i p. unknown (node_names ms good) p.node tables.Process i Node) 0
       (map process_in (elements ms Process))
 
+  -- the unknown ends of edges
   abbrev edges_part : List ReadFault
   edges_part = of_each (unknown_ends process_texts) 0 (map edge_in (elements ms Edge))
 
+  -- the unknown names of the order
   abbrev order_part : List ReadFault
   order_part = order_unknowns process_texts (order_names ms)
 

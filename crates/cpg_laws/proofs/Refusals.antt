@@ -35,6 +35,7 @@ use Rattle.cpg_laws.proofs.GraphFiles.{graph_files_show_first_faults}
 
 -- ---- the order
 
+-- what is earlier than an earlier rank is earlier
 earlier_than_both : (a b c : List ℕ) → IsEarlier a b → IsEarlier b c → IsEarlier a c
 earlier_than_both a b [] h k = absurd k
 earlier_than_both a [] (z ∷ c) h k = absurd h
@@ -44,48 +45,57 @@ earlier_than_both (x ∷ a) (y ∷ b) (z ∷ c) (inl h) (inr k) = inl (let same 
 earlier_than_both (x ∷ a) (y ∷ b) (z ∷ c) (inr h) (inl k) = inl (let same = h.0 in omega (arith, k, same))
 earlier_than_both (x ∷ a) (y ∷ b) (z ∷ c) (inr h) (inr k) = inr (h.0 ∙ k.0, earlier_than_both a b c h.1 k.1)
 
+-- no rank is earlier than itself
 not_itself : (a : List ℕ) → IsEarlier a a → ⊥
 not_itself [] h = h
 not_itself (x ∷ a) (inl h) = omega (arith, h)
 not_itself (x ∷ a) (inr h) = not_itself a h.1
 
+-- what orders faults: their kind, and then their place
 abbrev rank_of : ReadFault → List ℕ
 rank_of fault = kind_of fault ∷ place_of_fault fault
 
 -- ---- faults that rise between two bounds
 
+-- the ranks of faults rise, from above a low one to below a high one
 abbrev Rise : List ℕ → List ReadFault → List ℕ → Type 0
 Rise low [] high = IsEarlier low high
 Rise low (fault ∷ faults) high = IsEarlier low (rank_of fault) × Rise (rank_of fault) faults high
 
+-- they do so from any lower one too
 from_below : (lower low high : List ℕ) (faults : List ReadFault) → IsEarlier lower low → Rise low faults high →
     Rise lower faults high
 from_below lower low high [] l h = earlier_than_both lower low high l h
 from_below lower low high (fault ∷ faults) l h = (earlier_than_both lower low (rank_of fault) l h.0, h.1)
 
+-- faults that rise to below one rank do so to below any higher one
 to_above : (low high higher : List ℕ) (faults : List ReadFault) → Rise low faults high → IsEarlier high higher →
     Rise low faults higher
 to_above low high higher [] h l = earlier_than_both low high higher h l
 to_above low high higher (fault ∷ faults) h l = (h.0, to_above (rank_of fault) high higher faults h.1 l)
 
+-- two lists of rising faults, one behind the other, rise
 joined : (low middle high : List ℕ) (faults others : List ReadFault) → Rise low faults middle →
     Rise middle others high →
     Rise low (faults ++ others) high
 joined low middle high [] others h k = from_below low middle high others h k
 joined low middle high (fault ∷ faults) others h k = (h.0, joined (rank_of fault) middle high faults others h.1 k)
 
+-- a fault that may be missing stands before faults that rise
 one_more : (b : Bool) (fault : ReadFault) (faults : List ReadFault) (low high : List ℕ) →
     IsEarlier low (rank_of fault) → Rise (rank_of fault) faults high →
     Rise low (unless b fault ++ faults) high
 one_more true fault faults low high l h = from_below low (rank_of fault) high faults l h
 one_more false fault faults low high l h = (l, h)
 
+-- a fault that may be missing, by itself, rises
 one : (b : Bool) (fault : ReadFault) (low high : List ℕ) → IsEarlier low (rank_of fault) →
     IsEarlier (rank_of fault) high →
     Rise low (unless b fault) high
 one true fault low high l h = earlier_than_both low (rank_of fault) high l h
 one false fault low high l h = (l, h)
 
+-- the faults of elements rise if those of each do and the next element's begin higher
 each_rises : {T : Type 0} (at : ℕ → List ℕ) (high : List ℕ) (faults : ℕ → T → List ReadFault) →
     ((i : ℕ) (x : T) → Rise (at i) (faults i x) (at (i + 1))) →
     ((i : ℕ) → IsEarlier (at i) high) →
@@ -102,6 +112,7 @@ are_in_order table p [] = nat_le p (position_of table Unknown)
 are_in_order table p (key ∷ keys) =
     nat_le p (position_of table key) && are_in_order table (position_of table key + 1) keys
 
+-- what is at least one more is greater
 after : (p q : ℕ) → p + 1 ≤ q → p < q
 after p q l = omega (arith, l)
 
@@ -124,6 +135,7 @@ fields_rise row keys low p (f ∷ fields) next order =
     (position_of row.table f.key + 1) fields
     (λ q l. inr (refl, inr (refl, inr (refl, inl (after (position_of row.table f.key) q l))))) rest)
 
+-- the bad fields of a row rise by the order of its keys
 row_rises : (row : DocumentRow) (fields : List Field) → are_in_order row.table 0 (map (λ f. f.key) fields) ≡ true →
     Rise (1 ∷ table_number row.table ∷ row.index ∷ []) (bad_in fields row)
     (1 ∷ table_number row.table ∷ (row.index + 1) ∷ [])
@@ -148,6 +160,7 @@ numbers_rise table i low p (n ∷ numbers) next order =
     (position_of table n.key + 1) numbers
     (λ q l. inr (refl, inr (refl, inr (refl, inr (refl, inl (after (position_of table n.key) q l)))))) rest)
 
+-- the numbers out of range of a row rise by the order of its keys
 number_row_rises : (table : Table) (i : ℕ) (numbers : List BoundedField) →
     are_in_order table 0 (map (λ n. n.key) numbers) ≡ true →
     Rise (2 ∷ 4 ∷ table_number table ∷ i ∷ []) (out_of_range table i numbers)
@@ -157,6 +170,7 @@ number_row_rises table i numbers order = numbers_rise table i (2 ∷ 4 ∷ table
 
 -- ---- the kinds
 
+-- the bad fields of a table's elements rise, element by element
 elements_rise : (table : Table) (fields : List Field) (members : List Members) →
     are_in_order table 0 (map (λ f. f.key) fields) ≡ true →
     Rise (1 ∷ table_number table ∷ []) (bad_elements table fields members) (1 ∷ (table_number table + 1) ∷ [])
@@ -168,6 +182,7 @@ elements_rise table fields members order = from_below (1 ∷ table_number table 
     (λ i ms. row_rises (record { table = table; index = i; members = ms }) fields order)
     (λ i. inr (refl, inl (omega arith))) 0 members)
 
+-- all bad fields of a document rise, table by table
 field_faults_rise : (ms : Members) → Rise (1 ∷ []) (field_faults ms) (2 ∷ [])
 field_faults_rise ms =
     joined (1 ∷ []) (1 ∷ 1 ∷ []) (2 ∷ []) _ _
@@ -181,6 +196,7 @@ field_faults_rise ms =
     (to_above (1 ∷ 4 ∷ []) (1 ∷ 5 ∷ []) (2 ∷ []) _ (elements_rise tables.Edge edge_fields (elements ms Edge) refl)
     (inl (omega arith))))))
 
+-- the numbers out of range of a table rise, element by element
 number_rows_rise : {T : Type 0} (table : Table) (numbers : T → List BoundedField) (xs : List T) →
     ((x : T) → are_in_order table 0 (map (λ n. n.key) (numbers x)) ≡ true) →
     Rise (2 ∷ 4 ∷ table_number table ∷ []) (all_out_of_range table numbers xs) (2 ∷ 4 ∷ (table_number table + 1) ∷ [])
@@ -217,6 +233,7 @@ limit_faults_rise g =
     (one (nat_le (length (different [] (sources g.edges))) MOST_CONDITIONS) (OverLimit Conditions) (2 ∷ 4 ∷ 5 ∷ [])
     (3 ∷ []) (inr (refl, inl (omega arith))) (inl (omega arith))))))))))
 
+-- the double names of a list rise by their places
 doubles_rise : (table : Table) (key : Key) (i : ℕ) (before names : List (List ℕ)) →
     Rise (3 ∷ name_table table ∷ i ∷ []) (doubles_from table key i before names) (3 ∷ (name_table table + 1) ∷ [])
 doubles_rise table key i before [] = inr (refl, inl (omega arith))
@@ -228,6 +245,7 @@ doubles_rise table key i before (name ∷ names) = one_more (not (list_any (byte
     (doubles_from table key (i + 1) (before ++ name ∷ []) names) (inr (refl, inr (refl, inl (omega arith))))
     (doubles_rise table key (i + 1) (before ++ name ∷ []) names))
 
+-- all double names of a document rise
 double_faults_rise : (g : RawGraph) → Rise (3 ∷ []) (double_faults g) (4 ∷ [])
 double_faults_rise g =
     joined (3 ∷ []) (3 ∷ 2 ∷ 0 ∷ []) (4 ∷ []) _ _
@@ -243,12 +261,14 @@ double_faults_rise g =
     (one (differ_from [] (unwrap_or g.order [])) (DoubleName order_place) (3 ∷ 4 ∷ []) (4 ∷ [])
     (inr (refl, inl (omega arith))) (inl (omega arith)))))
 
+-- a name that isn't known rises by itself
 unknown_rises : (names : List (List ℕ)) (name : List ℕ) (table : Table) (key : Key) (i : ℕ) →
     Rise (4 ∷ name_table table ∷ i ∷ []) (unknown names name table i key) (4 ∷ name_table table ∷ (i + 1) ∷ [])
 unknown_rises names name table key i = one (is_some (position (bytes_eq name) names)) (UnknownName (place table i key))
     (4 ∷ name_table table ∷ i ∷ []) (4 ∷ name_table table ∷ (i + 1) ∷ [])
     (inr (refl, inr (refl, inr (refl, tt)))) (inr (refl, inr (refl, inl (omega arith))))
 
+-- the unknown ends of an edge rise: the source before the target
 ends_rise : (names : List (List ℕ)) (i : ℕ) (e : RawEdge) →
     Rise (4 ∷ 4 ∷ i ∷ []) (unknown_ends names i e) (4 ∷ 4 ∷ (i + 1) ∷ [])
 ends_rise names i e = one_more (is_some (position (bytes_eq e.from) names)) (UnknownName (place tables.Edge i From))
@@ -258,6 +278,7 @@ ends_rise names i e = one_more (is_some (position (bytes_eq e.from) names)) (Unk
     (4 ∷ 4 ∷ (i + 1) ∷ []) (inr (refl, inr (refl, inr (refl, inl (omega arith)))))
     (inr (refl, inr (refl, inl (omega arith)))))
 
+-- all unknown names of a document rise
 unknown_faults_rise : (g : RawGraph) → Rise (4 ∷ []) (unknown_faults g) (5 ∷ [])
 unknown_faults_rise g =
     joined (4 ∷ []) (4 ∷ 3 ∷ 0 ∷ []) (5 ∷ []) _ _
@@ -277,12 +298,14 @@ unknown_faults_rise g =
 
 -- ---- all faults
 
+-- the faults of a document whose fields are good rise
 graph_faults_rise : (r : Reading RawGraph) → Rise (2 ∷ []) (graph_faults r) (6 ∷ [])
 graph_faults_rise (Err fault) = inl (omega arith)
 graph_faults_rise (Ok g) = joined (2 ∷ []) (3 ∷ []) (6 ∷ []) _ _ (limit_faults_rise g)
     (joined (3 ∷ []) (4 ∷ []) (6 ∷ []) _ _ (double_faults_rise g)
     (to_above (4 ∷ []) (5 ∷ []) (6 ∷ []) _ (unknown_faults_rise g) (inl (omega arith))))
 
+-- each fault is of one of the kinds that there are
 is_some_kind : (fault : ReadFault) → IsEarlier (rank_of fault) (6 ∷ [])
 is_some_kind NotToml = inl (omega arith)
 is_some_kind (BadField p) = inl (omega arith)
@@ -291,6 +314,7 @@ is_some_kind (DoubleName p) = inl (omega arith)
 is_some_kind (UnknownName p) = inl (omega arith)
 is_some_kind OutOfMemory = inl (omega arith)
 
+-- all faults of a document rise
 document_faults_rise : (r : Reading Members) → Rise [] (document_faults r) (6 ∷ [])
 document_faults_rise (Err fault) = (tt, is_some_kind fault)
 document_faults_rise (Ok ms) = joined [] (2 ∷ []) (6 ∷ []) (field_faults ms) (graph_faults (read_raw ms))
@@ -300,6 +324,7 @@ document_faults_rise (Ok ms) = joined [] (2 ∷ []) (6 ∷ []) (field_faults ms)
 -- ---- what stands in a list that rises
 
 module _ (high : List ℕ) where
+  -- each of some rising faults is later than what is below the first
   all_later : (low : List ℕ) (faults : List ReadFault) → Rise low faults high → (fault : ReadFault) →
       Contains faults fault →
       IsEarlier low (rank_of fault)
@@ -308,6 +333,7 @@ module _ (high : List ℕ) where
   all_later low (f ∷ faults) h fault (suc k, l, e) = earlier_than_both low (rank_of f) (rank_of fault) h.0
       (all_later (rank_of f) faults h.1 fault (k, omega (arith, l), e))
 
+  -- each rising fault is later than what is below the first
   later_at : (low : List ℕ) (faults : List ReadFault) → Rise low faults high → (j : ℕ) (d : ReadFault) →
       j < length faults →
       IsEarlier low (rank_of (get_or faults j d))
@@ -316,6 +342,7 @@ module _ (high : List ℕ) where
   later_at low (f ∷ faults) h (suc j) d l = earlier_than_both low (rank_of f) (rank_of (get_or faults j d)) h.0
       (later_at (rank_of f) faults h.1 j d (omega (arith, l)))
 
+  -- of each two the first comes before the second
   pairs_rise : (low : List ℕ) (faults : List ReadFault) → Rise low faults high → AllPairs ComesBefore faults
   pairs_rise low [] h i j d l m = absurd (omega (arith, m))
   pairs_rise low (f ∷ faults) h zero zero d l m = absurd (omega (arith, l))
@@ -326,6 +353,7 @@ module _ (high : List ℕ) where
 
 -- ---- the first fault
 
+-- a fault of a rising list is its first one or comes after that
 first_or_same : (low high : List ℕ) (f : ReadFault) (faults : List ReadFault) → Rise low (f ∷ faults) high →
     (fault : ReadFault) → Contains (f ∷ faults) fault →
     (f ≡ fault) ⊎ ComesBefore f fault
@@ -333,19 +361,23 @@ first_or_same low high f faults h fault (zero, l, e) = inl e
 first_or_same low high f faults h fault (suc k, l, e) =
     inr (all_later high (rank_of f) faults h.1 fault (k, omega (arith, l), e))
 
+-- a fault of a rising list is of no earlier kind than the first
 no_earlier_kind : (f fault : ReadFault) → (f ≡ fault) ⊎ ComesBefore f fault → kind_of f ≤ kind_of fault
 no_earlier_kind f fault (inl same) = subst (λ z. kind_of f ≤ kind_of z) same (omega arith)
 no_earlier_kind f fault (inr (inl less)) = omega (arith, less)
 no_earlier_kind f fault (inr (inr h)) = let same = h.0 in omega (arith, same)
 
+-- a fault of a rising list doesn't come before the first
 no_earlier_place : (f fault : ReadFault) → (f ≡ fault) ⊎ ComesBefore f fault → ComesBefore fault f → ⊥
 no_earlier_place f fault (inl same) l = not_itself (rank_of fault) (subst (λ z. ComesBefore fault z) same l)
 no_earlier_place f fault (inr h) l =
     not_itself (rank_of f) (earlier_than_both (rank_of f) (rank_of fault) (rank_of f) h l)
 
+-- the first fault is in the list
 here : (f : ReadFault) (faults : List ReadFault) → Contains (f ∷ faults) f
 here f faults = (0, omega arith, refl)
 
+-- the first of rising faults is the first of all
 head_is_first : (low high : List ℕ) (f : ReadFault) (faults : List ReadFault) → Rise low (f ∷ faults) high →
     IsFirstOf (Contains (f ∷ faults)) f
 head_is_first low high f faults h = record {
@@ -354,6 +386,7 @@ head_is_first low high f faults h = record {
   places = λ other c same l. no_earlier_place f other (first_or_same low high f faults h other c) (inr (same, l));
 }
 
+-- a reading that is refused by the first of rising faults is refused by the first of all
 told_is_first : {T : Type 0} (low high : List ℕ) (faults : List ReadFault) (r : Reading T) → Rise low faults high →
     IsFirst faults r → (fault : ReadFault) → r ≡ Err fault →
     IsFirstOf (Contains faults) fault
@@ -361,6 +394,7 @@ told_is_first low high [] r h told fault e = absurd (let ok = told.1 in cc)
 told_is_first low high (f ∷ faults) r h told fault e =
     subst (IsFirstOf (Contains (f ∷ faults))) (let same : f ≡ fault = cc in same) (head_is_first low high f faults h)
 
+-- a reading that is refused by the first of rising faults is refused by whichever is the first of all
 first_is_told : {T : Type 0} (low high : List ℕ) (faults : List ReadFault) (r : Reading T) → Rise low faults high →
     IsFirst faults r → (fault : ReadFault) →
     IsFirstOf (Contains faults) fault →

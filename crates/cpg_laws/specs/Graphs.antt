@@ -35,7 +35,7 @@ abbrev pub CyclesAreRefusedFirst : Type 0
 CyclesAreRefusedFirst = (g : Graph) (answer : Result Admission RuleFault) → MayAnswer g answer →
     answer ≢ Err OutOfMemory → RefusesCycles g answer
 
--- which cause a refusal shows, by its place among them
+-- the place, among the causes, of the one that a refusal shows
 abbrev pub rank_of_fault : RuleFault → ℕ
 rank_of_fault (Cycle walk) = 0
 rank_of_fault TooManyTracks = 1

@@ -117,12 +117,14 @@ module _ (k : ℕ) where
       IsCubeOf k (known ++ l ∷ []) (narrowed_by l cube)
   narrowed_cube known cube l w is = record {
     rising = rising-narrowed l cube is.rising;
+    -- each literal of the narrowed cube is on a variable that one of the given literals is on
     spoken = λ x j.
         let r = spoken_narrowed l cube x j in
         elim (Contains-append_cases cube (l ∷ []) r.0 r.1) [
           | inl i ↦ let s = is.spoken r.0 i in (s.0, Contains-append_left known (l ∷ []) s.0 s.1, s.2 ∙ r.2)
           | inr i ↦ (r.0, Contains-append_right known (l ∷ []) r.0 i, r.2)
         ];
+    -- the low at the literal's variable, and at another one
     low = λ v. elim (cases_eq l.variable v) [
       | inl e ↦ subst (λ u. low_in (narrowed_by l cube) u ≡ kept_low (known ++ l ∷ []) u) e
           (omega (
@@ -134,6 +136,7 @@ module _ (k : ℕ) where
           ))
       | inr n ↦ omega (arith, low-other k l cube v n, is.low v, kept_low-append known (l ∷ []) v, none_low k l v n)
     ];
+    -- the high at the literal's variable, and at another one
     high = λ v. elim (cases_eq l.variable v) [
       | inl e ↦ subst (λ u. high_in k (narrowed_by l cube) u ≡ kept_high k (known ++ l ∷ []) u) e
           (omega (
@@ -333,7 +336,7 @@ module _ (start cube first second ones others : List Literal) (l : Literal) (ls 
   pub lower_before : l.variable < m.variable → All (λ y. y.variable < l.variable) cube
   lower_before h = lower l (met ls (m ∷ ms)) (met-before l ls m ms rest_rises h)
 
-  -- so it is if the second cube's literal is the next
+  -- if the second cube's literal is the next, it is on a variable above all that were added
   pub lower_after : m.variable < l.variable → All (λ y. y.variable < m.variable) cube
   lower_after h = lower m (met (l ∷ ls) ms) (met-after l ls m ms rest_rises h)
 

@@ -25,15 +25,18 @@ use Rattle.cpg_list.proofs.CodeMade.{count_of}
 abbrev pub blank : ℕ → Row
 blank x = record { item = x; columns = [] }
 
+-- blank rows are rows of the items that they are made for
 items_blank : (xs : List ℕ) → items_of (map blank xs) ≡ xs
 items_blank [] = refl
 items_blank (x ∷ xs) = ap (λ ys. x ∷ ys) (items_blank xs)
 
+-- a blank row has no columns
 columns_blank : (xs : List ℕ) (i : ℕ) → get_or (columns_of_rows (map blank xs)) i [] ≡ []
 columns_blank [] i = refl
 columns_blank (x ∷ xs) zero = refl
 columns_blank (x ∷ xs) (suc i) = columns_blank xs i
 
+-- nothing is true together with false
 and_false : (b : Bool) → (b && false) ≡ false
 and_false true = refl
 and_false false = refl
@@ -50,12 +53,14 @@ module _ (g : Graph) (order : List ℕ) where
         ∙ columns_blank (numbers_below (item_count g)) x;
   }
 
+  -- before the first place nothing has been sent
   none_sent : (node : ℕ) → sent_before g order node 0 ≡ []
   none_sent node = filter_none (λ y. is_sent g y && (home g y == node) && ltb (place order (producer g y)) 0)
       (numbers_below (item_count g))
       (λ y j. ap (λ b. is_sent g y && (home g y == node) && b) (le-ltb (place order (producer g y)) 0 (omega arith))
       ∙ and_false (is_sent g y && (home g y == node)))
 
+  -- if nothing is carried in any scenario, the whole cube is what is carried
   wholes : (k : ℕ) (scenarios : List Scenario) (literals : Scenario → List Literal) (cubes : List (List Literal)) →
       ((s : Scenario) → literals s ≡ []) →
       cubes ≡ replicate (length scenarios) [] →

@@ -17,9 +17,11 @@ use Rattle.cpg_list.specs.Narrowing.{from_variable, front_low, as_number}
 -- ---- the literals from a variable on
 
 module _ (v : ℕ) where
+  -- a literal below the variable is skipped
   skips : (l : Literal) (ls : List Literal) → l.variable < v → from_variable v (l ∷ ls) ≡ from_variable v ls
   skips l ls h = cond-true _ _ _ (lt-ltb l.variable v h)
 
+  -- literals that begin on the variable or above stay
   stops : (l : Literal) (ls : List Literal) → v ≤ l.variable → from_variable v (l ∷ ls) ≡ l ∷ ls
   stops l ls h = cond-false _ _ _ (le-ltb l.variable v h)
 
@@ -56,10 +58,12 @@ module _ (v : ℕ) where
 
 -- ---- numbers
 
+-- a value with the number 0 or 1 that a low stands for says whether the low is above 0
 value_is : (b : Bool) (n : ℕ) → number_of_value b ≡ min n 1 → b ≡ ltb 0 n
 value_is true n e = sym (lt-ltb 0 n (omega (arith, e)))
 value_is false n e = sym (le-ltb 0 n (omega (arith, e)))
 
+-- the number of whether a low is above 0 is the low, or 1 if that is more
 number_is : (n : ℕ) → number_of_value (ltb 0 n) ≡ min n 1
 number_is n = elim (cases_lt 0 n) [
   | inl h ↦ ap number_of_value (lt-ltb 0 n h) ∙ omega (arith, h)
@@ -67,16 +71,20 @@ number_is n = elim (cases_lt 0 n) [
 ]
 
 module _ (s : Scenario) where
+  -- the number of a count's variable is the count of faults
   count_number : (p : ℕ) → p < 128 → number_of s p ≡ fault_of s p
   count_number p h = cond-true _ _ _ (lt-ltb p 128 h)
 
+  -- the number of a value's variable is that of the value
   value_number : (c : ℕ) → number_of s (value_variable c) ≡ number_of_value (get_or s.values c false)
   value_number c = cond-false _ _ _ (le-ltb (value_variable c) 128 (omega arith))
       ∙ ap (λ d. number_of_value (get_or s.values d false)) (let e : value_variable c - 128 ≡ c = omega arith in e)
 
+-- the low of a count stands for itself
 count_as : (p low : ℕ) → p < 128 → as_number p low ≡ low
 count_as p low h = cond-true _ _ _ (lt-ltb p 128 h)
 
+-- the low of a value stands for 0 or 1
 value_as : (v low : ℕ) → 128 ≤ v → as_number v low ≡ min low 1
 value_as v low h = cond-false _ _ _ (le-ltb v 128 h)
 
@@ -104,7 +112,7 @@ module _ (g : Graph) (few : process_count g ≤ 128) (cube : List Literal) (s : 
       ∙ get_or-map-below (low_in cube) (process_count g) v 0 h
       ∙ sym (count_as v (low_in cube v) (omega (arith, few, h)))
 
-  -- and so is each value
+  -- in the least scenario of a cube, each value is the low
   pub values_are : lows g cube ≡ s → (v : ℕ) → 128 ≤ v → v < value_variable (condition_count g) →
       number_of s v ≡ as_number v (low_in cube v)
   values_are e v z h =

@@ -160,9 +160,11 @@ made_same g urgency order frozen made also rows are to from = record {
 
 -- ---- an item that isn't sent has no column
 
+-- an empty list has any property
 no_elements : {X : Type 0} (P : X → Type 0) → All P []
 no_elements P = λ k d l. absurd (omega (arith, l))
 
+-- no columns are what no entries are merged to
 no_merge : (g : Graph) (urgency : List ℕ) → IsMergeOf g urgency [] []
 no_merge g urgency = record {
   times = λ s law. refl;
@@ -204,6 +206,7 @@ unsent_row g urgency order frozen rows x l above off none = record {
     of_message values i f e h = subst (λ k. is_sent_item g k ≡ true) (sym e)
         (and_parts (is_sent_item g (Message f)) _ (subst (λ k. item_active g values k ≡ true) e h)).0
 
+    -- an active broadcast is an item that is sent
     of_broadcast : (values : List Bool) (i : Item) (c : ℕ) → i ≡ Broadcast c → item_active g values i ≡ true →
         is_sent_item g i ≡ true
     of_broadcast values i f e h = subst (λ k. is_sent_item g k ≡ true) (sym e)

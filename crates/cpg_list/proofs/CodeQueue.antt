@@ -344,7 +344,7 @@ module _ (g : Graph) (order : List ℕ) (topological : IsTopological g order) (p
   up_to = take_more order (place order p) 0 (place-lt order p in_order)
       ∙ ap (λ q. take (place order p) order ++ q ∷ []) (get_or-place order p 0 in_order)
 
-  -- and so it is for the processes of one node
+  -- the processes of a node before the next place are those before this one, and the one here if it is on the node
   split : (node : ℕ) →
       node_before g order node (place order p + 1) ≡ node_before g order node (place order p)
       ++ filter (λ q. node_of g q == node) (p ∷ [])
@@ -408,6 +408,7 @@ module _ (g : Graph) (order : List ℕ) (topological : IsTopological g order) (p
       known_count = length-set known (node_of g p) own ∙ are.known_count;
       sent_count = length-set sent (node_of g p) queue ∙ are.sent_count;
       carries = λ node h. elim (cases_eq node (node_of g p)) [
+        -- the node of the process: its cubes are the new ones
         | inl e ↦
             subst (λ n. AreCubesOf g.faults scenarios (passed_by g others (node_before g order n (place order p + 1)))
             (get_or (set known (node_of g p) own) n [])) (sym e)
@@ -415,6 +416,7 @@ module _ (g : Graph) (order : List ℕ) (topological : IsTopological g order) (p
             (passed_by g others (node_before g order (node_of g p) (place order p + 1))))
             (sym (get_or-set_same known (node_of g p) own [] (omega (arith, on, are.known_count))))
             (subst (λ qs. AreCubesOf g.faults scenarios (passed_by g others qs) own) (sym node_own) own_are))
+        -- another node: what it carries is as it was
         | inr n ↦
             subst (AreCubesOf g.faults scenarios (passed_by g others (node_before g order node (place order p + 1))))
             (sym (get_or-set_other known (node_of g p) node own [] n))
@@ -425,11 +427,13 @@ module _ (g : Graph) (order : List ℕ) (topological : IsTopological g order) (p
             (are.carries node h)))
       ];
       queues = λ node h. elim (cases_eq node (node_of g p)) [
+        -- the node of the process: its queue is the new one
         | inl e ↦ subst (λ n. AreCubesOf g.faults scenarios (queued_by g order others
             (sent_before g order n (place order p + 1))) (get_or (set sent (node_of g p) queue) n [])) (sym e)
             (subst (AreCubesOf g.faults scenarios
             (queued_by g order others (sent_before g order (node_of g p) (place order p + 1))))
             (sym (get_or-set_same sent (node_of g p) queue [] (omega (arith, on, are.sent_count)))) queue_are)
+        -- another node: its queue is as it was
         | inr n ↦ subst
             (AreCubesOf g.faults scenarios (queued_by g order others (sent_before g order node (place order p + 1))))
             (sym (get_or-set_other sent (node_of g p) node queue [] n))

@@ -60,6 +60,7 @@ value_of g x e p at from on o is =
 -- ---- what it leaves in the queue
 
 module _ (g : Graph) (s : Scenario) (p x : ℕ) (by : producer g x ≡ p) (ends : List Literal) where
+  -- what is left of an item in the queue, by whether the process and the item are active
   left : (acts is_free : Bool) → active g s.values p ≡ acts →
       (item_active g s.values (item_at g x) && not (is_frozen g x)) ≡ is_free
       → queued_after g s x ends ≡ decided g s p ++ (if acts then sent_by_value g s x else [])

@@ -23,6 +23,7 @@ ArePassed columns by_time time s first at =
 module _ (columns : List Column) (by_time : List TimedColumn) (is : IsTimeOrder columns by_time) (time : ℕ)
     (s : Scenario) (first : ℕ) (starts : StartsAt by_time time first) (at : ℕ)
     (passed : ArePassed columns by_time time s first at) where
+  -- if no column from the place on has the time, none is found
   missed : ((i : ℕ) (d : TimedColumn) → at ≤ i → i < length by_time → (get_or by_time i d).time ≡ time → ⊥) →
       FindsHit columns time s None
   missed later k c l same =

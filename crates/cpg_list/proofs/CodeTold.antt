@@ -21,6 +21,7 @@ use Rattle.cpg_list.specs.Narrowing.{carried_in_columns, IsNarrowed}
 use Rattle.cpg_list.proofs.CodeCubes.{narrowed_none, narrowed_then}
 use Rattle.cpg_run.proofs.EntriesMerge.{the_one}
 
+-- a list that is mapped to nothing is empty
 no_element : {X : Type 0} (f : X → ℕ) (xs : List X) → map f xs ≡ [] → xs ≡ []
 no_element f [] e = refl
 no_element f (x ∷ xs) e = absurd (omega (arith, ap length e))

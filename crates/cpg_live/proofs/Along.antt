@@ -159,6 +159,7 @@ on_ok (Err x) e p = absurd (true≢false e)
 pub rest_few : (told : ℕ) (acts : List Act) → length (take (length acts - told) (drop told acts)) ≤ length acts
 rest_few told acts = omega (arith, length-take (length acts - told) (drop told acts), length-drop told acts)
 
+-- as many acts as aren't told yet, behind those that are, are all the others
 rest_is : (told : ℕ) (acts : List Act) → take (length acts - told) (drop told acts) ≡ drop told acts
 rest_is told acts = take_all (length acts - told) (drop told acts) (omega (arith, length-drop told acts))
 
@@ -279,12 +280,15 @@ along_open name past history now h table e = record {
 -- given a follower along a stream that has come to its end
 module _ (name : List ℕ) (past history : List Fetch) (start now : List ℕ) (f : Follower)
     (a : IsAlong name past history start now f) (ended : a.fetch.ended ≡ true) (old new : SinkState) where
+  -- the lines of all acts so far
   acts : List ℕ
   acts = act_lines f.head f.live.progress.acts
 
+  -- what has been fed is lawful
   lawful : (after f.table a.fetch.given).lawless ≡ None
   lawful = ap (λ (s : LiveState). s.lawless) (sym a.live) ∙ a.lawful
 
+  -- if the stream is closed, the lines so far and the closing one are the whole output
   all_closed : (time : ℕ) → outcome f.live ≡ Ok time → IsClosed f.head f.table a.fetch (acts ++ closed_line time)
   unfolding acts
   all_closed time e = subst (IsClosed f.head f.table a.fetch)

@@ -40,14 +40,17 @@ module _ (table : NodeTable) (most : ℕ) where
         );
       }
 
+  -- turns leave no more acts than entries
   turns_few : (n limit : ℕ) (p : NodeProgress) → HasFew p → HasFew (turns_below n limit p)
   unfolding turns_below
   turns_few zero limit p h = h
   turns_few (suc n) limit p h = turns_few n limit (turn_below limit p) (turn_few limit p h)
 
+  -- all turns below a limit leave no more acts than entries
   turned_few : (limit : ℕ) (p : NodeProgress) → HasFew p → HasFew (turned limit p)
   turned_few limit p h = turns_few limit limit p h
 
+  -- an event leaves no more acts than entries
   step_few : (time : ℕ) (event : Event) (p : NodeProgress) → HasFew p → HasFew (step time event p).progress
   step_few time (Arrival f) p h = go (is_strange (turned time p).dispatcher time f) (turned_few time p h)
     where
@@ -75,6 +78,7 @@ module _ (table : NodeTable) (most : ℕ) where
   settled_few s time event None h = h
   settled_few s time event (Some defect) h = h
 
+  -- an event that is judged leaves no more acts than entries
   judged_few : (s : LiveState) (time : ℕ) (event : Option Event) → HasFew s.progress →
       HasFew (judged s time event).progress
   judged_few s time None h = h
@@ -85,6 +89,7 @@ module _ (table : NodeTable) (most : ℕ) where
       go false = settled_few (record s { progress = (step time event s.progress).progress }) time event
           (step time event s.progress).fault (step_few time event s.progress h)
 
+  -- a record leaves no more acts than entries
   record_few : (s : LiveState) (bytes : List ℕ) → HasFew s.progress → HasFew (take_record s bytes).progress
   record_few s bytes h = go (is_some s.lawless) s.closed
     where
@@ -95,10 +100,12 @@ module _ (table : NodeTable) (most : ℕ) where
       go false true = h
       go false false = judged_few s (record_of bytes).time (event_of s.progress.dispatcher.table (record_of bytes)) h
 
+  -- records one after another leave no more acts than entries
   records_few : (s : LiveState) (rs : List (List ℕ)) → HasFew s.progress → HasFew (fold take_record s rs).progress
   records_few s [] h = h
   records_few s (r ∷ rs) h = records_few (take_record s r) rs (record_few s r h)
 
+  -- a rest leaves no more acts than entries
   rest_few : (s : LiveState) (rest : List ℕ) → HasFew s.progress → HasFew (with_rest s rest).progress
   rest_few s rest h = go (is_some s.lawless) (s.closed && nat_lt 0 (length rest))
     where

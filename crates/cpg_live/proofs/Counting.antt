@@ -21,6 +21,7 @@ pub record IsCounted (c : Cut) (count : ℕ) : Type 0 where
   pub part : length c.rest < 14
   pub all : count ≡ 14 * length c.whole + length c.rest
 
+-- one byte more is counted, in a record that it completes or in the rest
 byte_counted : (c : Cut) (byte count : ℕ) → IsCounted c count → IsCounted (cut_byte c byte) (count + 1)
 byte_counted c byte count h = go (length c.rest + 1 == 14) refl
   where
@@ -59,6 +60,7 @@ record IsTaken (s t : LiveState) : Type 0 where
   lawful : s.lawless ≡ None
   taken : t.taken ≡ min (s.taken + 1) (2 ^ 64 - 1)
 
+-- a state that was refused is bad
 refused_not : (s : LiveState) (defect : Defect) → (refused s defect).lawless ≡ None → ⊥
 refused_not s defect e = true≢false (ap is_some e)
 
@@ -82,6 +84,7 @@ judged_taken s time (Some event) e = go (nat_lt time s.time) e
     go false e = settled_taken s (record s { progress = (step time event s.progress).progress }) time event
         (step time event s.progress).fault refl refl e
 
+-- a record after which the state isn't bad was taken
 record_taken : (s : LiveState) (bytes : List ℕ) → (take_record s bytes).lawless ≡ None → IsTaken s (take_record s bytes)
 record_taken s bytes e = go (is_some s.lawless) s.closed refl e
   where
@@ -116,6 +119,7 @@ record HasRest (s t : LiveState) (rest : List ℕ) : Type 0 where
   taken : t.taken ≡ s.taken
   open_still : 0 < length rest → t.closed ≡ false
 
+-- a rest after which the state isn't bad was kept
 rest_taken : (s : LiveState) (rest : List ℕ) → (with_rest s rest).lawless ≡ None → HasRest s (with_rest s rest) rest
 rest_taken s rest e = go (is_some s.lawless) refl e
   where
@@ -135,6 +139,7 @@ rest_taken s rest e = go (is_some s.lawless) refl e
           open_still = λ some. absurd (true≢false (sym (lt-ltb 0 (length rest) some) ∙ b));
         }
 
+    -- a state that isn't found bad is lawful
     lawful_of : (o : Option LawlessRecord) → is_some o ≡ false → o ≡ None
     lawful_of None e = refl
     lawful_of (Some lawless) e = absurd (true≢false e)

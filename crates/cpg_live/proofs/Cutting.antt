@@ -29,6 +29,7 @@ settled_empty : (s : LiveState) (time : ℕ) (event : Event) (defect : Option De
 settled_empty s time event None e = e
 settled_empty s time event (Some defect) e = e
 
+-- judging an event leaves an empty rest empty
 judged_empty : (s : LiveState) (time : ℕ) (event : Option Event) → IsEmpty s → IsEmpty (judged s time event)
 judged_empty s time None e = e
 judged_empty s time (Some event) e = go (nat_lt time s.time)
@@ -38,6 +39,7 @@ judged_empty s time (Some event) e = go (nat_lt time s.time)
     go false = settled_empty (record s { progress = (step time event s.progress).progress }) time event
         (step time event s.progress).fault e
 
+-- taking a record leaves an empty rest empty
 record_empty : (s : LiveState) (bytes : List ℕ) → IsEmpty s → IsEmpty (take_record s bytes)
 record_empty s bytes e = go (is_some s.lawless) s.closed
   where
@@ -48,6 +50,7 @@ record_empty s bytes e = go (is_some s.lawless) s.closed
     go false true = e
     go false false = judged_empty s (record_of bytes).time (event_of s.progress.dispatcher.table (record_of bytes)) e
 
+-- taking records one after another leaves an empty rest empty
 records_empty : (s : LiveState) (rs : List (List ℕ)) → IsEmpty s → IsEmpty (fold take_record s rs)
 records_empty s [] e = e
 records_empty s (r ∷ rs) e = records_empty (take_record s r) rs (record_empty s r e)
@@ -84,6 +87,7 @@ lawless_byte s lawless rest bytes byte e =
     both true p q = p
     both false p q = q
 
+-- a rest with one byte more isn't empty
 some_length : (rest : List ℕ) (byte : ℕ) → 0 < length (rest ++ byte ∷ [])
 some_length rest byte = omega (arith, length-append rest (byte ∷ []))
 
@@ -98,12 +102,14 @@ closed_byte s rest byte e n c =
     both true p q = p
     both false p q = q
 
+    -- a record after the close is refused for its length
     taken : take_record s (rest ++ byte ∷ []) ≡ refused s Length
     taken = ap (λ b. cond b s (cond s.closed (refused s Length) (judged s (record_of (rest ++ byte ∷ [])).time
         (event_of s.progress.dispatcher.table (record_of (rest ++ byte ∷ [])))))) (ap is_some n)
         ∙ ap (λ b. cond b (refused s Length) (judged s (record_of (rest ++ byte ∷ [])).time
         (event_of s.progress.dispatcher.table (record_of (rest ++ byte ∷ []))))) c
 
+    -- a rest that isn't empty is refused after the close
     with_some : (r : List ℕ) → 0 < length r → with_rest s r ≡ refused s Length
     with_some r l =
         ap (λ b. cond b s (cond (s.closed && nat_lt 0 (length r)) (refused s Length) (record s { rest = r })))
@@ -111,9 +117,11 @@ closed_byte s rest byte e n c =
         ∙ ap (λ b. cond (b && nat_lt 0 (length r)) (refused s Length) (record s { rest = r })) c
         ∙ ap (λ b. cond b (refused s Length) (record s { rest = r })) (lt-ltb 0 (length r) l)
 
+    -- the rest with one byte more is refused
     longer : with_rest s (rest ++ byte ∷ []) ≡ refused s Length
     longer = with_some (rest ++ byte ∷ []) (some_length rest byte)
 
+    -- the rest, and then the byte, are refused too
     first : (r : List ℕ) → take_byte (with_rest s r) byte ≡ refused s Length
     first [] = ap (λ z. take_byte z byte) (no_rest s e)
         ∙ ap (λ b. cond b s (cond s.closed (refused s Length) (take_open s (s.rest ++ byte ∷ [])))) (ap is_some n)
@@ -136,10 +144,12 @@ open_byte s rest byte e n c =
         (ap is_some n)
         ∙ ap (λ b. cond (b && nat_lt 0 (length r)) (refused s Length) (record s { rest = r })) c
 
+    -- a record that a byte completes is taken, and leaves no rest
     whole : take_record (record s { rest = [] }) (rest ++ byte ∷ []) ≡ with_rest (take_record s (rest ++ byte ∷ [])) []
     whole = ap (λ (r : List ℕ). take_record (record s { rest = r }) (rest ++ byte ∷ [])) (sym e)
         ∙ sym (no_rest (take_record s (rest ++ byte ∷ [])) (record_empty s (rest ++ byte ∷ []) e))
 
+    -- whether the byte completes a record or not, both ways give one state
     both : (b : Bool) →
         cond b (take_record (record s { rest = [] }) (rest ++ byte ∷ [])) (record s { rest = rest ++ byte ∷ [] })
         ≡ cond b (with_rest (take_record s (rest ++ byte ∷ [])) [])

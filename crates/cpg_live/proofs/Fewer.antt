@@ -406,6 +406,7 @@ module _ (t : NodeTable) (made : IsTable t) where
         (next_turn n limit (turns_alike n limit) k h r l m a same p q g b)
   ]
 
+  -- all turns below a limit keep the two nodes alike
   turned_alike : (limit : ℕ) (P Q : NodeProgress) → Pair limit P Q → Pair limit (turned limit P) (turned_fewer limit Q)
   turned_alike limit P Q k =
       subst (λ P. Pair limit (turned limit P) (turned_fewer limit Q)) (sym k.one)
@@ -413,9 +414,11 @@ module _ (t : NodeTable) (made : IsTable t) where
       (turns_alike limit limit limit k.heard k.runs k.l k.m k.acts k.alike (omega arith)
       (omega arith) k.before k.later))
 
+  -- a later time is after the last turn too
   after_more : (l : Option ℕ) (x y : ℕ) → x ≤ y → is_after l x ≡ true → is_after l y ≡ true
   after_more l x y le h = after_floor l y (let f = floor_after l x h in omega (arith, le, f))
 
+  -- nodes that are alike up to a time are alike up to a later one
   pair_later : (x y : ℕ) (P Q : NodeProgress) → x ≤ y → Pair x P Q → Pair y P Q
   pair_later x y P Q le k =
       record {

@@ -15,9 +15,11 @@ use Rattle.cpg_live.specs.Stream.{take_record}
 use Rattle.cpg_live.specs.Feeding.{take_open, take_byte, take_bytes}
 use Rattle.cpg_live.specs.Laws.{Grows}
 
+-- acts grow by nothing
 same : (xs : List Act) → Grows xs xs
 same xs = ([], sym (append-nil xs))
 
+-- what grows twice has grown
 grow_on : (xs ys zs : List Act) → Grows xs ys → Grows ys zs → Grows xs zs
 grow_on xs ys zs p q = (p.0 ++ q.0, q.1 ∙ ap (λ (l : List Act). l ++ q.0) p.1 ∙ append_assoc xs p.0 q.0)
 
@@ -26,6 +28,7 @@ turn_grows : (p : NodeProgress) (o : Option ℕ) → Grows p.acts (turn_if p o).
 turn_grows p None = same p.acts
 turn_grows p (Some time) = (acts_of_turn p.dispatcher time [] [], refl)
 
+-- turns add acts alone
 turns_grow : (n limit : ℕ) (p : NodeProgress) → Grows p.acts (turns_below n limit p).acts
 unfolding turns_below
 turns_grow zero limit p = same p.acts
@@ -33,9 +36,11 @@ turns_grow (suc n) limit p = grow_on p.acts (turn_below limit p).acts (turns_bel
     (turn_grows p (instant_below limit (next p.dispatcher)))
     (turns_grow n limit (turn_below limit p))
 
+-- all turns below a limit add acts alone
 turned_grows : (limit : ℕ) (p : NodeProgress) → Grows p.acts (turned limit p).acts
 turned_grows limit p = turns_grow limit limit p
 
+-- an event adds acts alone
 step_grows : (time : ℕ) (event : Event) (p : NodeProgress) → Grows p.acts (step time event p).progress.acts
 step_grows time (Arrival f) p = go (is_strange (turned time p).dispatcher time f)
   where
@@ -63,6 +68,7 @@ settled_acts : (s : LiveState) (time : ℕ) (event : Event) (defect : Option Def
 settled_acts s time event None = refl
 settled_acts s time event (Some defect) = refl
 
+-- an event that is judged adds acts alone, whether it is taken or refused
 judged_grows : (s : LiveState) (time : ℕ) (event : Option Event) →
     Grows s.progress.acts (judged s time event).progress.acts
 judged_grows s time None = same s.progress.acts
@@ -79,6 +85,7 @@ judged_grows s time (Some event) = go (nat_lt time s.time)
               (step time event s.progress).fault ∙ g.1,
         )
 
+-- a record adds acts alone
 record_grows : (s : LiveState) (bytes : List ℕ) → Grows s.progress.acts (take_record s bytes).progress.acts
 record_grows s bytes = go (is_some s.lawless) s.closed
   where
@@ -89,6 +96,7 @@ record_grows s bytes = go (is_some s.lawless) s.closed
     go false true = same s.progress.acts
     go false false = judged_grows s (record_of bytes).time (event_of s.progress.dispatcher.table (record_of bytes))
 
+-- bytes that may be a record add acts alone
 open_grows : (s : LiveState) (bytes : List ℕ) → Grows s.progress.acts (take_open s bytes).progress.acts
 open_grows s bytes = go (length bytes == 14)
   where
@@ -98,6 +106,7 @@ open_grows s bytes = go (length bytes == 14)
     go true = record_grows (record s { rest = [] }) bytes
     go false = same s.progress.acts
 
+-- a byte adds acts alone
 byte_grows : (s : LiveState) (byte : ℕ) → Grows s.progress.acts (take_byte s byte).progress.acts
 byte_grows s byte = go (is_some s.lawless) s.closed
   where

@@ -27,6 +27,7 @@ module _ (time : ℕ) where
   abbrev IsReady : Dispatcher → Type 0
   IsReady d = instant_below time (next d) ≡ None
 
+  -- a time that isn't below the limit is left
   left : (o : Option ℕ) → IfSome o (λ t. time ≤ t) → instant_below time o ≡ None
   left None h = refl
   left (Some t) h = ap (λ b. cond b (Some t) None) (le-ltb t time h)
@@ -47,6 +48,7 @@ module _ (time : ℕ) where
       no : true ≡ false → ⊥
       no e = subst (λ b. cond b Unit ⊥) e tt
 
+  -- the progress with another state of the node
   abbrev with_node : NodeProgress → Dispatcher → NodeProgress
   with_node p d = record { dispatcher = d; acts = p.acts }
 
@@ -67,6 +69,7 @@ module _ (time : ℕ) where
         ∙ ap (λ b. (cond b (faulty p StrangeFrame) (lawful (with_node p (hear p.dispatcher f)))).fault) strange))
   ]
 
+  -- an end as an event
   abbrev end_of : Ended → Event
   end_of e = Ending e.process e.faults e.value
 
@@ -87,6 +90,7 @@ module _ (time : ℕ) where
         ∙ ap (λ b. (cond b (lawful (with_node p (finished p.dispatcher e))) (faulty p FalseEnd)).fault) wrong))
   ]
 
+  -- an end leaves a node ready
   still_ready : (d : Dispatcher) (e : Ended) → IsReady d → IsReady (finished d e)
   still_ready d e r = ap (instant_below time) (next_same d e) ∙ r
 

@@ -32,10 +32,12 @@ number_8 : (n : ℕ) → n < 2 ^ 64 → big_number 8 (big_bytes 8 n) ≡ n
 number_8 n fits = let same : big_number 8 (to_be_bytes w64 n) ≡ from_be_bytes w64 (to_be_bytes w64 n) = omega arith in
     same ∙ from_be_bytes-to_be_bytes_8 n fits
 
+-- two bytes give back the number that they were made of
 number_2 : (n : ℕ) → n < 2 ^ 16 → big_number 2 (big_bytes 2 n) ≡ n
 number_2 n fits = let same : big_number 2 (to_be_bytes w16 n) ≡ from_be_bytes w16 (to_be_bytes w16 n) = omega arith in
     same ∙ from_be_bytes-to_be_bytes_2 n fits
 
+-- the bytes of a record give back the record
 numbers : (r : Record) → r.time < 2 ^ 64 → r.item < 2 ^ 16 → r.number < 2 ^ 16 → record_of (record_bytes r) ≡ r
 numbers r t i n = λ j. record {
   kind = r.kind;
@@ -45,11 +47,13 @@ numbers r t i n = λ j. record {
   value = r.value;
 }
 
+-- the item of an event that has room fits two bytes
 item_fits : (table : NodeTable) (e : Event) → HasRoom table e → item_of e < 2 ^ 16
 item_fits table (Arrival f) h = h.0
 item_fits table (Ending process faults value) h = h.0
 item_fits table Close h = omega arith
 
+-- the number of an event that has room fits two bytes
 number_fits : (table : NodeTable) (e : Event) → HasRoom table e → number_of e < 2 ^ 16
 number_fits table (Arrival f) h = h.1
 number_fits table (Ending process faults value) h = h.1
@@ -96,6 +100,7 @@ arrived_table time f p = go (is_strange p.dispatcher time f)
     go true = refl
     go false = refl
 
+-- an end leaves the table as it is
 ended_table : (time : ℕ) (e : Ended) (p : NodeProgress) →
     (ended time e p).progress.dispatcher.table ≡ p.dispatcher.table
 ended_table time e p = go (may_end p.dispatcher time e)

@@ -24,6 +24,7 @@ use Rattle.cpg_live.proofs.Turns.{turned_after}
 pub at_some : (o : Option ℕ) (t : ℕ) (P : ℕ → Type 0) → o ≡ Some t → IfSome o P → P t
 at_some o t P e h = subst (λ o. IfSome o P) e h
 
+-- a node with its acts, as progress
 abbrev progress_at : Dispatcher → List Act → NodeProgress
 progress_at d acts = record { dispatcher = d; acts = acts }
 
@@ -68,6 +69,7 @@ pub record Unreported (o : Option Running) (time duration : ℕ) : Type 0 where
   pub started : run.start < time
   pub in_time : time ≤ run.start + duration
 
+-- what is found to be missing is missing
 none_is : {A : Type 0} (o : Option A) → is_none o ≡ true → o ≡ None
 none_is None e = refl
 none_is (Some x) e = absurd (true≢false (sym e))
@@ -88,6 +90,7 @@ unreported d time e (Some run) h =
       in_time = leb-true time (run.start + time_of d e.process e.faults) a.1;
     }
 
+-- without a condition the value has to be false
 plain_is : (o : Option ℕ) (value : Bool) → (is_some o || not value) ≡ true → o ≡ None → value ≡ false
 plain_is None true h e = absurd (true≢false (sym h))
 plain_is None false h e = refl
@@ -127,6 +130,7 @@ arrived_after time f p h = go (is_strange p.dispatcher time f)
     go true = h
     go false = h
 
+-- after an end the last turn is still before the time
 ended_after : (time : ℕ) (e : Ended) (p : NodeProgress) → is_after p.dispatcher.last time ≡ true →
     is_after (ended time e p).progress.dispatcher.last time ≡ true
 ended_after time e p h = go (may_end p.dispatcher time e)

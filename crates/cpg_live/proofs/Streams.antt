@@ -60,16 +60,19 @@ acts_more table fed more =
 
 -- ---- how it ends
 
+-- a bad state ends the stream as lawless
 end_lawless : (s : LiveState) (count : ℕ) (lawless : LawlessRecord) → s.lawless ≡ Some lawless →
     end_of s count ≡ Err (Lawless lawless)
 end_lawless s count lawless e =
     ap (λ o. cond (is_none o && nat_lt STREAM_LIMIT count) (Err Long) (end_by (outcome_if s o))) e
 
+-- bytes beyond the limit end it as too long
 end_long : (s : LiveState) (count : ℕ) → s.lawless ≡ None → STREAM_LIMIT < count → end_of s count ≡ Err Long
 end_long s count e l =
     ap (λ o. cond (is_none o && nat_lt STREAM_LIMIT count) (Err Long) (end_by (outcome_if s s.lawless))) e
     ∙ ap (λ b. cond b (Err Long) (end_by (outcome_if s s.lawless))) (lt-ltb STREAM_LIMIT count l)
 
+-- otherwise it ends by what the state says
 end_short : (s : LiveState) (count : ℕ) → s.lawless ≡ None → count ≤ STREAM_LIMIT → end_of s count ≡ end_by (outcome s)
 end_short s count e l =
     ap (λ o. cond (is_none o && nat_lt STREAM_LIMIT count) (Err Long) (end_by (outcome_if s s.lawless))) e
@@ -90,6 +93,7 @@ lines_of : (h : Head) (table : NodeTable) (bytes : List ℕ) (s : LiveState) (en
     stream_lines h table bytes ≡ act_lines h s.progress.acts ++ close_of ends
 lines_of h table bytes s ends same e = ap₂ (λ (t : LiveState) r. act_lines h t.progress.acts ++ close_of r) same e
 
+-- a fault that is there isn't missing
 some_none : (lawless : LawlessRecord) → Some lawless ≡ None → ⊥
 some_none lawless e = true≢false (sym (ap is_none e))
 
@@ -100,6 +104,7 @@ module _ (h : Head) (table : NodeTable) (fetch : Fetch) (sound : fetch.failed �
   read_all : read_part fetch.given ≡ fetch.given
   read_all = take_all (STREAM_LIMIT + 1) fetch.given few
 
+  -- the end of the stream is that of all that was given
   ends_as : stream_end table fetch.given ≡ end_of (after table fetch.given) (length fetch.given)
   ends_as = ap (λ bytes. end_of (after table bytes) (length bytes)) read_all
 
@@ -144,6 +149,7 @@ module _ (h : Head) (table : NodeTable) (fetch : Fetch) (sound : fetch.failed �
   -- at its end
   module _ (ended : fetch.ended ≡ true) (lawful : (after table fetch.given).lawless ≡ None)
       (short : length fetch.given ≤ STREAM_LIMIT) where
+    -- a lawful stream within the limit ends by its state
     ends_short : stream_end table fetch.given ≡ end_by (outcome (after table fetch.given))
     ends_short = ends_as ∙ end_short (after table fetch.given) (length fetch.given) lawful short
 

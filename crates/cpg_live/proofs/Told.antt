@@ -29,6 +29,7 @@ further (suc n) x y p le = elim (below_or_not x (next p.dispatcher)) [
       ∙ ap (λ c. cond c (Some b.time) None) (lt-ltb b.time y (omega (arith, b.less, le))))
 ]
 
+-- a node with its acts, as progress
 abbrev at : Dispatcher → List Act → NodeProgress
 at d acts = record { dispatcher = d; acts = acts }
 
@@ -42,10 +43,12 @@ module _ (time : ℕ) (acts : List Act) where
   Holds : ℕ → NodeProgress → Dispatcher → Type 0
   Holds from p d = (r : ℕ) → from ≤ r → r ≤ time → turned r p ≡ at d acts
 
+  -- a node that comes to the time at its next turn is there by itself
   itself : (from : ℕ) (d : Dispatcher) → next d ≡ Some time → Holds from (at d acts) d
   unfolding Holds
   itself from d e r le most = turned_last r (at d acts) (none_before d time r e most)
 
+  -- a node on a stream that has come to a play's state stays there up to the time
   come : (p : NodeProgress) (d : Dispatcher) → HasCome p d acts → next d ≡ Some time → Holds (after_last d.last) p d
   unfolding Holds
   come p d h e r le most = sym (further (after_last d.last) (after_last d.last) r p le) ∙ ap (turned r) h
@@ -59,6 +62,7 @@ module _ (time : ℕ) (acts : List Act) where
     within : from ≤ time
     hold : Holds from s.progress d
 
+  -- an end that may be is found to be possible
   may_end_is : (d : Dispatcher) (moment : ℕ) (e : Ended) → MayFinish d moment e → may_end d moment e ≡ true
   may_end_is d moment e m = and_from (may_tell d e) (may_end_now d moment e (running_of d e.process))
       (and_from (nat_le e.faults d.table.faults) _ (le-leb e.faults d.table.faults m.few)

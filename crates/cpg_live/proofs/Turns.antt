@@ -23,6 +23,7 @@ pub after_floor : (last : Option ℕ) (t : ℕ) → after_last last ≤ t → is
 after_floor None t h = refl
 after_floor (Some l) t h = lt-ltb l t (omega arith)
 
+-- the next instant isn't before what follows the last turn
 next_floor : (d : Dispatcher) (t : ℕ) → next d ≡ Some t → after_last d.last ≤ t
 next_floor d t e = floor_after d.last t (next_is d t e).after
 

@@ -15,6 +15,7 @@ use Rattle.std.proofs.lemmas.Str.Parse.{digit_from_value}
 use Rattle.cpg_base.proofs.Lists.{list_any_false}
 use Rattle.cpg_log.specs.Lines.{IsParted, lines, with_byte}
 
+-- bytes are parted at a place of the byte, if the byte isn't before it
 parts_at : (byte : ℕ) (xs : List ℕ) (i : ℕ) → i < length xs → (get_or xs i 0 == byte) ≡ true →
     ((k : ℕ) → k < i → (get_or xs k 0 == byte) ≡ false) →
     IsParted byte xs (take i xs) (drop (suc i) xs)
@@ -76,6 +77,7 @@ same_parts byte (x ∷ d) (y ∷ e) t u h k is =
     let r = same_parts byte d e t u (or_parts (x == byte) _ h).1 (or_parts (y == byte) _ k).1 (ap (drop 1) is) in
     ((λ i. ap (λ ys. get_or ys 0 0) is i ∷ r.0 i), r.1)
 
+-- digits have no space among them
 spaceless : (ds : List ℕ) → AllDigits 10 ds → list_any (λ b. b == 32) ds ≡ false
 spaceless [] d = refl
 spaceless (c ∷ cs) d = or_from (c == 32) (list_any (λ b. b == 32) cs)

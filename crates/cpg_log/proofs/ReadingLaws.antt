@@ -50,6 +50,7 @@ unlogged (m ∷ ls) x e k d l = elim (cases_eq m.item x) [
     at rest other zero l = other
     at rest other (suc j) l = rest j d (omega arith)
 
+-- a property of all elements and of one more holds of the longer list
 all_push : {X : Type 0} (P : X → Type 0) (xs : List X) (y : X) → All P xs → P y → All P (xs ++ y ∷ [])
 all_push P [] y h p zero d l = p
 all_push P [] y h p (suc k) d l = absurd (omega arith)
@@ -66,14 +67,17 @@ log_more g log act is may = record {
       (λ k d l. unlogged log.acts act.item may.new k d l);
 }
 
+-- the front of a list that has something appended is the list
 take_front : {X : Type 0} (xs ys : List X) → take (length xs) (xs ++ ys) ≡ xs
 take_front [] ys = refl
 take_front (x ∷ xs) ys = ap (λ zs. x ∷ zs) (take_front xs ys)
 
+-- two lists together are as long as both
 long_front : {X : Type 0} (xs ys : List X) → length (xs ++ ys) ≡ length xs + length ys
 long_front [] ys = omega arith
 long_front (x ∷ xs) ys = omega (arith, long_front xs ys)
 
+-- an element between two lists belongs to either
 shifted : {X : Type 0} (xs : List X) (y : X) (ys : List X) → xs ++ y ∷ ys ≡ (xs ++ y ∷ []) ++ ys
 shifted [] y ys = refl
 shifted (x ∷ xs) y ys = ap (λ zs. x ∷ zs) (shifted xs y ys)
@@ -94,6 +98,7 @@ module _ (g : Graph) (ls : List (List ℕ)) (log : Log) (rest : List ℕ) (is : 
 
 -- ---- a line that makes no log
 
+-- equal lists of lines have equal first lines
 head_of_cons : (a b : List ℕ) (xs ys : List (List ℕ)) → a ∷ xs ≡ b ∷ ys → a ≡ b
 head_of_cons a b xs ys e = ap (λ zs. get_or zs 0 []) e
 
@@ -109,6 +114,7 @@ lack_bad g ls lack = record { none = λ log is e. at ls lack log is.until e; bef
 -- the acts of lines that begin with those of a log
 module _ (g : Graph) (limits : IsWithinLimits g) (named : HaveNames g (item_count g)) (until later : ℕ)
     (early : until < 2 ^ 60) (soon : later < 2 ^ 60) (line : List ℕ) where
+  -- acts whose lines are those of others and one line more are these others and one act of that line
   one_more : (xs ys : List Logged) → All (IsActBy g later) xs → All (IsActBy g until) ys →
       map (act_line g) xs ≡ map (act_line g) ys ++ line ∷ [] →
       (l : Logged) × (xs ≡ ys ++ l ∷ []) ×
@@ -159,9 +165,11 @@ module _ (g : Graph) (limits : IsWithinLimits g) (named : HaveNames g (item_coun
       long : length (log_lines g log) ≡ suc (length log.acts)
       long = ap suc (length-map log.acts (act_line g))
 
+      -- the lines are those of the log so far, the odd one, and the rest
       whole : ls ≡ (log_lines g log ++ odd.line ∷ []) ++ lines odd.rest
       whole = spelled ∙ ap (λ xs. log_lines g log ++ xs) odd.first ∙ shifted (log_lines g log) odd.line (lines odd.rest)
 
+      -- the front up to the odd line
       with_line : take (length (log_lines g log ++ odd.line ∷ [])) ls ≡ log_lines g log ++ odd.line ∷ []
       with_line = ap (take (length (log_lines g log ++ odd.line ∷ []))) whole
           ∙ take_front (log_lines g log ++ odd.line ∷ []) (lines odd.rest)
@@ -182,6 +190,7 @@ module _ (g : Graph) (limits : IsWithinLimits g) (named : HaveNames g (item_coun
 
 -- ---- a log's file has no bad line
 
+-- entries that name different items do so still if only the first are taken
 apart_take : (ls : List Logged) (n : ℕ) → AllPairs (λ (a b : Logged). a.item ≢ b.item) ls →
     AllPairs (λ (a b : Logged). a.item ≢ b.item) (take n ls)
 apart_take ls n pairs i j d a b e =

@@ -25,6 +25,7 @@ use Rattle.cpg_log.specs.Log.{Logged, IsActBy, is_act, act_text, act_line}
 use Rattle.cpg_log.specs.Reading.{HaveNames}
 use Rattle.cpg_log.proofs.LineLaws.{same_parts, decimal_spaceless}
 
+-- one part of a disjunction is true
 or_cases : (a b : Bool) → (a || b) ≡ true → (a ≡ true) ⊎ (b ≡ true)
 or_cases true b e = inl refl
 or_cases false b e = inr e
@@ -58,6 +59,7 @@ names_more g n h name x l = elim (cases_lt x n) [
 
 -- ---- no two items have one text
 
+-- a name has no space
 name_spaceless : (bytes : List ℕ) → IsName bytes → list_any (λ b. b == 32) bytes ≡ false
 name_spaceless bytes name = list_any_false (λ b. b == 32) bytes (λ b c. ne_eqb b 32 (λ e.
     let plain : is_name_byte b ≡ true = All-contains (λ b. is_name_byte b ≡ true) bytes b name.plain c in
@@ -68,6 +70,7 @@ pub spaced : (a t : List ℕ) → a ++ codes " " ++ t ≡ a ++ 32 ∷ t
 spaced a t = append_assoc a (32 ∷ []) t
 
 module _ (g : Graph) (limits : IsWithinLimits g) where
+  -- two processes of one name are one
   same_process : (p q : ℕ) → p < process_count g → q < process_count g → (process_at g p).name ≡ (process_at g q).name →
       p ≡ q
   same_process p q l h e = elim (cases_order p q) [
@@ -76,10 +79,12 @@ module _ (g : Graph) (limits : IsWithinLimits g) where
     | inr (inr above) ↦ absurd (limits.process_names q p _ above l (sym e))
   ]
 
+  -- two processes with one label are one
   same_label : (p q : ℕ) → p < process_count g → q < process_count g →
       process_name (labels_of g) p ≡ process_name (labels_of g) q → p ≡ q
   same_label p q l h e = same_process p q l h (sym (process_called g p) ∙ e ∙ process_called g q)
 
+  -- two conditions with one name are one
   same_teller : (c d : ℕ) → c < condition_count g → d < condition_count g →
       condition_name (labels_of g) c ≡ condition_name (labels_of g) d → c ≡ d
   same_teller c d l h e = same_condition g c d l h

@@ -7,6 +7,7 @@ use Rattle.cpg_base.proofs.Lists.{Contains-cases, Contains-nil}
 use Rattle.cpg_cube.specs.declared.literal.Literal.{Literal}
 use Rattle.cpg_merging.specs.Totals.{HasNoPartner}
 
+-- each literal allows all numbers from 0 on
 abbrev pub AllAtZero : List Literal → Type 0
 AllAtZero ls = list_all (λ (l : Literal). l.low == 0) ls ≡ true
 

@@ -26,15 +26,18 @@ same_low : (l : Literal) (xs ys : List Literal) (v : ℕ) → low_in xs v ≡ lo
     low_in (l ∷ xs) v ≡ low_in (l ∷ ys) v
 same_low l xs ys v e = ap (λ n. cond (l.variable == v) l.low n) e
 
+-- two cubes with equal highs have so behind one more literal
 same_high : (k : ℕ) (l : Literal) (xs ys : List Literal) (v : ℕ) → high_in k xs v ≡ high_in k ys v →
     high_in k (l ∷ xs) v ≡ high_in k (l ∷ ys) v
 same_high k l xs ys v e = ap (λ n. cond (l.variable == v) l.high n) e
 
 -- ---- the literals but those of the whole range
 
+-- a literal of the whole range begins at 0
 whole-low : (k : ℕ) (l : Literal) → is_whole k l ≡ true → l.low ≡ 0
 whole-low k l e = eqb-true l.low 0 (and_parts (l.low == 0) (l.high == top k l.variable) e).0
 
+-- a literal of the whole range ends at the top
 whole-high : (k : ℕ) (l : Literal) → is_whole k l ≡ true → l.high ≡ top k l.variable
 whole-high k l e = eqb-true l.high (top k l.variable) (and_parts (l.low == 0) (l.high == top k l.variable) e).1
 
@@ -42,6 +45,7 @@ whole-high k l e = eqb-true l.high (top k l.variable) (and_parts (l.low == 0) (l
 rest-low : (l : Literal) (ls : List Literal) → IsRising (l ∷ ls) → low_in ls l.variable ≡ 0
 rest-low l ls r = low_in-none ls l.variable (λ m c e. let h = rising_first l m ls r c in omega arith)
 
+-- behind a literal none is on its variable, so the high there is the top
 rest-high : (k : ℕ) (l : Literal) (ls : List Literal) → IsRising (l ∷ ls) → high_in k ls l.variable ≡ top k l.variable
 rest-high k l ls r = high_in-none k ls l.variable (λ m c e. let h = rising_first l m ls r c in omega arith)
 
@@ -62,6 +66,7 @@ module _ (k : ℕ) where
       ap₂ (λ cube rest. record { time = c.time; cube = cube } ∷ rest) (cube_kept c.cube parts.0)
       (columns_kept cs parts.1)
 
+  -- columns without literals of the whole range stay as they are
   pub tidy_kept : (columns : List Column) → HaveNoWhole k columns → all_shorn k columns ≡ columns
   tidy_kept columns h = columns_kept columns (list_any_none (λ c. list_any (is_whole k) c.cube) columns
       (All-weaker (λ c. All (λ l. is_whole k l ≡ false) c.cube) (λ c. list_any (is_whole k) c.cube ≡ false)
@@ -76,6 +81,7 @@ module _ (k : ℕ) where
       (λ (n : l.variable ≢ v). sym (low_in-later l ls v n))
       (cases_eq l.variable v)
 
+  -- leaving out a literal of the whole range changes no high
   left_out-high : (l : Literal) (ls : List Literal) (v : ℕ) → IsRising (l ∷ ls) → is_whole k l ≡ true →
       high_in k ls v ≡ high_in k (l ∷ ls) v
   left_out-high l ls v r w = ⊎_elim
@@ -127,6 +133,7 @@ module _ (v : ℕ) where
       go true e ih = ih ∙ sym (high_in-later k l ls u (λ i. n (sym i ∙ eqb-true l.variable v e)))
       go false e ih = same_high k l (without v ls) ls u ih
 
+  -- no literal that is left is on the variable left out
   not_there : (cube : List Literal) (l : Literal) → Contains (without v cube) l → l.variable ≢ v
   not_there cube l c = eqb-false l.variable v
       (not-true (l.variable == v) (Contains-filter_parts (λ m. not (m.variable == v)) cube l c).1)
@@ -135,18 +142,22 @@ module _ (v : ℕ) where
   pub without-low_here : (cube : List Literal) → low_in (without v cube) v ≡ 0
   without-low_here cube = low_in-none (without v cube) v (not_there cube)
 
+  -- the high of that variable is the top
   pub without-high_here : (k : ℕ) (cube : List Literal) → high_in k (without v cube) v ≡ top k v
   without-high_here k cube = high_in-none k (without v cube) v (not_there cube)
 
   -- ---- a range raised
 
   module _ (high : ℕ) where
+    -- the literal with the new high
     abbrev with_high : Literal → Literal
     with_high l = record { variable = l.variable; low = l.low; high = high }
 
+    -- the literal with the new high, if it is on the variable
     abbrev raise : Literal → Literal
     raise l = cond (l.variable == v) (with_high l) l
 
+    -- raising leaves a literal on its variable
     raise-variable : (l : Literal) → (raise l).variable ≡ l.variable
     raise-variable l = go (l.variable == v)
       where
@@ -197,6 +208,7 @@ module _ (v : ℕ) where
         (λ (l m : Literal). l.variable < m.variable) raise cube
         (λ l m h. let a = raise-variable l in let b = raise-variable m in omega arith) r
 
+    -- what holds of all variables does so still
     pub raised-all : (P : ℕ → Type 0) (cube : List Literal) → All (λ l. P l.variable) cube →
         All (λ l. P l.variable) (raised v high cube)
     raised-all P cube a = All-map (λ l. P l.variable) raise cube
@@ -255,6 +267,7 @@ All-from_each xs h = λ k d l. h (get_or xs k d) (Contains-get_or xs k d l)
 
 -- ---- the literals before one of a rising cube have lower variables
 
+-- the literals before a place are on lower variables
 before_next : (cube : List Literal) (i : ℕ) (d : Literal) → IsRising cube → i < length cube →
     All (λ l. l.variable < (get_or cube i d).variable) (take i cube)
 before_next cube i d r h = λ k e l.

@@ -66,6 +66,7 @@ all_agree ns up near m n a b same =
 same_asked : (t a b : ℕ) → a < 256 → b < 256 → (t * 256 % 2 ^ 64 + a) % 2 ^ 64 ≡ (t * 256 % 2 ^ 64 + b) % 2 ^ 64 → a ≡ b
 same_asked t a b h k e = omega (arith, h, k, e)
 
+-- demands of one time are equal when divided by 256, whatever is asked
 same_time : (t a b : ℕ) → a < 256 → b < 256 →
     (t * 256 % 2 ^ 64 + a) % 2 ^ 64 / 256 ≡ (t * 256 % 2 ^ 64 + b) % 2 ^ 64 / 256
 same_time t a b h k = omega (arith, h, k)

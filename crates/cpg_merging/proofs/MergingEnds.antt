@@ -49,6 +49,7 @@ speaks k (l ∷ ls) v = ⊎_elim
     (speaks k ls v))
     (cases_eq l.variable v)
 
+-- a variable with a low above 0 is one of the graph
 known_by_low : (g : Graph) (cube : List Literal) (v : ℕ) → IsCube g cube → 0 < low_in cube v → IsVariable g v
 known_by_low g cube v is h = ⊎_elim
     (λ (r : (m : Literal) × Contains cube m × (m.variable ≡ v)).
@@ -58,6 +59,7 @@ known_by_low g cube v is h = ⊎_elim
 
 -- ---- one column of those that match
 
+-- a list of at most one element has no two
 one_element : {X : Type 0} (xs : List X) (x y : X) → length xs ≤ 1 → Contains xs x → Contains xs y → x ≡ y
 one_element [] x y h c d = absurd (Contains-nil x c)
 one_element (z ∷ []) x y h c d = ⊎_elim
@@ -105,6 +107,7 @@ at_number (x ∷ xs) (ℕ.suc i) c d e = at_number xs i c d e
 module _ (g : Graph) (few : process_count g ≤ 128) (order : List ℕ)
     (all : IsPermutation (numbers_below (process_count g)) order)
     (columns : List Column) (good : AreGood g columns) (single : AreSingle g columns) where
+  -- the cube of each column is good
   good_at : (c : Column) → Contains columns c → IsGood g c.cube
   good_at c m = All-contains (λ (x : Column). IsGood g x.cube) columns c good m
 

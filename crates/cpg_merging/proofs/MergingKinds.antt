@@ -70,8 +70,10 @@ module _ (g : Graph) (few : process_count g ≤ 128) (faults : g.faults ≤ 8) (
       let low_c = low-le-high k c.cube good_c.met v in
       let low_d = low-le-high k d.cube good_d.met v in
       let high_d = high_in-top k d.cube (λ i e l. (good_d.narrow i e l).1) v in
+      -- each cube has a literal on the variable
       let lc : Contains c.cube (of_range k c.cube v) = spoken k c.cube v (inr (omega (arith, next, low_d, high_d))) in
       let ld : Contains d.cube (of_range k d.cube v) = spoken k d.cube v (inl (omega (arith, next))) in
+      -- so its lows, its number of literals and its variables are those of the others and of this one
       let sum_c : sum_by low_of c.cube ≡ sum_by low_of (without v c.cube) + low_in c.cube v =
       sum_parts low_of v c.cube good_c.cube.rising (of_range k c.cube v) lc refl in
       let sum_d : sum_by low_of d.cube ≡ sum_by low_of (without v d.cube) + low_in d.cube v =
@@ -84,6 +86,7 @@ module _ (g : Graph) (few : process_count g ≤ 128) (faults : g.faults ≤ 8) (
       sum_parts variable_of v d.cube good_d.cube.rising (of_range k d.cube v) ld refl in
       let count_d : sum_by one_of d.cube ≡ sum_by one_of (without v d.cube) + 1 =
       sum_parts one_of v d.cube good_d.cube.rising (of_range k d.cube v) ld refl in
+      -- the other literals are the same, so the kinds are equal, and the lows differ
       let others = same_without g few v known c.cube d.cube good_c good_d touch.others in (
         numbers c.time d.time (length c.cube) (length d.cube) (sum_by variable_of c.cube)
             (sum_by variable_of d.cube) same
@@ -117,13 +120,16 @@ module _ (g : Graph) (few : process_count g ≤ 128) (faults : g.faults ≤ 8) (
   -- `xs`, `good`: the columns; `c`, `d`, `m`, `n`, `same`: two of them with one time; `touch`: they touch at v
   module _ (xs : List Column) (good : AreGood g xs) (c d : Column) (m : Contains xs c) (n : Contains xs d)
       (same : c.time ≡ d.time) (touch : TouchAt g.faults v c.cube d.cube) where
+    -- the cube of each column is good
     good_in : (x : Column) → Contains xs x → IsGood g x.cube
     good_in x h = All-contains (λ (y : Column). IsGood g y.cube) xs x good h
 
+    -- two columns that touch are both candidates
     both_held : (ys : List Column) → HoldCandidates xs ys → Contains ys c × Contains ys d
     both_held ys hold = let kinds = touch_kinds c d (good_in c m) (good_in d n) same touch in
         hold c d m n kinds.0 kinds.1
 
+    -- two columns don't touch if no variable is marked
     touch_held : (ys : List Column) → HoldCandidates xs ys → (marks : List Bool) →
         AreMarkedBy (map total_of ys) marks ys → ¬ IsMarked marks v → ⊥
     touch_held ys hold marks all off =

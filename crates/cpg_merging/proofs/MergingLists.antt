@@ -122,6 +122,7 @@ module _ (g : Graph) (few : process_count g ≤ 128) (v : ℕ) (known : IsVariab
   -- given: two good columns, the second of which follows the first
   module _ (c d : Column) (good_c : IsGood g c.cube) (good_d : IsGood g d.cube)
       (h : is_followed g.faults v c d ≡ true) where
+    -- the two columns touch at the variable
     touch : TouchAt g.faults v c.cube d.cube
     touch = touch_of g.faults v c d h
 
@@ -134,6 +135,7 @@ module _ (g : Graph) (few : process_count g ≤ 128) (v : ℕ) (known : IsVariab
     -- `times`: in each scenario the joined column matches exactly where c or d does, at their time. `held`: c and d
     -- lie within the joined column, any other column within itself
     joins_two ds = record {
+      -- the times are the same: the joined column matches what either of the two matches
       times = λ s i.
           times_first (joined g.faults v c d) ds s
           ∙ times_of_one c.time (times_in ds s) (matches c.cube s) (matches d.cube s)
@@ -147,6 +149,7 @@ module _ (g : Graph) (few : process_count g ≤ 128) (v : ℕ) (known : IsVariab
           (time_of g.faults v c d h)
           ∙ ap (λ ts. cond (matches c.cube s) (c.time ∷ ts) ts) (sym (times_first d ds s))
           ∙ sym (times_first c (d ∷ ds) s);
+      -- each column from before lies within one of those after: the first and the second within the joined one
       held = λ e m. ⊎_elim
           (λ (x : c ≡ e). (
             joined g.faults v c d,
@@ -189,6 +192,7 @@ module _ (g : Graph) (few : process_count g ≤ 128) (v : ℕ) (known : IsVariab
       good_c : IsGood g c.cube
       good_c = All-head (λ (x : Column). IsGood g x.cube) c (d ∷ ds) a
 
+      -- the second column's cube is good
       good_d : IsGood g d.cube
       good_d = All-head (λ (x : Column). IsGood g x.cube) d ds (All-tail (λ (x : Column). IsGood g x.cube) c (d ∷ ds) a)
 

@@ -51,6 +51,7 @@ pub literal_total : IsTotalOrder literal_cmp
 literal_total = then_total (on_total (λ (l : Literal). l.variable) nat_cmp_total)
     (then_total (on_total (λ (l : Literal). l.low) nat_cmp_total) (on_total (λ (l : Literal). l.high) nat_cmp_total))
 
+-- literals that compare as equal are equal
 literal_equal : (l m : Literal) → literal_cmp l m ≡ Equal → l ≡ m
 literal_equal l m h =
     let a =
@@ -59,6 +60,7 @@ literal_equal l m h =
     same_literal l m (number_equal l.variable m.variable a.0) (number_equal l.low m.low b.0)
     (number_equal l.high m.high b.1)
 
+-- lists of literals that compare as equal are equal
 literals_equal : (xs ys : List Literal) → slice_cmp literal_cmp xs ys ≡ Equal → xs ≡ ys
 literals_equal [] [] h = refl
 literals_equal [] (y ∷ ys) h = cc
@@ -72,6 +74,7 @@ module _ (v : ℕ) where
   beside_total = then_total (on_total (λ (c : Column). c.time) nat_cmp_total)
       (on_total (λ (c : Column). without v c.cube) (lists_total literal_total))
 
+  -- the order of columns is total
   pub column_total : IsTotalOrder (column_cmp v)
   column_total = then_total beside_total (on_total (λ (c : Column). low_in c.cube v) nat_cmp_total)
 
@@ -82,6 +85,7 @@ module _ (v : ℕ) where
       let r = then_equal (nat_cmp c.time d.time) (slice_cmp literal_cmp (without v c.cube) (without v d.cube)) h in
       (number_equal c.time d.time r.0, literals_equal (without v c.cube) (without v d.cube) r.1)
 
+  -- columns of one time whose cubes are equal but for a variable compare as equal
   pub beside_from : (c d : Column) → c.time ≡ d.time → without v c.cube ≡ without v d.cube → beside_cmp v c d ≡ Equal
   beside_from c d e f =
       ap₂ (λ (t : ℕ) (ls : List Literal).

@@ -69,9 +69,11 @@ wider_shorn k cube r = λ v. let a = shorn-low k cube r v in let b = shorn-high 
 pub shorn_rising : (k : ℕ) (cube : List Literal) → IsRising cube → IsRising (shorn k cube)
 shorn_rising k cube r = AllPairs-filter (λ (l m : Literal). l.variable < m.variable) (λ l. not (is_whole k l)) cube r
 
+-- leaving out the literals of the whole range keeps what holds of all
 pub shorn_all : (k : ℕ) (P : Literal → Type 0) (cube : List Literal) → All P cube → All P (shorn k cube)
 shorn_all k P cube a = All-filter (λ l. not (is_whole k l)) P cube a
 
+-- leaving out the literals of the whole range leaves none of them
 pub shorn_narrow : (k : ℕ) (cube : List Literal) → All (λ l. l.high ≤ top k l.variable) cube → IsNarrow k (shorn k cube)
 shorn_narrow k cube w =
     All-from_each {P = λ l. (is_whole k l ≡ false) × (l.high ≤ top k l.variable)} (shorn k cube) (λ l c.
@@ -139,28 +141,35 @@ module _ (g : Graph) (few : process_count g ≤ 128) where
     abbrev wide : List Literal
     wide = raised v (high_in g.faults b v) a
 
+    -- the cube that is made of the two, without literals of the whole range
     abbrev pub both : List Literal
     both = shorn g.faults wide
 
+    -- the highs of the first are within the tops
     within_a : All (λ l. l.high ≤ top g.faults l.variable) a
     within_a = All-from_each {P = λ l. l.high ≤ top g.faults l.variable} a
         (λ l c. (All-contains (λ (m : Literal). (is_whole g.faults m ≡ false) × (m.high ≤ top g.faults m.variable)) a l
         good_a.narrow c).1)
 
+    -- the highs of the second cube are within the tops
     within_b : All (λ l. l.high ≤ top g.faults l.variable) b
     within_b = All-from_each {P = λ l. l.high ≤ top g.faults l.variable} b
         (λ l c. (All-contains (λ (m : Literal). (is_whole g.faults m ≡ false) × (m.high ≤ top g.faults m.variable)) b l
         good_b.narrow c).1)
 
+    -- no low of the first is above its high
     open_a : (u : ℕ) → low_in a u ≤ high_in g.faults a u
     open_a u = low-le-high g.faults a good_a.met u
 
+    -- no low of the second cube is above its high
     open_b : (u : ℕ) → low_in b u ≤ high_in g.faults b u
     open_b u = low-le-high g.faults b good_b.met u
 
+    -- the raised cube is by rising variables
     rising_wide : IsRising wide
     rising_wide = raised-rising v (high_in g.faults b v) a good_a.cube.rising
 
+    -- the raised cube is a cube of the graph
     cube_wide : IsCube g wide
     cube_wide =
         record { rising = rising_wide; known = raised-all v (high_in g.faults b v) (IsVariable g) a good_a.cube.known }
@@ -169,9 +178,11 @@ module _ (g : Graph) (few : process_count g ≤ 128) where
     pub both-low : (u : ℕ) → low_in both u ≡ low_in a u
     both-low u = shorn-low g.faults wide rising_wide u ∙ raised-low v (high_in g.faults b v) a u
 
+    -- at other variables the highs are those of the first
     pub both-high : (u : ℕ) → u ≢ v → high_in g.faults both u ≡ high_in g.faults a u
     both-high u n = shorn-high g.faults wide rising_wide u ∙ raised-high v (high_in g.faults b v) g.faults a u n
 
+    -- at this one the high is that of the second
     pub both-high_here : high_in g.faults both v ≡ high_in g.faults b v
     both-high_here = shorn-high g.faults wide rising_wide v ∙ raised-high_here v (high_in g.faults b v) g.faults a
         (let t = touch.next in let o = open_b v in let h = high_in-top g.faults b within_b v in omega arith)
@@ -198,6 +209,7 @@ module _ (g : Graph) (few : process_count g ≤ 128) where
         (λ (n : u ≢ v). let h = both-high u n in let o = touch.others u n in (omega arith, omega arith))
         (cases_eq u v)
 
+    -- what is made is a cube of the graph
     cube_both : IsCube g both
     cube_both = cube_shorn wide cube_wide
 
@@ -239,6 +251,7 @@ module _ (g : Graph) (few : process_count g ≤ 128) where
     pub matches_first : (s : Scenario) → IsScenario g s → matches a s ≡ true → matches both s ≡ true
     matches_first s i t = matches_wider both a s i cube_both wider_first t
 
+    -- it matches what the second matches
     pub matches_second : (s : Scenario) → IsScenario g s → matches b s ≡ true → matches both s ≡ true
     matches_second s i t = matches_wider both b s i cube_both wider_second t
 

@@ -45,6 +45,7 @@ apart_pairs {X} p (x ∷ xs) h = AllPairs-cons_by (λ x y. p x ≡ true → p y 
     rest true l = omega arith
     rest false l = l
 
+    -- if at most one element passes, a first that does leaves no other
     both : (y : X) → p x ≡ true → Contains (filter p xs) y → (b : Bool) → b ≡ true →
         length (cond b (x ∷ filter p xs) (filter p xs)) ≤ 1 → ⊥
     both y px c true e l = omega (arith, c.1)
@@ -135,10 +136,12 @@ module _ (g : Graph) (few : process_count g ≤ 128) where
 
     -- ---- a join stands where its first column stood
 
+    -- leaving out a variable leaves no literal of the whole range
     without_narrow : (cube : List Literal) → IsNarrow g.faults cube → IsNarrow g.faults (without v cube)
     without_narrow cube n = All-filter (λ l. not (l.variable == v))
         (λ (l : Literal). (is_whole g.faults l ≡ false) × (l.high ≤ top g.faults l.variable)) cube n
 
+    -- leaving out a variable leaves the literals rising
     without_rising : (cube : List Literal) → IsRising cube → IsRising (without v cube)
     without_rising cube r =
         AllPairs-filter (λ (l m : Literal). l.variable < m.variable) (λ l. not (l.variable == v)) cube r
@@ -163,12 +166,15 @@ module _ (g : Graph) (few : process_count g ≤ 128) where
 
     module _ (c d : Column) (good_c : IsGood g c.cube) (good_d : IsGood g d.cube)
         (h : is_followed g.faults v c d ≡ true) where
+      -- the low of two joined columns is that of the first
       joined_low : low_in (joined g.faults v c d).cube v ≡ low_in c.cube v
       joined_low = both-low g few v c.cube d.cube good_c good_d (touch_of g.faults v c d h) v
 
+      -- the high of two joined columns is that of the second
       joined_high : high_in g.faults (joined g.faults v c d).cube v ≡ high_in g.faults d.cube v
       joined_high = both-high_here g few v c.cube d.cube good_c good_d (touch_of g.faults v c d h)
 
+      -- the joined column compares as the first does at other variables
       joined_beside : beside_cmp v c (joined g.faults v c d) ≡ Equal
       joined_beside = beside_from v c (joined g.faults v c d) refl
           (same_without c.cube (joined g.faults v c d).cube good_c (good_joined g few v known c d good_c good_d h)
@@ -177,6 +183,7 @@ module _ (g : Graph) (few : process_count g ≤ 128) where
             sym (both-high g few v c.cube d.cube good_c good_d (touch_of g.faults v c d h) u n),
           )))
 
+      -- it stands before what both stand before
       joined_before : (r : Column) → Before c r → Before d r → Before (joined g.faults v c d) r
       joined_before r x y = record {
         group = ap is_lt (sym (alike_right (beside_total v) c (joined g.faults v c d) r joined_beside)) ∙ x.group;
@@ -188,6 +195,7 @@ module _ (g : Graph) (few : process_count g ≤ 128) where
             omega arith;
       }
 
+    -- each column after the walk begins as one before it
     begins : (c : Column) (ds : List Column) → AreGood g (c ∷ ds) → (r : Column) → Contains (walked g.faults v c ds) r →
         (x : Column) × Contains (c ∷ ds) x × BeginsAs r x
     begins c [] a r m = ⊎_elim
@@ -204,6 +212,7 @@ module _ (g : Graph) (few : process_count g ≤ 128) where
         good_c : IsGood g c.cube
         good_c = All-head (λ (x : Column). IsGood g x.cube) c (d ∷ ds) a
 
+        -- the second column's cube is good
         good_d : IsGood g d.cube
         good_d =
             All-head (λ (x : Column). IsGood g x.cube) d ds (All-tail (λ (x : Column). IsGood g x.cube) c (d ∷ ds) a)
@@ -240,12 +249,15 @@ module _ (g : Graph) (few : process_count g ≤ 128) where
 
     module _ (c d : Column) (ds : List Column) (good : AreGood g (c ∷ d ∷ ds)) (before : AllPairs Before (c ∷ d ∷ ds))
         (apart : is_followed g.faults v c d ≡ false) where
+      -- the first stands before the others
       before_first : (x : Column) → Contains (d ∷ ds) x → Before c x
       before_first x m = AllPairs-first Before c (d ∷ ds) before x m
 
+      -- the second stands before the others
       before_second : (x : Column) → Contains ds x → Before d x
       before_second x m = AllPairs-first Before d ds (AllPairs-rest Before c (d ∷ ds) before) x m
 
+      -- no low is above its high
       open_of : (x : Column) → Contains (c ∷ d ∷ ds) x → low_in x.cube v ≤ high_in g.faults x.cube v
       open_of x m =
           low-le-high g.faults x.cube (All-contains (λ (y : Column). IsGood g y.cube) (c ∷ d ∷ ds) x good m).met v
@@ -269,6 +281,7 @@ module _ (g : Graph) (few : process_count g ≤ 128) where
           let z : ⊥ = omega arith in z)
           (Contains-cases d ds x m)
 
+      -- the first touches none that the walk over the others leaves
       untouched : (r : Column) → Contains (walked g.faults v d ds) r → Untouched c r
       untouched r m =
           let good_rest = All-tail (λ (x : Column). IsGood g x.cube) c (d ∷ ds) good in
@@ -285,6 +298,7 @@ module _ (g : Graph) (few : process_count g ≤ 128) where
                 let z : ⊥ = omega arith in z;
           }
 
+    -- no two that the walk leaves touch
     walked_untouched : (c : Column) (ds : List Column) → AreGood g (c ∷ ds) → AllPairs Before (c ∷ ds) →
         AllPairs Untouched (walked g.faults v c ds)
     walked_untouched c [] a p =
@@ -299,6 +313,7 @@ module _ (g : Graph) (few : process_count g ≤ 128) where
         good_c : IsGood g c.cube
         good_c = All-head (λ (x : Column). IsGood g x.cube) c (d ∷ ds) a
 
+        -- the second column's cube is good
         good_d : IsGood g d.cube
         good_d =
             All-head (λ (x : Column). IsGood g x.cube) d ds (All-tail (λ (x : Column). IsGood g x.cube) c (d ∷ ds) a)

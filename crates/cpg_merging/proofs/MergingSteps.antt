@@ -72,6 +72,7 @@ module _ (g : Graph) (few : process_count g ≤ 128) where
   abbrev shorn_column : Column → Column
   shorn_column c = record { time = c.time; cube = shorn g.faults c.cube }
 
+  -- leaving out literals of the whole range changes no times
   times_shorn : (columns : List Column) (s : Scenario) → IsScenario g s → All (λ c. IsCube g c.cube) columns →
       times_in (all_shorn g.faults columns) s ≡ times_in columns s
   times_shorn [] s i is = refl
@@ -106,6 +107,7 @@ module _ (g : Graph) (few : process_count g ≤ 128) where
 
   -- ---- another order of columns of which at most one matches
 
+  -- lists of at most one that have the same in them are equal
   one_same : (xs ys : List ℕ) → length xs ≤ 1 → length ys ≤ 1 → ((x : ℕ) → Contains xs x → Contains ys x) →
       ((x : ℕ) → Contains ys x → Contains xs x) → xs ≡ ys
   one_same [] [] h k f t = refl
@@ -117,6 +119,7 @@ module _ (g : Graph) (few : process_count g ≤ 128) where
   one_same (x ∷ []) (y ∷ z ∷ ys) h k f t = absurd (omega arith)
 
   module _ (xs ys : List Column) (p : IsPermutation xs ys) where
+    -- a scenario has a time for each column that matches it
     length_times : (zs : List Column) (s : Scenario) →
         length (times_in zs s) ≡ sum_by (λ c. cond (matches c.cube s) 1 0) zs
     length_times zs s = length-map (filter (λ c. matches c.cube s) zs) (λ (c : Column). c.time)
@@ -131,9 +134,11 @@ module _ (g : Graph) (few : process_count g ≤ 128) where
         let d = h s i in
         omega arith
 
+    -- good columns in another order are good
     pub good_permuted : AreGood g xs → AreGood g ys
     good_permuted h = All-permutation (λ (x : Column). IsGood g x.cube) xs ys p h
 
+  -- columns in another order have the same times
   times_contained : (xs ys : List Column) → IsPermutation xs ys → (s : Scenario) (t : ℕ) → Contains (times_in xs s) t →
       Contains (times_in ys s) t
   times_contained xs ys p s t m =
@@ -220,6 +225,7 @@ module _ (g : Graph) where
     fewer = inr (IsPermutation-refl xs, λ u e. subst (λ y. IsSettledOn g.faults y xs) (sym e) apart);
   }
 
+  -- columns that don't touch don't do so in another order
   settled_permuted : (v : ℕ) (xs ys : List Column) → IsPermutation xs ys → IsSettledOn g.faults v xs →
       IsSettledOn g.faults v ys
   settled_permuted v xs ys p h = λ c d m n. h c d (Contains-permutation ys xs c (IsPermutation-sym xs ys p) m)

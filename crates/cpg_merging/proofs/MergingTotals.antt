@@ -31,12 +31,14 @@ use Rattle.cpg_merging.proofs.MergingSettled.{same_without}
 abbrev pub of_range : ℕ → List Literal → ℕ → Literal
 of_range k cube v = record { variable = v; low = low_in cube v; high = high_in k cube v }
 
+-- a literal is the range of its own variable
 range_here : (k : ℕ) (l : Literal) (ls : List Literal) (v : ℕ) → l.variable ≡ v → l ≡ of_range k (l ∷ ls) v
 range_here k l ls v e = subst (λ w. l ≡ of_range k (l ∷ ls) w) e
     (ap₂ (λ low high. record { variable = l.variable; low = low; high = high })
     (sym (cond-true (l.variable == l.variable) l.low (low_in ls l.variable) (eq-eqb _ _ refl)))
     (sym (cond-true (l.variable == l.variable) l.high (high_in k ls l.variable) (eq-eqb _ _ refl))))
 
+-- a literal on another variable doesn't change a range
 range_later : (k : ℕ) (l : Literal) (ls : List Literal) (v : ℕ) → l.variable ≢ v →
     of_range k ls v ≡ of_range k (l ∷ ls) v
 range_later k l ls v n = ap₂ (λ low high. record { variable = v; low = low; high = high })
@@ -62,12 +64,15 @@ spoken k (l ∷ ls) v h = elim (cases_eq l.variable v) [
 
 -- ---- the sum over a cube is that over the other literals and the one on the variable
 
+-- leaving out a variable leaves out the literal on it
 without_same : (v : ℕ) (l : Literal) (ls : List Literal) → l.variable ≡ v → without v (l ∷ ls) ≡ without v ls
 without_same v l ls e = cond-false (not (l.variable == v)) (l ∷ without v ls) (without v ls) (ap not (eq-eqb _ _ e))
 
+-- leaving out a variable keeps a literal on another one
 without_other : (v : ℕ) (l : Literal) (ls : List Literal) → l.variable ≢ v → without v (l ∷ ls) ≡ l ∷ without v ls
 without_other v l ls n = cond-true (not (l.variable == v)) (l ∷ without v ls) (without v ls) (ap not (ne_eqb _ _ n))
 
+-- leaving out a variable keeps all literals if none is on it
 without_none : (v : ℕ) (ls : List Literal) → ((m : Literal) → Contains ls m → m.variable ≢ v) → without v ls ≡ ls
 without_none v [] h = refl
 without_none v (l ∷ ls) h = without_other v l ls (h l (Contains-first l ls))
@@ -187,6 +192,7 @@ sieve_more sieve count place numbers i d within long is inside before n c =
     here : IsMarked (slice_set sieve place true) place
     here = get_or-set_same sieve place true false (omega (arith, inside, long))
 
+    -- a mark that was set stays
     kept : (q : ℕ) → IsMarked sieve q → IsMarked (slice_set sieve place true) q
     kept q on = elim (cases_eq q place) [
       | inl e ↦ subst (IsMarked (slice_set sieve place true)) (sym e) here
@@ -251,13 +257,16 @@ module _ {X : Type 0} (f : X → Column) (sums : List ℕ) (columns : List X) wh
       long : place < length (map f columns)
       long = let same = length-map columns f in omega (arith, within, same)
 
+      -- the column at the place
       at : get_or (map f columns) place (f x) ≡ f x
       at = get_or-map f columns place x (f x) within ∙ ap f (sym is)
 
+      -- the sum at the place is that of the column there
       total : get_or totals place 0 ≡ total_of (f x)
       total = ap (λ (ns : List ℕ). get_or ns place 0) e ∙ get_or-map total_of (map f columns) place (f x) 0 long
           ∙ ap total_of at
 
+      -- its literals that aren't marked have no partner
       now : (n : Literal) → Contains (f x).cube n → ¬ IsMarked new n.variable → HasNoPartner sums (total_of (f x)) n
       now = subst (λ (t : ℕ). (n : Literal) → Contains (f x).cube n → ¬ IsMarked new n.variable → HasNoPartner sums t n)
           total here

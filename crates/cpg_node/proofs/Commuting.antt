@@ -136,6 +136,7 @@ cut_ranges r a b =
     let high : min (min r.high a.high) b.high ≡ min (min r.high b.high) a.high = omega arith in
     λ i. record { low = low i; high = high i }
 
+-- a range for places behind the list
 abbrev nothing : Range
 nothing = record { low = 0; high = 0 }
 
@@ -171,6 +172,7 @@ cut_twice h a b =
       ]
     ]
 
+-- ranges may be narrowed by one literal before or after others
 cut_over : (ls : List Literal) (h : List Range) (l : Literal) → cut_all (cut h l) ls ≡ cut (cut_all h ls) l
 cut_over [] h l = refl
 cut_over (m ∷ ls) h l = ap (λ h. cut_all h ls) (cut_twice h l m) ∙ cut_over ls (cut h m) l

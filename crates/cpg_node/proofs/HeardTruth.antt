@@ -23,6 +23,7 @@ use Rattle.cpg_table.specs.Heard.{matching, facts_of_end, facts_of_frame, facts,
 use Rattle.cpg_table.proofs.Settings.{Match}
 use Rattle.cpg_table.proofs.Told.{end_literals, frame_facts, Learnt, learnt_true}
 
+-- an element of a list that may be left out is one of the list
 cond_parts : {X : Type 0} (b : Bool) (xs : List X) (x : X) → Contains (cond b xs []) x → Contains xs x
 cond_parts true xs x h = h
 cond_parts false xs x h = absurd (Contains-nil x h)
@@ -44,6 +45,7 @@ module _ (g : Graph) (tables : List NodeTable) (node time : ℕ) (s : Scenario) 
       (flat_map (facts_of_end g tables s time) (filter (λ p. node_of g p == node) (numbers_below (process_count g))))
       (flat_map (facts_of_frame g tables s time)
       (filter (λ x. is_heard_by g node (item_at g x)) (numbers_below (item_count g)))) l h) [
+        -- the fact is told by the end of a process on the node
         | inl m ↦
             let a = Contains-flat_map_parts (facts_of_end g tables s time)
             (filter (λ p. node_of g p == node) (numbers_below (process_count g))) l m in
@@ -60,6 +62,7 @@ module _ (g : Graph) (tables : List NodeTable) (node time : ℕ) (s : Scenario) 
               then = refl;
               told = cond_parts (leb (c.0.time + duration g a.0 (number_of s a.0)) time) (end_literals g s a.0) l c.2;
             })
+        -- the fact is told by a frame that the node hears
         | inr m ↦
             let a = Contains-flat_map_parts (facts_of_frame g tables s time)
             (filter (λ x. is_heard_by g node (item_at g x)) (numbers_below (item_count g))) l m in
@@ -96,6 +99,7 @@ module _ (g : Graph) (tables : List NodeTable) (node time : ℕ) (s : Scenario) 
       bit true = omega arith
       bit false = omega arith
 
+  -- what the node has been told by the time
   abbrev fs : List Literal
   fs = facts g tables node s time
 
@@ -125,6 +129,7 @@ module _ (g : Graph) (tables : List NodeTable) (node time : ℕ) (s : Scenario) 
         )
   ]
 
+  -- no number is above the high that is kept
   high : (l : Literal) → number_of s l.variable ≤ kept_high g.faults fs l.variable
   high l = elim (least_cases (top g.faults l.variable)
       (map (λ (m : Literal). m.high) (filter (λ (m : Literal). m.variable == l.variable) fs))) [

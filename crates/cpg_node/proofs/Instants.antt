@@ -37,6 +37,7 @@ pub fewer_left : (last : Option ℕ) (time : ℕ) (xs : List ℕ) → is_after l
 fewer_left last time xs a =
     length-filter-le (is_after (Some time)) (is_after last) xs (λ x b. after_both last time x a b)
 
+-- if a test passes no more than another, what it keeps stays the shorter list
 one_kept : (b c : Bool) (x : ℕ) (xs ys : List ℕ) → (b ≡ true → c ≡ true) → length xs < length ys →
     length (cond b (x ∷ xs) xs) < length (cond c (x ∷ ys) ys)
 one_kept true true x xs ys h l = omega arith
@@ -214,6 +215,7 @@ fixed_left d p = go (is_some d.last)
 -- a turn leaves fewer instants
 module _ (d : Dispatcher) (time : ℕ) (frames : List Frame) (comes : next d ≡ Some time) (rise : DoRise d.table.own)
     (ends : HaveFewEnds d.table.own) where
+  -- the next instant is after the last turn
   after : is_after d.last time ≡ true
   after = (next_is d time comes).after
 

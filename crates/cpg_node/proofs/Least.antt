@@ -25,6 +25,7 @@ least_same [] (y ∷ ys) to from = absurd (Contains-nil y (from y (Contains-firs
 least_same (x ∷ xs) ys to from = let p = least_of_parts (x ∷ xs) (fold min x xs) refl in
     sym (least_is ys (fold min x xs) (to (fold min x xs) p.0) (λ y c. p.1 y (from y c)))
 
+-- the least of a number and others, in whichever order
 fold_min : (a b : ℕ) (ys : List ℕ) → fold min (min a b) ys ≡ min a (fold min b ys)
 fold_min a b [] = refl
 fold_min a b (y ∷ ys) = ap (λ m. fold min m ys) (min_assoc a b y) ∙ fold_min a (min b y) ys

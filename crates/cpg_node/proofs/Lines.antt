@@ -66,6 +66,7 @@ first_left last xs place line = elim (cases_lt place (length xs)) [
       | inr k ↦ k
     ]
 
+    -- nothing after the last turn is before the one at the place
     least : (y : ℕ) → Contains xs y × (is_after (Some last) y ≡ true) → get_or xs place 0 ≤ y
     least y ((i, l, e), a) = omega (
       arith,
@@ -74,9 +75,11 @@ first_left last xs place line = elim (cases_lt place (length xs)) [
       get_or_default xs place y 0 (omega (arith, stands y i l e a)),
     )
 
+    -- if the place is behind the list, nothing is after the last turn
     past : length xs ≤ place → (y : ℕ) → Contains xs y × (is_after (Some last) y ≡ true) → ⊥
     past h y ((i, l, e), a) = omega (arith, stands y i l e a)
 
+    -- a list in which nothing is is empty
     none : (ys : List ℕ) → ((y : ℕ) → Contains ys y → ⊥) → ys ≡ []
     none [] h = refl
     none (y ∷ ys) h = absurd (h y (Contains-first y ys))

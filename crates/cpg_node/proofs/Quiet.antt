@@ -138,11 +138,13 @@ own_all k n node p c (q ∷ qs) h =
         ((All-head (IsHeadProcess k n) q qs h).count) (All-nil (HasAll k))
     front false = All-nil (HasAll k)
 
+-- a lawful table says of each of its processes how long it lasts with each number of faults
 own_has : (t : NodeTable) → IsTable t → All (HasAll t.faults) t.own
 own_has t h = subst (λ k. All (HasAll k) t.own) (sym h.of.faults)
     (subst (All (HasAll h.head.faults)) (sym h.of.own)
     (own_all h.head.faults (length h.head.nodes) h.node 0 0 h.head.processes h.lawful.processes))
 
+-- the faults that are awaited are no more than the table has
 few_faults : (k : ℕ) (r : Option Ended) → IfSome r (λ (e : Ended). e.faults ≤ k) → awaited_faults k r ≤ k
 few_faults k None h = omega arith
 few_faults k (Some e) h = h

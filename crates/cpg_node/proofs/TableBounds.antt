@@ -48,6 +48,7 @@ times_short t h = subst (All AreShort) (sym h.of.own)
 abbrev pub DoRise : List Own → Type 0
 DoRise os = Rises (λ (a b : Own). a.process < b.process) os
 
+-- a list of one own process, or of none, has only that process's number
 own_number : (p : ℕ) (x o : Own) (b : Bool) → x.process ≡ p → Contains (cond b (x ∷ []) []) o → o.process ≡ p
 own_number p x o true is m = elim (Contains-cases x [] o m) [
   | inl e ↦ ap (λ (o : Own). o.process) (sym e) ∙ is
@@ -124,9 +125,11 @@ rows_few t h rows in' = All-weaker (Contains rows) (λ (row : Row). length row.c
     (λ row c. (All-contains (IsLawfulRow (space_of h.head)) (rows_of t) row h.of.lawful (in' row c)).few) rows
     (All-contains_itself rows)
 
+-- a row that the node sends is one of its rows
 in_sends : (t : NodeTable) (row : Row) → Contains t.sends row → Contains (rows_of t) row
 in_sends t row c = Contains-append_right t.starts (t.sends ++ t.hears) row (Contains-append_left t.sends t.hears row c)
 
+-- a row that it starts is one of its rows
 in_starts : (t : NodeTable) (row : Row) → Contains t.starts row → Contains (rows_of t) row
 in_starts t row c = Contains-append_left t.starts (t.sends ++ t.hears) row c
 
@@ -155,6 +158,7 @@ plan_early t h plan same = All-weaker (Contains plan) (λ (p : Planned). p.time 
     elim (Contains-append_cases t.sends t.starts row d) [ inl k ↦ in_sends t row k | inr k ↦ in_starts t row k ])
     p.time (planned_time t p (planned_in plan (plan_of t) same p c))) plan (All-contains_itself plan)
 
+-- a row that it hears is one of its rows
 in_hears : (t : NodeTable) (row : Row) → Contains t.hears row → Contains (rows_of t) row
 in_hears t row c = Contains-append_right t.starts (t.sends ++ t.hears) row (Contains-append_right t.sends t.hears row c)
 

@@ -34,6 +34,7 @@ pub line_open : {X : Type 0} (time : X → ℕ) (xs : List X) → IsNonDecreasin
 line_open time xs up =
     record { within = omega arith; rises = up; reached = λ i d h. absurd (omega arith); left = λ i d h k. refl }
 
+-- no number is less than 0
 fold_zero : (xs : List ℕ) → fold min 0 xs ≡ 0
 fold_zero [] = refl
 fold_zero (x ∷ xs) = let e : min 0 x ≡ 0 = omega arith in ap (λ n. fold min n xs) e ∙ fold_zero xs
@@ -97,6 +98,7 @@ next_reported e table heard running last = ap
     (λ l. let c = times_in table.starts ++ times_in table.sends ++ times_in table.hears ++ flat_map (λ ends. ends) l in
     least_of (filter (is_after last) (cond (is_some last) c (0 ∷ c)))) (ends_reported e table.own running)
 
+-- a report leaves the start of an execution as it is
 timed_report : (e : Ended) (o : Own) (run : Option Running) → IsTimed run → IsTimed (with_report e o run)
 timed_report e o None h = h
 timed_report e o (Some run) h = go (o.process == e.process)
@@ -185,22 +187,28 @@ module _ (table : OwnTable) (heard : List Range) (running : List (Option Running
     (inside : (place ≤ end) × (end ≤ length ps))
     (before : (i : ℕ) (d : Planned) → place ≤ i → i < end → (get_or ps i d).time ≤ time)
     (here : (d : Planned) → end < length ps → time < (get_or ps end d).time) where
+  -- the state of the node
   abbrev node : Dispatcher
   node = record { table = table; heard = heard; running = running; last = last }
 
+  -- the instant is the next one
   next' : NextIs node time
   next' = next_is node time comes
 
+  -- the plan is walked from the place on
   from : place ≤ end
   from = inside.0
 
+  -- what is due at the instant ends within the plan
   within : end ≤ length plan
   within = omega (arith, inside.1, ap length seen)
 
+  -- what is passed over is due by the instant
   before' : (i : ℕ) (d : Planned) → place ≤ i → i < end → (get_or plan i d).time ≤ time
   before' = subst (λ (ps : List Planned). (i : ℕ) (d : Planned) → place ≤ i → i < end → (get_or ps i d).time ≤ time)
       seen before
 
+  -- what comes behind is later
   here' : (d : Planned) → end < length plan → time < (get_or plan end d).time
   here' = subst (λ (ps : List Planned). (d : Planned) → end < length ps → time < (get_or ps end d).time) seen here
 
@@ -216,6 +224,7 @@ module _ (table : OwnTable) (heard : List Range) (running : List (Option Running
         | inr k ↦ Contains-append_left (times_in table.starts) (times_in table.sends) x k
       ]))
 
+  -- each time of the plan is one that the node may come to
   candidate : (i : ℕ) (d : Planned) → i < length plan → Contains (candidates node) (get_or plan i d).time
   candidate i d l = planned_time' (get_or plan i d).time (planned_time table (get_or plan i d)
       (planned_in plan (plan_of table) same (get_or plan i d) (Contains-get_or plan i d l)))
@@ -229,13 +238,16 @@ module _ (table : OwnTable) (heard : List Range) (running : List (Option Running
         (not_by last (get_or plan i d).time (line.left i d k (omega (arith, within)))),
   )
 
+  -- a time up to the last turn isn't the instant
   other : (t : ℕ) → is_after last t ≡ false → (t == time) ≡ false
   other t e = false_from_ne_true (t == time)
       (λ s. true≢false (sym next'.after ∙ ap (is_after last) (sym (eqb-true t time s)) ∙ e))
 
+  -- a time after the instant isn't the instant
   later : (t : ℕ) → time < t → (t == time) ≡ false
   later t l = false_from_ne_true (t == time) (λ s. absurd (omega (arith, l, eqb-true t time s)))
 
+  -- what is due at the instant is what was passed over
   run : filter (λ (p : Planned). p.time == time) plan ≡ take (end - place) (drop place plan)
   run = filter_run (λ (p : Planned). p.time == time) plan place end from within
       (λ i d l. other (get_or plan i d).time (line.reached i d l))
@@ -332,6 +344,7 @@ next_early table heard running last t made h e =
     all : List ℕ
     all = candidates (record { table = table; heard = heard; running = running; last = last })
 
+    -- the first candidate is 0 before any turn, or one of the others
     first : (o : Option ℕ) → Contains (cond (is_some o) all (0 ∷ all)) t → (t ≡ 0) ⊎ Contains all t
     first None c = elim (Contains-cases 0 all t c) [ inl z ↦ inl (sym z) | inr k ↦ inr k ]
     first (Some l) c = inr c

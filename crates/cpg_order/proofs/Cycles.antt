@@ -90,12 +90,15 @@ module _ (g : Graph) where
   }
 
   module _ (walk : List ℕ) (process : ℕ) (is : IsWalkBack g walk process) where
+    -- the walk keeps its processes when one is added
     grown : (k : ℕ) → k < length walk → get_or (walk ++ process ∷ []) k 0 ≡ get_or walk k 0
     grown k l = get_or_append_left walk (process ∷ []) 0 k l
 
+    -- the walk with one process more is one longer
     longer : length (walk ++ process ∷ []) ≡ length walk + 1
     longer = length-append walk (process ∷ [])
 
+    -- the last of the walk with one process more is that process
     end_is : get_or (walk ++ process ∷ []) (length walk) 0 ≡ process
     end_is = get_or-append_seam walk process [] 0
 
@@ -162,9 +165,11 @@ module _ (g : Graph) where
 abbrev pub place_down : ℕ → ℕ → ℕ → ℕ
 place_down m n k = if nat_le k m then m - k else m + n - k
 
+-- going down a circle from m by k steps: no further than its start
 down_before : (m n k : ℕ) → k ≤ m → place_down m n k ≡ m - k
 down_before m n k l = ap (λ b. if b then m - k else m + n - k) (le-leb k m l)
 
+-- going down a circle from m by more than m steps: on from its end
 down_after : (m n k : ℕ) → m < k → place_down m n k ≡ m + n - k
 down_after m n k l = ap (λ b. if b then m - k else m + n - k) (lt-leb k m l)
 

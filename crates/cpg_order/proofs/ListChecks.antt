@@ -16,6 +16,7 @@ use Rattle.cpg_base.specs.Order.{place, comes_before, IsOrder}
 use Rattle.cpg_base.proofs.Places.{from_order, Contains-order, places_from_comes_before, comes_before_from_places}
 use Rattle.cpg_order.proofs.Readiness.{apart_before, permutation_of_all}
 
+-- a false part adds nothing to a disjunction
 or_nothing : (b c : Bool) → c ≡ false → (b || c) ≡ b
 or_nothing true c e = refl
 or_nothing false c e = e
@@ -44,6 +45,7 @@ module _ (list : List ℕ) where
         AreSeen list (set seen (get_or list i 0) true) (i + 1)
     seen_more small fresh =
         let new : is_in (take i list) (get_or list i 0) ≡ false = sym (are.marks (get_or list i 0) small) ∙ fresh in
+        -- the numbers so far with this one: different, below the length, and marked
         record {
           long = length-set seen (get_or list i 0) true ∙ are.long;
           apart = subst (AllPairs (λ x y. x ≢ y)) (sym (take_more list i 0 l))

@@ -23,6 +23,7 @@ abbrev pub longest_from : Graph → List ℕ → ℕ → ℕ
 longest_from g tails p =
     greatest (map (λ e. (if is_message g e then round g else 0) + get_or tails (target g e) 0) (outputs g p))
 
+-- a number that may be left out is at most the number
 turn-le : (b : Bool) (n : ℕ) → (if b then n else 0) ≤ n
 turn-le true n = omega arith
 turn-le false n = omega arith
@@ -35,6 +36,7 @@ pub record AreFound (g : Graph) (order tails : List ℕ) (done : ℕ) : Type 0 w
 
 -- given a topological order of a graph within the limits
 module _ (g : Graph) (within : IsWithinLimits g) (order : List ℕ) (topological : IsTopological g order) where
+  -- the order has each process once
   order_long : length order ≡ process_count g
   order_long = length_order (process_count g) order topological.all
 
@@ -70,6 +72,7 @@ module _ (g : Graph) (within : IsWithinLimits g) (order : List ℕ) (topological
         (omega (arith, output_goes_up g order topological p e c)))))
         ∙ sym (tail_is g order topological p inside)
 
+    -- the process at a place of the order is the one there
     at_place_of : (q : ℕ) → q < process_count g → place order q ≡ place order p → q ≡ p
     at_place_of q l e =
         sym (get_or-place order q 0 (Contains-order (process_count g) order topological.all q l))

@@ -23,6 +23,7 @@ use Rattle.cpg_order.proofs.Urgent.{first_from_more, first_from_place, first_cha
 -- a relation between neighbours holds of all pairs if it goes on
 module _ (R : ℕ → ℕ → Type 0) (chain : (p q r : ℕ) → R p q → R q r → R p r) (xs : List ℕ)
     (next : (k : ℕ) → k + 1 < length xs → R (get_or xs k 0) (get_or xs (k + 1) 0)) where
+  -- what relates neighbours relates any two, the first before the second
   ahead : (gap i : ℕ) → i + gap + 1 < length xs → R (get_or xs i 0) (get_or xs (i + gap + 1) 0)
   ahead zero i l = subst (λ k. R (get_or xs i 0) (get_or xs k 0)) (let e : i + 1 ≡ i + zero + 1 = omega arith in
       e) (next i (omega arith))
@@ -41,16 +42,19 @@ module _ (R : ℕ → ℕ → Type 0) (chain : (p q r : ℕ) → R p q → R q r
 pub in_order : (a b p q : ℕ) → is_lt (ordering_then (nat_cmp a b) (nat_cmp q p)) ≡ false → (b < a) ⊎ ((a ≡ b) × (p ≤ q))
 in_order a b p q h = grind (arith, common_steps)
 
+-- the ranks of processes are those of these processes
 processes_of_ranks : (tails xs : List ℕ) → map (λ r. r.process) (map (rank_of tails) xs) ≡ xs
 processes_of_ranks tails [] = refl
 processes_of_ranks tails (x ∷ xs) = ap (λ ys. x ∷ ys) (processes_of_ranks tails xs)
 
 module _ (tails : List ℕ) (sorted : List UrgencyRank)
     (permutes : IsPermutation (map (rank_of tails) (numbers_below (length tails))) sorted) where
+  -- the sorted ranks are of all processes
   all : IsPermutation (numbers_below (length tails)) (map (λ r. r.process) sorted)
   all = subst (λ xs. IsPermutation xs (map (λ r. r.process) sorted))
       (processes_of_ranks tails (numbers_below (length tails))) (IsPermutation-map (λ r. r.process) _ sorted permutes)
 
+  -- each rank has the tail of its process
   tail_of_rank : All (λ (r : UrgencyRank). r.tail.0 ≡ get_or tails r.process 0) sorted
   tail_of_rank = All-permutation (λ (r : UrgencyRank). r.tail.0 ≡ get_or tails r.process 0)
       (map (rank_of tails) (numbers_below (length tails))) sorted permutes

@@ -36,10 +36,12 @@ length-le_below n xs apart below =
     let l = length-le_of_apart xs (numbers_below n) apart (λ x c. Contains-numbers n x (below x c)) in
     omega (arith, length-range_with_len 0 n)
 
+-- a number that isn't in a list of different ones can be put in front
 apart_more : (x : ℕ) (xs : List ℕ) → AllPairs (λ x y. x ≢ y) xs → is_in xs x ≡ false → AllPairs (λ x y. x ≢ y) (x ∷ xs)
 apart_more x xs apart out = AllPairs-cons_by (λ x y. x ≢ y) x xs
     (λ y c e. both_ways (is_in xs x) out (is_in_from xs x (subst (Contains xs) (sym e) c))) apart
 
+-- if numbers are below n, and one more is, all are
 below_more : (n x : ℕ) (xs : List ℕ) → x < n → ((y : ℕ) → Contains xs y → y < n) → (y : ℕ) → Contains (x ∷ xs) y → y < n
 below_more n x xs l below y c = elim (Contains-cases x xs y c) [ inl e ↦ subst (λ z. z < n) e l | inr d ↦ below y d ]
 
@@ -66,6 +68,7 @@ permutation_of_all n xs apart below long = permutation_of_same (numbers_below n)
 
 -- ---- ready processes
 
+-- no number stands twice
 abbrev Apart : List ℕ → Type 0
 Apart xs = AllPairs (λ x y. x ≢ y) xs
 
@@ -88,13 +91,16 @@ ready_first waiting ready is = record {
 -- given a process that waits, and the number of inputs for which it waits from now on
 module _ (waiting ready : List ℕ) (are : AreReady waiting ready) (p left : ℕ) (waits_still : 0 < get_or waiting p 0)
     (inside : p < length waiting) where
+  -- a ready process isn't the one that still waits
   other_than : (q : ℕ) → Contains ready q → q ≢ p
   other_than q c e = let z = (are.free q c).1 in let s = ap (λ x. get_or waiting x 0) e in omega arith
 
+  -- a process that was ready still waits for nothing
   kept_free : (q : ℕ) → Contains ready q → (q < length (set waiting p left)) × (get_or (set waiting p left) q 0 ≡ 0)
   kept_free q c = let r = are.free q c in
       (omega (arith, length-set waiting p left, r.0), get_or-set_other waiting p q left 0 (other_than q c) ∙ r.1)
 
+  -- a process other than the one put in order, which waits for nothing after that, was ready before
   kept_all : (q : ℕ) → q ≢ p → q < length (set waiting p left) → get_or (set waiting p left) q 0 ≡ 0 → Contains ready q
   kept_all q n l e =
       are.all q (omega (arith, length-set waiting p left)) (sym (get_or-set_other waiting p q left 0 n) ∙ e)
@@ -136,9 +142,11 @@ module _ (waiting ready : List ℕ) (are : AreReady waiting ready) (p left : ℕ
 
 -- ---- how many pass a test
 
+-- how many numbers pass a test
 abbrev pub passing : (ℕ → Bool) → List ℕ → ℕ
 passing p xs = length (filter p xs)
 
+-- one number more counts if it passes
 passing_one : (p : ℕ → Bool) (x : ℕ) (xs : List ℕ) → passing p (x ∷ xs) ≡ cond (p x) 1 0 + passing p xs
 passing_one p x xs = go (p x)
   where
@@ -146,6 +154,7 @@ passing_one p x xs = go (p x)
     go true = omega arith
     go false = omega arith
 
+-- a number that may be left out counts if it is there and passes
 passing_if : (p : ℕ → Bool) (b : Bool) (x : ℕ) (xs : List ℕ) →
     passing p (cond b (x ∷ xs) xs) ≡ cond b (cond (p x) 1 0) 0 + passing p xs
 passing_if p true x xs = passing_one p x xs
@@ -207,22 +216,26 @@ passing_split t s u v (x ∷ xs) h k l =
 
 -- ---- one more process is settled
 
+-- what is in a list with one number more is in the list or is that number
 is_in-push : (xs : List ℕ) (x y : ℕ) → is_in (xs ++ x ∷ []) y ≡ true → (is_in xs y ≡ true) ⊎ (x ≡ y)
 is_in-push xs x y t = elim (Contains-append_cases xs (x ∷ []) y (from_is_in (xs ++ x ∷ []) y t)) [
   | inl c ↦ inl (is_in_from xs y c)
   | inr c ↦ elim (Contains-cases x [] y c) [ inl e ↦ inr e | inr n ↦ absurd (Contains-nil y n) ]
 ]
 
+-- tests that agree agree on what they reject
 same_not : (a b : Bool) → (a ≡ true → b ≡ true) → (b ≡ true → a ≡ true) → not a ≡ not b
 same_not true true h k = refl
 same_not false false h k = refl
 same_not true false h k = absurd (true≢false (sym (h refl)))
 same_not false true h k = absurd (true≢false (sym (k refl)))
 
+-- what isn't so is false
 not_true : (b : Bool) → not b ≡ true → b ≡ false
 not_true true e = sym e
 not_true false e = refl
 
+-- what isn't otherwise is true
 not_false : (b : Bool) → not b ≡ false → b ≡ true
 not_false true e = refl
 not_false false e = sym e
@@ -254,6 +267,7 @@ sources_settled g settled p none e c = elim (cases_Bool (is_in settled (source g
   | inr f ↦ absurd (both_ways _ (none_passing (λ e. not (is_in settled (source g e))) (inputs g p) e none c) (ap not f))
 ]
 
+-- the first numbers of a list are among more of its first numbers
 Contains-take : (xs : List ℕ) (i j x : ℕ) → i ≤ j → Contains (take i xs) x → Contains (take j xs) x
 Contains-take xs i j x l c =
     let a = length-take i xs in
@@ -325,6 +339,7 @@ module _ (g : Graph) (waiting : List ℕ) where
         ≡ get_or waiting q 0) → AreSettled g (d + 1) waiting' new
     settled_more waiting' new rest is long listed left =
         let grown : length new ≡ length ready + length rest = ap length is ∙ length-append ready rest in
+        -- what is in front stays, so each process still waits for as many
         let prefix : (k : ℕ) → k ≤ length ready → take k new ≡ take k ready =
         λ k l. ap (take k) is ∙ take-append-le k ready rest l in
         let counts : (q : ℕ) → q < process_count g → get_or waiting' q 0 ≡ waits g (take (d + 1) ready) q =
@@ -334,6 +349,7 @@ module _ (g : Graph) (waiting : List ℕ) where
           listed = listed;
           within = omega arith;
           counts = λ q l. counts q l ∙ ap (λ xs. waits g xs q) (sym (prefix (d + 1) (omega arith)));
+          -- a source of a process that is ready stands before it, whether the process was ready or is so anew
           after = λ k l e c. elim (cases_lt k (length ready)) [
             | inl old ↦
                 let same : get_or new k 0 ≡ get_or ready k 0 =
@@ -353,6 +369,7 @@ module _ (g : Graph) (waiting : List ℕ) where
 -- ---- at the end
 
 module _ (g : Graph) (waiting ready : List ℕ) (are : AreSettled g (length ready) waiting ready) where
+  -- a ready process is one of the graph
   ready_below : (p : ℕ) → Contains ready p → p < process_count g
   ready_below p c = subst (λ n. p < n) are.long (are.listed.free p c).0
 
@@ -376,6 +393,7 @@ module _ (g : Graph) (waiting ready : List ℕ) (are : AreSettled g (length read
         (numbers_below (edge_count g)) e (eq-eqb (target g e) (target g e) refl) c)));
   }
 
+  -- with all ready processes put in order, `waiting` has what each process waits for beyond these
   waits_for : (p : ℕ) → p < process_count g → get_or waiting p 0 ≡ waits g ready p
   waits_for p l = are.counts p l ∙ ap (λ xs. waits g xs p) (take_all (length ready) ready (omega arith))
 
@@ -419,6 +437,7 @@ inputs-le g p = omega (
 
 -- ---- one edge after another is settled
 
+-- of the first numbers no more pass than of all
 passing-take-le : (p : ℕ → Bool) (xs : List ℕ) (i : ℕ) → passing p (take i xs) ≤ passing p xs
 passing-take-le p xs i =
     let e : passing p xs ≡ passing p (take i xs ++ drop i xs) = ap (passing p) (sym (take-append-drop i xs)) in

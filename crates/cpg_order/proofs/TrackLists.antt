@@ -127,6 +127,7 @@ module _ (g : Graph) where
 
   -- ---- outcomes that differ have a first condition at which they do
 
+  -- equal values are found the same
   from_same : (a b : Bool) → a ≡ b → same_bool a b ≡ true
   from_same a b e = subst (λ v. same_bool a v ≡ true) e (same_bool_refl a)
 
@@ -157,6 +158,7 @@ module _ (g : Graph) where
         ((c : ℕ) → c < condition_count g → differ o p c ≡ true → Contains xs c) ×
         AllPairs (λ c d. sooner c d ≡ true) xs
 
+    -- the conditions in which two outcomes differ, the most urgent first
     in_order : List ℕ
     in_order = sorted sooner (filter (differ o p) (numbers_below (condition_count g)))
 
@@ -182,6 +184,7 @@ module _ (g : Graph) where
               (numbers_apart (condition_count g))),
         )
 
+    -- there is one, since the outcomes differ
     not_empty : in_order ≡ [] → ⊥
     not_empty e = some_differ (none (filter (differ o p) (numbers_below (condition_count g))) refl)
       where
@@ -194,6 +197,7 @@ module _ (g : Graph) where
             absurd (Contains-nil c
             (subst (λ ys. Contains ys c) e (listed.1 c (numbers-Contains (condition_count g) c r.0) r.1)))
 
+    -- the value of the first says which outcome comes before
     first_of : (xs : List ℕ) → in_order ≡ xs → (is_outcome_before g o p ≡ true) ⊎ (is_outcome_before g p o ≡ true)
     first_of [] e = absurd (not_empty e)
     first_of (c ∷ cs) e = go (get_or o c false) (get_or p c false) refl refl
@@ -201,6 +205,7 @@ module _ (g : Graph) where
         here : Listed (c ∷ cs)
         here = subst Listed e listed
 
+        -- the first is a condition of the graph
         within : c < condition_count g
         within = (here.0 c (Contains-first c cs)).0
 
@@ -218,6 +223,7 @@ module _ (g : Graph) where
               ]
         ]
 
+        -- the two outcomes differ in the first condition
         differs : same_bool (get_or o c false) (get_or p c false) ≡ false
         differs = not-true (same_bool (get_or o c false) (get_or p c false)) (here.0 c (Contains-first c cs)).1
 
@@ -269,6 +275,7 @@ tracks_exist g = let all : List (List Bool) = filter (is_track g) (outcomes (con
 
 -- ---- if no condition rests on another, each outcome is a track
 
+-- a test that all pass leaves out nothing
 filter_all : {X : Type 0} (p : X → Bool) (xs : List X) → ((x : X) → p x ≡ true) → filter p xs ≡ xs
 filter_all p [] h = refl
 filter_all p (x ∷ xs) h = ap (λ b. cond b (x ∷ filter p xs) (filter p xs)) (h x) ∙ ap (λ ys. x ∷ ys) (filter_all p xs h)
@@ -280,6 +287,7 @@ first_active g o n p e = ap (λ es. is_active (activation_by (process_at g p).jo
     (λ e. is_active (activation_within n g o (source g e)) && takes (edge_at g e).when (value_of g o (source g e))))) e
 
 module _ (g : Graph) (free : (c : ℕ) → c < condition_count g → inputs g (process_of g c) ≡ []) where
+  -- each outcome is a track
   always_track : (o : List Bool) → is_track g o ≡ true
   always_track o =
       all_from (λ c. not (get_or o c false) || active g o (process_of g c)) (numbers_below (condition_count g))

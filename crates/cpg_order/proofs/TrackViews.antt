@@ -66,6 +66,7 @@ module _ (g : Graph) where
 
   -- ---- a bound
 
+  -- the views of an outcome are fewer than 2^42
   views_of_outcome_small : process_count g ≤ 128 → g.faults ≤ 8 → (reached : List ℕ) (o : List Bool) →
       views_of_outcome g reached o < 2 ^ 42
   views_of_outcome_small few faults reached o = ways_small (free_counts g reached o)

@@ -95,10 +95,12 @@ module _ (g : Graph) where
         let apart = λ (k : Contains cs c). let l = after c k in let z : ⊥ = omega arith in z in
         let earlier =
         λ (e : ℕ) (l : at e < at c) (k : Contains cs e). let m = after e k in let z : ⊥ = omega arith in z in
+        -- the outcomes with the condition true are in order
         let second =
         chosen_in_order cs (set o c true) (length-set o c true ∙ size) (λ d k. inside d (Contains-rest c cs d k))
         (λ d k. get_or-set_other o c d true false (λ e. apart (subst (Contains cs) e k))
         ∙ unset d (Contains-rest c cs d k)) (AllPairs-rest (λ x y. at x < at y) c cs rise) in
+        -- those with it false come first, and are in order
         AllPairs-append Before (chosen g reached cs o)
         (cond (is_value_free g reached o c) (chosen g reached cs (set o c true)) [])
         (chosen_in_order cs o size (λ d k. inside d (Contains-rest c cs d k)) (λ d k. unset d (Contains-rest c cs d k))
@@ -116,6 +118,7 @@ module _ (g : Graph) where
         if_free true p = p
         if_free false p = AllPairs-nil Before
 
+        -- an outcome with the value true is listed only if the condition is free
         in_free : {P : Type 0} (b : Bool) (r : List Bool) →
             Contains (cond b (chosen g reached cs (set o c true)) []) r →
             (Contains (chosen g reached cs (set o c true)) r → P) → P

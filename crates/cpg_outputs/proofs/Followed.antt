@@ -8,10 +8,12 @@ use Rattle.cpg_live.specs.declared.following.Broken.{Broken}
 use Rattle.cpg_live.specs.declared.following.Broken.TheVariants.{Shelf, Sink, Refused}
 use Rattle.cpg_live.specs.Following.{Breaks, Completes, IsStreamed}
 
+-- the last fetch, if there is one
 head_or : Fetch → List Fetch → Fetch
 head_or d [] = d
 head_or d (f ∷ fs) = f
 
+-- equal histories have equal last fetches
 same_head : (f e : Fetch) (fs es : List Fetch) → f ∷ fs ≡ e ∷ es → f ≡ e
 unfolding head_or
 same_head f e fs es is = ap (head_or f) is

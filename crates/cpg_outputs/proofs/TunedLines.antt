@@ -3,6 +3,7 @@ use Rattle.std.proofs.Common.{ℕ, ◌≡◌, ◌⊎◌, ◌∙◌, List, [], �
 use Rattle.cpg_base.specs.declared.process.Process.{Process}
 use Rattle.cpg_outputs.specs.Tunes.{parts_lines}
 
+-- if one of two lists is used up, there are no more lines
 parts_done : (ps : List Process) (parts : List ℕ) → (ps ≡ []) ⊎ (parts ≡ []) → parts_lines ps parts ≡ []
 parts_done [] parts e = refl
 parts_done (p ∷ ps) [] e = refl

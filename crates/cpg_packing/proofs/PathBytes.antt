@@ -25,9 +25,11 @@ pub puts_failed_as : {E : Type 0} (a b h m x y : List ℕ) (r : Result Unit E) (
     Puts a b h m r y
 puts_failed_as a b h m x y r e is same p = subst (Puts a b h m r) same (Puts-failed a b h m x r e is p)
 
+-- bytes that are put are put as any bytes equal to them
 pub is_put_as : (a b h l x y : List ℕ) → x ≡ y → IsPut a b h l x → IsPut a b h l y
 is_put_as a b h l x y same p = subst (IsPut a b h l) same p
 
+-- what the sink took of some bytes it took of any equal ones
 pub took_as : (a b h x y : List ℕ) → x ≡ y → TookPrefix a b (h ++ x) → TookPrefix a b (h ++ y)
 took_as a b h x y same p = subst (λ (bytes : List ℕ). TookPrefix a b (h ++ bytes)) same p
 
@@ -43,6 +45,7 @@ bytes_from k delay cube n = pieces_from (delayed delay) k cube n
 abbrev pub ArePackable : ℕ → List Literal → TreeNode (Option ℕ) → Type 0
 ArePackable k cube n = All IsPackable (columns_of_paths (paths_from k cube n))
 
+-- if the columns of a fork can be packed, so can those of each side
 pub packable_sides : (k : ℕ) (cube : List Literal) (v cut : ℕ) (x y : TreeNode (Option ℕ)) →
     ArePackable k cube (Fork v cut x y) →
     ArePackable k (narrowed_by (up_to v cut) cube) x × ArePackable k (narrowed_by (above k v cut) cube) y
@@ -52,6 +55,7 @@ packable_sides k cube v cut x y all =
     All-parts IsPackable xs ys (subst (All IsPackable) (both_columns (paths_from k (narrowed_by (up_to v cut) cube) x)
     (paths_from k (narrowed_by (above k v cut) cube) y)) all)
 
+-- the same, for a path and a tree that are known by their values alone
 pub packable_side : (k : ℕ) (items : List (TreeItem (Option ℕ))) (x n : TreeNode (Option ℕ))
     (cube path : List Literal) → items ≡ flat x → path ≡ cube → ArePackable k cube x →
     items ≡ flat n →

@@ -69,6 +69,7 @@ module _ (g : Graph) (within : IsWithinLimits g) (formed : WellFormed g) (rows :
     abbrev table : NodeTable
     table = table_at tables node
 
+    -- the items of the node
     abbrev items : ItemLists
     items = lists_of (head_of g) node
 

@@ -17,14 +17,17 @@ use Rattle.cpg_order.specs.Elements.{SameElements}
 use Rattle.cpg_reach.specs.Variables.{Adds}
 use Rattle.cpg_reach.specs.Tested.{AreDecidingValues}
 
+-- a disjunction of three, in either grouping
 or_assoc : (a b c : Bool) → ((a || b) || c) ≡ (a || (b || c))
 or_assoc true b c = refl
 or_assoc false b c = refl
 
+-- a false part adds nothing
 or_none : (a : Bool) → a ≡ (a || false)
 or_none true = refl
 or_none false = refl
 
+-- a disjunction in either order
 or_commutes : (a b : Bool) → (a || b) ≡ (b || a)
 or_commutes true true = refl
 or_commutes true false = refl
@@ -52,6 +55,7 @@ adds_same a xs ys b s h v = h v ∙ ap (λ t. is_in a v || t) (s v)
 pub same_after : (a b xs c : List ℕ) → SameElements a b → Adds a xs c → SameElements c (b ++ xs)
 same_after a b xs c s h v = h v ∙ ap (λ t. t || is_in xs v) (s v) ∙ sym (in_append b xs v)
 
+-- adding to a set with the same in it gives a set with the same in it
 pub same_before : (a b xs c : List ℕ) → SameElements a b → Adds a xs c → SameElements c (xs ++ b)
 same_before a b xs c s h v =
     h v ∙ ap (λ t. t || is_in xs v) (s v) ∙ or_commutes (is_in b v) (is_in xs v) ∙ sym (in_append xs b v)
@@ -61,6 +65,7 @@ same_before a b xs c s h v =
 -- given: what is added for all numbers below n that pass a test
 module _ (F : ℕ → List ℕ) (T : ℕ → Bool) (n : ℕ) (a b : List ℕ)
     (so_far : Adds a (flat_map F (filter T (numbers_below n))) b) where
+  -- the sets up to the next number, by whether it passes
   next_is : (t : Bool) → T n ≡ t →
       flat_map F (filter T (numbers_below (n + 1))) ≡ flat_map F (filter T (numbers_below n))
       ++ flat_map F (cond t (n ∷ []) [])
@@ -82,6 +87,7 @@ module _ (F : ℕ → List ℕ) (T : ℕ → Bool) (n : ℕ) (a b : List ℕ)
 
 module _ (g : Graph) (deciding : List (List ℕ)) (are : AreDecidingValues g deciding) (p : ℕ)
     (l : p < process_count g) where
+  -- a value is marked for a process exactly if it decides the process in some outcome
   value_decides : (c : ℕ) → c < condition_count g →
       is_in (get_or deciding p []) (value_variable c) ≡ list_any (λ o. decides g o p c) (outcomes (condition_count g))
   value_decides c h =

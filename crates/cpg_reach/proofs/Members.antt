@@ -25,14 +25,17 @@ is_in_members marks v = same_truth (is_in (members marks) v) (get_or marks v fal
     (λ t. is_in_from (members marks) v (Contains-filter (λ u. get_or marks u false) (numbers_below (length marks)) v t
     (Contains-numbers (length marks) v (marked_within marks v t))))
 
+-- false parts add nothing
 or_of_false : (a : Bool) → a ≡ (a || (false || false))
 or_of_false true = refl
 or_of_false false = refl
 
+-- a true part makes a disjunction true
 or_of_true : (a : Bool) → true ≡ (a || (true || false))
 or_of_true true = refl
 or_of_true false = refl
 
+-- marking a variable changes the mark of this one alone
 set_marks : (marks : List Bool) (v u : ℕ) → v < length marks →
     get_or (set marks v true) u false ≡ (get_or marks u false || ((v == u) || false))
 set_marks marks v u l = elim (eqb_tells v u) [
@@ -66,6 +69,7 @@ pub record United (old others marks : List Bool) (v : ℕ) : Type 0 where
 pub united_first : (old others : List Bool) → United old others old 0
 united_first old others = record { done = λ u l. absurd (omega arith); left = λ u l. refl }
 
+-- what is below the next number is below this one, or is it
 below_next : (v u : ℕ) → u < v + 1 → (u < v) ⊎ (u ≡ v)
 below_next v u l = ⊎_elim (λ (k : u < v). inl k) (λ (k : v ≤ u). inr (omega arith)) (cases_lt u v)
 
@@ -83,6 +87,7 @@ united_next old others marks v mark l is h = record {
   left = λ u k. get_or-set_other marks v u mark false (λ e. omega arith) ∙ h.left u (omega arith);
 }
 
+-- a false part adds nothing
 or_nothing : (a b : Bool) → b ≡ false → (a || b) ≡ a
 or_nothing true b e = refl
 or_nothing false b e = e

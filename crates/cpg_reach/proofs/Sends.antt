@@ -45,6 +45,7 @@ module _ (g : Graph) (r : Reach) (sent : List (List ℕ)) where
   before_value e frozen = cond frozen (map value_variable (conditions_of g (source g e)))
       (end_reach r (source g e) ++ get_or sent (node_of g (source g e)) [])
 
+  -- what a message depends on, by the tests on it
   abbrev by_tests : ℕ → Bool → Bool → List ℕ
   by_tests e message frozen = cond message (before_value e (message && frozen) ++ source_value g e) []
 

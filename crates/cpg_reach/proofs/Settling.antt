@@ -31,13 +31,14 @@ use Rattle.cpg_reach.proofs.Adding.{in_append}
 pub same_append : (xs ys zs ws : List ℕ) → SameElements xs zs → SameElements ys ws → SameElements (xs ++ ys) (zs ++ ws)
 same_append xs ys zs ws h k v = in_append xs ys v ∙ ap₂ ◌||◌ (h v) (k v) ∙ sym (in_append zs ws v)
 
+-- sets that are put together of sets with the same in them have the same in them
 pub same_flat_map : (f h : ℕ → List ℕ) (xs : List ℕ) → ((x : ℕ) → Contains xs x → SameElements (f x) (h x)) →
     SameElements (flat_map f xs) (flat_map h xs)
 same_flat_map f h [] e = λ v. refl
 same_flat_map f h (x ∷ xs) e = same_append (f x) (flat_map f xs) (h x) (flat_map h xs) (e x (Contains-first x xs))
     (same_flat_map f h xs (λ y k. e y (Contains-rest x xs y k)))
 
--- so it is with either side of a test
+-- lists that a test chooses have the same in them if both sides have
 pub same_cond : (b : Bool) (xs ys zs ws : List ℕ) → (b ≡ true → SameElements xs zs) → (b ≡ false → SameElements ys ws) →
     SameElements (cond b xs ys) (cond b zs ws)
 same_cond true xs ys zs ws h k = h refl
@@ -45,6 +46,7 @@ same_cond false xs ys zs ws h k = k refl
 
 -- ---- moments
 
+-- two products of m with less than m added are equal only if both parts are
 apart_products : (a b f h m : ℕ) → f < m → h < m → a * m + f ≡ b * m + h → (a ≡ b) × (f ≡ h)
 apart_products a b f h m l k e = elim (cases_order a b) [
   | inl same ↦ (same, let x = ap (λ c. c * m) same in omega arith)
@@ -151,15 +153,18 @@ module _ (g : Graph) (order : List ℕ) (top : IsTopological g order) where
           ∙ sym (ap (λ s. s && (home g y == node) && nat_lt (moment g order y) m) e)
 
   module _ (r : Reach) where
+    -- what all items sent before a moment on a node depend on
     abbrev sent_reach : ℕ → ℕ → List ℕ
     sent_reach m node = flat_map (reach_of r) (sent_before g order m node)
 
+    -- an item of the node that is sent before a moment is one of those sent before
     sent_by : (m node y : ℕ) → y < item_count g → is_sent g y ≡ true → home g y ≡ node → moment g order y < m →
         Contains (sent_before g order m node) y
     sent_by m node y l e h k = Contains-filter (λ y. is_sent g y && (home g y == node) && nat_lt (moment g order y) m)
         (numbers_below (item_count g)) y
         (and_from _ _ (and_from _ _ e (eq-eqb _ _ h)) (lt-ltb _ _ k)) (Contains-numbers (item_count g) y l)
 
+    -- what is sent before a moment on a node: items that are sent, on this node, and of an earlier moment
     sent_parts : (m node y : ℕ) → Contains (sent_before g order m node) y →
         (y < item_count g) × (is_sent g y ≡ true) × (home g y ≡ node) × (moment g order y < m)
     sent_parts m node y k =
@@ -169,11 +174,13 @@ module _ (g : Graph) (order : List ℕ) (top : IsTopological g order) where
         let c = and_parts _ _ b.0 in
         (numbers-Contains (item_count g) y a.0, c.0, eqb-true _ _ c.1, ltb-true _ _ b.1)
 
+    -- what such an item depends on is among what all of them depend on
     in_sent : (m node y v : ℕ) → Contains (sent_before g order m node) y → is_in (reach_of r y) v ≡ true →
         is_in (sent_reach m node) v ≡ true
     in_sent m node y v k t = is_in_from (sent_reach m node) v
         (Contains-flat_map (reach_of r) (sent_before g order m node) y v k (from_is_in (reach_of r y) v t))
 
+    -- what all items sent before depend on is what one of them depends on
     from_sent : (m node v : ℕ) → is_in (sent_reach m node) v ≡ true →
         (y : ℕ) × Contains (sent_before g order m node) y × (is_in (reach_of r y) v ≡ true)
     from_sent m node v t = let a =
@@ -199,6 +206,7 @@ module _ (g : Graph) (order : List ℕ) (top : IsTopological g order) where
         (sent_by (m + 1) node x l e h (omega arith)) (sym (ap (λ b. b || is_in (reach_of r x) v) s) ∙ t))
         (cases_Bool (is_in (sent_reach m node) v)))
 
+    -- an item of another node adds nothing
     other_node : (x m node : ℕ) → x < item_count g → moment g order x ≡ m → (home g x ≡ node → ⊥) →
         SameElements (sent_reach (m + 1) node) (sent_reach m node)
     other_node x m node l is h v = same_truth (is_in (sent_reach (m + 1) node) v) (is_in (sent_reach m node) v)
@@ -221,6 +229,7 @@ module _ (g : Graph) (order : List ℕ) (top : IsTopological g order) where
         items = agrees.items;
         known_nodes = agrees.known_nodes;
         sent_nodes = agrees.sent_nodes;
+        -- no item is of this moment, so what is reached and sent is as before
         reached = λ y l h. ⊎_elim (λ (d : moment g order y < m). agrees.reached y l d)
             (λ (d : m ≤ moment g order y). absurd (none y l (omega arith))) (cases_lt (moment g order y) m);
         knows = agrees.knows;
@@ -230,6 +239,7 @@ module _ (g : Graph) (order : List ℕ) (top : IsTopological g order) where
 
       module _ (x : ℕ) (within : x < item_count g) (at : moment g order x ≡ m) (reach : List ℕ)
           (right : SameElements reach (reach_of r x)) where
+        -- what an item up to this one depends on is right
         reached_next : (y : ℕ) → y < item_count g → moment g order y < m + 1 →
             SameElements (reach_of (set rs x reach) y) (reach_of r y)
         reached_next y l h v = ⊎_elim
@@ -247,6 +257,7 @@ module _ (g : Graph) (order : List ℕ) (top : IsTopological g order) where
 
         module _ (unsent_none : is_sent g x ≡ false → (v : ℕ) → is_in (reach_of r x) v ≡ false) (b : List ℕ)
             (adds : Adds (get_or sent (home g x) []) reach b) (there : home g x < length g.nodes) where
+          -- what the node has sent is right with this item, whether it is sent or not
           here_next : (s : Bool) → is_sent g x ≡ s → (v : ℕ) → is_in b v ≡ is_in (sent_reach (m + 1) (home g x)) v
           here_next true e v = adds v ∙ ap₂ ◌||◌ (agrees.sends (home g x) there v) (right v)
               ∙ sym (sent_next x m (home g x) within e at refl v)

@@ -19,6 +19,7 @@ frozen_at g p ps q b is l e =
     ap (λ (x : Process). x.frozen) (get_or_default g.processes p _ q l) ∙ ap (λ xs. (get_or xs p q).frozen) (sym is) ∙ e
 
 module _ (g : Graph) (r : Reach) (known : List (List ℕ)) (p : ℕ) where
+  -- the reach of a start, by whether the process is frozen
   abbrev by_test : Bool → List ℕ
   by_test b = cond b (map value_variable (conditions_of g p)) (get_or known (node_of g p) []
       ++ heard_by g r (node_of g p) (conditions_of g p) ++ flat_map (input_reach g r) (inputs g p))

@@ -67,6 +67,7 @@ module _ (g : Graph) (order : List ℕ) (top : IsTopological g order) (r : Reach
       (l, decides_earlier g order top o.0 p c l o.2)
 
   module _ (k m : ℕ) (rs known sent : List (List ℕ)) (agrees : AgreesUntil g order r k m rs known sent) where
+    -- what the end of an earlier process depends on is right
     end_right : (q : ℕ) → q < process_count g → place order q * phases g + 0 < m →
         SameElements (end_reach rs q) (end_reach r q)
     end_right q l h = same_append (reach_of rs q) (q ∷ []) (reach_of r q) (q ∷ [])
@@ -82,6 +83,7 @@ module _ (g : Graph) (order : List ℕ) (top : IsTopological g order) (r : Reach
         (λ t. end_right (process_of g c) (process_of_below g c n) (omega arith))
         (λ t. agrees.reached (broadcast_item g c) (omega arith) (omega (arith, broadcast_sooner g order top p c l)))
 
+    -- what an input depends on is right, if its source is known
     input_right : (p e : ℕ) → place order p * phases g ≤ m → Contains (inputs g p) e →
         SameElements (input_reach g rs e) (input_reach g r e)
     input_right p e d i =
@@ -103,21 +105,27 @@ module _ (g : Graph) (order : List ℕ) (top : IsTopological g order) (r : Reach
   module _ (p : ℕ) (within : p < process_count g) (rs known sent : List (List ℕ))
       (agrees : AgreesUntil g order r (place order p) (place order p * phases g) rs known sent)
       (there : node_of g p < length g.nodes) where
+    -- what the process hears of its own conditions
     abbrev heard_own : Reach → List ℕ
     heard_own s = heard_by g s (node_of g p) (conditions_of g p)
 
+    -- what the inputs depend on
     abbrev ins : Reach → List ℕ
     ins s = flat_map (input_reach g s) (inputs g p)
 
+    -- the processes before on the node
     abbrev earlier : List ℕ
     earlier = before_on_node g order p
 
+    -- what is heard by then of conditions that they wait for
     abbrev heard_earlier : List ℕ
     heard_earlier = heard_by g r (node_of g p) (flat_map (conditions_of g) earlier)
 
+    -- what their ends depend on
     abbrev ends_earlier : List ℕ
     ends_earlier = flat_map (end_reach r) earlier
 
+    -- what the process itself hears is right
     heard_right : SameElements (heard_own rs) (heard_own r)
     heard_right = same_flat_map (λ c. value_variable c ∷ hearing_reach g rs (node_of g p) c)
         (λ c. value_variable c ∷ hearing_reach g r (node_of g p) c) (conditions_of g p)
@@ -127,6 +135,7 @@ module _ (g : Graph) (order : List ℕ) (top : IsTopological g order) (r : Reach
         (hearing_right (place order p) (place order p * phases g) rs known sent agrees p c (node_of g p)
         (omega arith) b.0 b.1))
 
+    -- what the inputs of the process depend on is right
     ins_right : SameElements (ins rs) (ins r)
     ins_right = same_flat_map (input_reach g rs) (input_reach g r) (inputs g p)
         (λ e i. input_right (place order p) (place order p * phases g) rs known sent agrees p e (omega arith) i)
@@ -153,6 +162,7 @@ module _ (g : Graph) (order : List ℕ) (top : IsTopological g order) (r : Reach
         ∙ sym (in_append (heard_by g r (node_of g p) (flat_map (conditions_of g) (earlier ++ p ∷ [])) ++ ends_earlier)
         (ins r) v)
 
+    -- what a start depends on, by the graph's own reach
     start_is : SameElements (start_reach g order r p) (reach_of r p)
     start_is v =
         sym (is.each p v (omega arith) ∙ ap (λ i. is_in (reach_by_item g order r p i) v) (item_at-start g p within))
@@ -166,6 +176,7 @@ module _ (g : Graph) (order : List ℕ) (top : IsTopological g order) (r : Reach
         (λ t u. refl) (λ t. plain_right) v
         ∙ start_is v
 
+    -- the processes of a node up to the next place
     on_node_next : (node : ℕ) →
         on_node g order (place order p + 1) node ≡ on_node g order (place order p) node
         ++ cond (node_of g p == node) (p ∷ []) []
@@ -179,11 +190,13 @@ module _ (g : Graph) (order : List ℕ) (top : IsTopological g order) (r : Reach
     module _ (reach a b d : List ℕ) (right : SameElements reach (reach_of r p))
         (heard : Adds (get_or known (node_of g p) []) (heard_own rs) a) (started : Adds a reach b)
         (ended : Adds b (p ∷ []) d) where
+      -- what is known after the process: what is heard by then, and what the ends depend on
       known_after_here : known_after g r (node_of g p) (earlier ++ p ∷ []) ≡ (heard_earlier ++ heard_own r)
           ++ (ends_earlier ++ end_reach r p)
       known_after_here = ap₂ ◌++◌ heard_up_to
           (flat_map-append (end_reach r) earlier (p ∷ []) ∙ ap (λ xs. ends_earlier ++ xs) (append-nil (end_reach r p)))
 
+      -- what is known after the process is right
       here : SameElements d (known_after g r (node_of g p) (earlier ++ p ∷ []))
       here v = ended v ∙ ap (λ t. t || is_in (p ∷ []) v)
           (started v ∙ ap₂ ◌||◌ (heard v ∙ ap₂ ◌||◌
@@ -240,6 +253,7 @@ module _ (g : Graph) (order : List ℕ) (top : IsTopological g order) (r : Reach
               (cases_eq (moment g order y) (place order p * phases g + 1)))
               (cases_lt (moment g order y) (place order p * phases g))
 
+      -- a start isn't sent
       sends_start : (node : ℕ) →
           sent_before g order (place order p * phases g + 2) node ≡ sent_before g order (place order p * phases g) node
       sends_start node = ap (λ n. sent_before g order n node)
@@ -302,6 +316,7 @@ module _ (g : Graph) (order : List ℕ) (top : IsTopological g order) (r : Reach
   -- given: reaches that are right before an item that may be sent
   module _ (k : ℕ) (x : ℕ) (within : x < item_count g) (rs known sent : List (List ℕ))
       (agrees : AgreesUntil g order r k (moment g order x) rs known sent) (there : home g x < length g.nodes) where
+    -- the values that decide the producer
     abbrev values : List ℕ
     values = map value_variable (conditions_of g (producer g x))
 
@@ -328,6 +343,7 @@ module _ (g : Graph) (order : List ℕ) (top : IsTopological g order) (r : Reach
     abbrev if_sent : Item → List ℕ
     if_sent i = cond (is_sent_item g i) (send_reach g order r x) []
 
+    -- what an item depends on is right, whether it is sent or not
     any_right : SameElements (send_by g rs sent (item_at g x)) (if_sent (item_at g x))
     any_right = same_cond (is_sent g x)
         ((cond (is_frozen g x) values (end_reach rs (producer g x) ++ get_or sent (home g x) []))

@@ -42,6 +42,7 @@ way_is_tested (Test d off on) o c k = ⊎_elim
     (Contains-cases d _ c k)
 
 module _ (g : Graph) (order : List ℕ) where
+  -- the place of a condition's process
   abbrev rank : ℕ → ℕ
   rank c = place order (process_of g c)
 
@@ -52,6 +53,7 @@ module _ (g : Graph) (order : List ℕ) where
     agrees : (d : ℕ) → d < condition_count g → rank d < k → get_or outcome d false ≡ get_or b d false
     passes : Contains (way t outcome) c
 
+  -- the way through a test goes on in the side that the value chooses
   way_at : (d : ℕ) (off on : Guard) (o : List Bool) (v : Bool) → get_or o d false ≡ v →
       way (Test d off on) o ≡ d ∷ (if v then way on o else way off o)
   way_at d off on o v e = ap (λ w. d ∷ (if w then way on o else way off o)) e
@@ -75,6 +77,7 @@ module _ (g : Graph) (order : List ℕ) where
       arm true o i = Contains-rest d (way on o) c i
       arm false o i = Contains-rest d (way off o) c i
 
+  -- a condition that is tested is on the way of some outcome
   tested_passes : (k : ℕ) (t : Guard) (b : List Bool) (c : ℕ) → IsOrderedFrom g order k t →
       length b ≡ condition_count g → Contains (tested t) c → Passes k b t c
   tested_passes k (Leaf a) b c o l i = absurd (Contains-nil c i)
@@ -93,6 +96,7 @@ module _ (g : Graph) (order : List ℕ) where
       (Contains-append_cases (tested off) (tested on) c j))
       (Contains-cases d (tested off ++ tested on) c i)
 
+  -- a condition that is tested is one of the graph
   tested_within : (k : ℕ) (t : Guard) (c : ℕ) → IsOrderedFrom g order k t → Contains (tested t) c →
       c < condition_count g
   tested_within k (Leaf a) c o i = absurd (Contains-nil c i)
@@ -105,9 +109,11 @@ module _ (g : Graph) (order : List ℕ) where
       (Contains-cases d (tested off ++ tested on) c i)
 
   module _ (urgency : IsUrgencyOrder g order) (p : ℕ) (t : Guard) (guard : IsGuardOf g order p t) where
+    -- whether a condition decides the process in some outcome
     abbrev some_decides : ℕ → Bool
     some_decides c = list_any (λ o. decides g o p c) (outcomes (condition_count g))
 
+    -- what the tree tests decides the process in some scenario
     from_tested : (c : ℕ) → Contains (tested t) c → Contains (conditions_of g p) c
     from_tested c i =
         let x = tested_passes 0 t (replicate (condition_count g) false) c guard.ordered
@@ -119,6 +125,7 @@ module _ (g : Graph) (order : List ℕ) where
         ((way_is_deciding g order urgency p x.outcome x.count t guard c h).0 x.passes))
         (Contains-numbers (condition_count g) c h)
 
+    -- a condition that decides the process in some scenario is tested
     to_tested : (c : ℕ) → Contains (conditions_of g p) c → Contains (tested t) c
     to_tested c i =
         let a = Contains-filter_parts some_decides (numbers_below (condition_count g)) c i in
@@ -126,6 +133,7 @@ module _ (g : Graph) (order : List ℕ) where
         way_is_tested t o.0 c ((way_is_deciding g order urgency p o.0 (length_of_outcome (condition_count g) o.0 o.1) t
         guard c (numbers-Contains (condition_count g) c a.0)).1 o.2)
 
+    -- the variables of values of one list are among those of the other
     values_moved : (xs ys : List ℕ) (v : ℕ) → ((c : ℕ) → Contains xs c → Contains ys c) →
         is_in (map value_variable xs) v ≡ true →
         is_in (map value_variable ys) v ≡ true

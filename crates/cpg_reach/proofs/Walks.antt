@@ -172,6 +172,7 @@ module _ (g : Graph) (order : List ℕ) (top : IsTopological g order) where
   -- given: the process at a place of the order, by another name of the graph
   module _ (h : Graph) (same : h ≡ g) (lawful : IsOrder order) (k p : ℕ) (within : k < length order)
       (at : p ≡ get_or order k 0) (rs known sent : List (List ℕ)) where
+    -- the process stands at place k
     stands : place order p ≡ k
     stands = ap (place order) at ∙ place_at order lawful k within
 

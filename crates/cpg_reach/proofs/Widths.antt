@@ -63,6 +63,7 @@ pub record AreLoads (g : Graph) (order : List ℕ) (x loads : ℕ) : Type 0 wher
 pub loads_first : (g : Graph) (order : List ℕ) → AreLoads g order 0 0
 loads_first g order = record { few = omega arith; sum = λ r is. refl; narrow = λ r is y l. absurd (omega arith) }
 
+-- a sum over the numbers below x, and x too
 sum_next : (f : ℕ → ℕ) (x : ℕ) → sum_by f (numbers_below (x + 1)) ≡ sum_by f (numbers_below x) + f x
 sum_next f x = ap (sum_by f) (below_push x) ∙ sum_by-append f (numbers_below x) (x ∷ [])
     ∙ (let e = sum_by-cons f x [] in omega arith)
@@ -71,10 +72,12 @@ sum_next f x = ap (sum_by f) (below_push x) ∙ sum_by-append f (numbers_below x
 module _ (g : Graph) (order : List ℕ) (top : IsTopological g order) (rs : Reach) (are : AreReaches g order rs)
     (x loads : ℕ) (so_far : AreLoads g order x loads) (within : x < item_count g)
     (xs : List ℕ) (at : xs ≡ get_or rs x xs) where
+  -- the views by the set are those of the item's reach
   views_are : (r : Reach) → IsReach g order r → views g xs ≡ views g (reach_of r x)
   views_are r is = same_views g xs (reach_of r x)
       (λ v. ap (λ ys. is_in ys v) (set_at rs x xs (let c = are.count in omega arith) at) ∙ are.each r is x within v)
 
+  -- the test by sets with the same in them says whether the item is too wide
   wide_is : (r : Reach) → IsReach g order r → is_wide_by g xs x loads ≡ is_too_wide g r x
   wide_is r is = ap₂ (λ n s. nat_lt 0 (rows_of_item g (item_at g x)) && (nat_lt most_views n || nat_lt most_loads s))
       (views_are r is)

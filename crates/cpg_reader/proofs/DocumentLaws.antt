@@ -15,6 +15,7 @@ pub problem_of-read : (bytes : List ℕ) (ms : Members) → IsUtf8 bytes → par
 unfolding problem_of document_of
 problem_of-read bytes ms text read = rw (is_utf8-from_IsUtf8 bytes text, read) refl
 
+-- a test that lets through only nothing gives nothing
 none_if : (b : Bool) (o : Option Members) → (b ≡ true → o ≡ None) → cond b o None ≡ None
 none_if true o h = h refl
 none_if false o h = refl

@@ -16,6 +16,7 @@ use Rattle.cpg_reader.specs.Names.{place, apart, number_of, slot_of, process_of,
 use Rattle.cpg_reader.specs.Names.{resolved, graph_of}
 use Rattle.cpg_reader.specs.Document.{members_if, read_members}
 
+-- lines as bytes, each with its line feed
 abbrev lines : List (List ℕ) → List ℕ
 lines [] = []
 lines (l ∷ ls) = l ++ 10 ∷ lines ls

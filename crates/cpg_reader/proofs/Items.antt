@@ -29,6 +29,7 @@ module _ {T : Type 0} (as_type : Data → Option T) where
       after ts (items_as as_type (item d ds)) ≡ after (ts ++ t ∷ []) (items_as as_type ds)
   one_more ts d ds t is = rw (← is) (then_one ts t (items_as as_type ds))
 
+  -- an element of another type makes the whole array of none
   none_more : (ts : List T) (d : Data) (ds : Items) → None ≡ as_type d → None ≡ after ts (items_as as_type (item d ds))
   none_more ts d ds is = rw (← is) refl
 

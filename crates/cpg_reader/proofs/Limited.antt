@@ -32,13 +32,16 @@ use Rattle.cpg_reader.specs.Ranges.{all_in_range, at_most, sources, different, l
 use Rattle.cpg_reader.specs.RawOf.{raw_slot, raw_process, raw_edge, raw_of, names_of}
 use Rattle.cpg_reader.proofs.RawReads.{all_by_recursion}
 
+-- a number between two is found to be so
 within : (low high n : ℕ) → low ≤ n → n ≤ high → is_within low high (pos n) ≡ true
 within low high n l h = rw (le-leb low n l, le-leb n high h) refl
 
+-- each number is in its range
 abbrev pub AreWithin : List BoundedField → Type 0
 AreWithin [] = Unit {0}
 AreWithin (n ∷ ns) = (is_within n.low n.high n.value ≡ true) × AreWithin ns
 
+-- numbers in their ranges are not refused
 in_range-within : (table : Table) (i : ℕ) (ns : List BoundedField) → AreWithin ns → in_range table i ns ≡ Ok tt
 in_range-within table i [] h = refl
 in_range-within table i (n ∷ ns) h = rw h.0 (in_range-within table i ns h.1)
@@ -52,11 +55,13 @@ all_in_range-within table numbers_of f i [] h = refl
 all_in_range-within table numbers_of f i (x ∷ xs) h =
     rw (in_range-within table i (numbers_of (f x)) h.0) (all_in_range-within table numbers_of f (i + 1) xs h.1)
 
+-- a list of few elements is not refused
 at_most-few : {T : Type 0} (limit : ℕ) (what : What) (xs : List T) → length xs ≤ limit → at_most limit what xs ≡ Ok tt
 at_most-few limit what xs h = rw (le-leb (length xs) limit h) refl
 
 -- ---- the sources of conditional edges
 
+-- a name that isn't among different ones, or is left out, leaves them different
 apart_if : (seen : List (List ℕ)) (name : List ℕ) (b : Bool) → list_any (bytes_eq name) seen ≡ b →
     AllPairs (λ a b. a ≢ b) seen →
     AllPairs (λ a b. a ≢ b) (cond b seen (seen ++ name ∷ []))
@@ -75,6 +80,7 @@ different-apart seen [] h = h
 different-apart seen (name ∷ names) h = different-apart (cond (list_any (bytes_eq name) seen) seen (seen ++ name ∷ []))
     names (apart_if seen name (list_any (bytes_eq name) seen) refl h)
 
+-- what is in the list then was in it, or is the name
 from_if : (seen : List (List ℕ)) (name x : List ℕ) (b : Bool) → Contains (cond b seen (seen ++ name ∷ [])) x →
     Contains seen x ⊎ (name ≡ x)
 from_if seen name x true c = inl c
@@ -84,9 +90,11 @@ from_if seen name x false c = ⊎_elim
     (Contains-cases name [] x d))
     (Contains-append_cases seen (name ∷ []) x c)
 
+-- an element stands in front
 Contains-head : (x y : List ℕ) (xs : List (List ℕ)) → x ≡ y → Contains (x ∷ xs) y
 Contains-head x y xs e = (0, omega arith, e)
 
+-- what is in a list is in it behind one more element
 Contains-tail : (x y : List ℕ) (xs : List (List ℕ)) → Contains xs y → Contains (x ∷ xs) y
 Contains-tail x y xs (k, l, e) = (suc k, omega (arith, l), e)
 
@@ -103,9 +111,11 @@ different-from seen (name ∷ names) x c = ⊎_elim
     (different-from (cond (list_any (bytes_eq name) seen) seen (seen ++ name ∷ [])) names x c)
 
 module _ (g : Graph) (limited : IsWithinLimits g) where
+  -- the name of a process
   name_of : ℕ → List ℕ
   name_of p = get_or (names_of g.processes) p []
 
+  -- the processes with a conditional output
   conditional : List ℕ
   conditional = filter (has_conditional_output g.edges) (numbers_below (process_count g))
 
@@ -130,6 +140,7 @@ module _ (g : Graph) (limited : IsWithinLimits g) where
       (Contains-map name_of conditional e.from (Contains-filter (has_conditional_output g.edges)
       (numbers_below (process_count g)) e.from passes (Contains-numbers (process_count g) e.from from)))
 
+  -- the sources of conditional edges are within the limit
   few_sources : length (different [] (sources (map (raw_edge (names_of g.processes)) g.edges))) ≤ MOST_CONDITIONS
   unfolding conditional
   few_sources =
@@ -178,6 +189,7 @@ edge_in : (names : List (List ℕ)) (count : ℕ) (e : Edge) → IsEdgeWithin co
     AreWithin (edge_numbers (raw_edge names e))
 edge_in names count e h = (within 1 LARGEST e.size h.sized h.size, tt)
 
+-- what follows from a property holds if that does, of all elements
 all_weaker : {X : Type 0} (P R : X → Type 0) → ((x : X) → P x → R x) → (xs : List X) → AllByRecursion P xs →
     AllByRecursion R xs
 all_weaker P R f [] h = tt

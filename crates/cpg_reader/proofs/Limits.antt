@@ -23,6 +23,7 @@ abbrev pub AreIn : List BoundedField → Type 0
 AreIn [] = Unit {0}
 AreIn (n ∷ ns) = (n.low ≤ natural n.value) × (natural n.value ≤ n.high) × AreIn ns
 
+-- what the limits say of a graph that was read
 pub record AreLimits (g : RawGraph) : Type 0 where
   pub nodes : length g.nodes ≤ 16
   pub slots : length g.slots ≤ 16

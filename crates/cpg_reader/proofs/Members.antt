@@ -12,6 +12,7 @@ use Rattle.toml.specs.declared.value.Value.{Value}
 use Rattle.toml.proofs.Views.{Entry}
 use Rattle.cpg_reader.specs.WrittenTree.{with_member}
 
+-- the members of a list that an order chooses are those of the list
 match_members : (o : Ordering) (a b c : List Entry) →
     members_view (match_ordering o a b c) ≡ match_ordering o (members_view a) (members_view b) (members_view c)
 match_members Less a b c = refl
@@ -26,6 +27,7 @@ members_view-insert (e ∷ es) k v = match_members (string_cmp k e.0) _ _ _ ∙ 
 
 -- one more element of a list
 module _ {X : Type 0} (xs : List X) (i : ℕ) (x : X) (h : i < length xs) (is : x ≡ get_or xs i x) where
+  -- the entries so far, with the next one
   more : take (i + 1) xs ≡ take i xs ++ x ∷ []
   more = take_more xs i x h ∙ ap (λ y. take i xs ++ y ∷ []) (sym is)
 

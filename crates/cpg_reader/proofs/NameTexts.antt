@@ -24,9 +24,11 @@ IsName-from_is_name text h =
       plain = AllPass-from_list_all is_name_byte text plain;
     }
 
+-- a text is taken as a name by the test for names
 if_name : (text : List ℕ) (b : Bool) → is_name text ≡ b → name_if text ≡ cond b (Some text) None
 if_name text b e = rw e
 
+-- a text that isn't a name isn't taken as one
 not_name : (text : List ℕ) (b : Bool) → is_name text ≡ b → ¬ IsName text → name_if text ≡ None
 not_name text true e h = absurd (h (IsName-from_is_name text e))
 not_name text false e h = if_name text false e

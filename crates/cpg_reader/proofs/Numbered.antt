@@ -26,21 +26,26 @@ use Rattle.cpg_reader.specs.Names.{order_apart, graph_of, resolved}
 use Rattle.cpg_reader.specs.RawOf.{raw_slot, raw_process, raw_edge, raw_of, name_in, names_of}
 use Rattle.cpg_reader.proofs.RawReads.{all_by_recursion}
 
+-- no name stands twice
 abbrev pub AreApart : List (List ℕ) → Type 0
 AreApart names = AllPairs (λ a b. a ≢ b) names
 
+-- the test tells different names apart
 differ : (x y : List ℕ) → x ≢ y → bytes_eq x y ≡ false
 differ x y h = false_from_ne_true (bytes_eq x y) (λ t. h ((bytes_eq-Decides x y).0 t))
 
+-- what stands in a list stands there still if another is appended
 at_left : (xs ys : List (List ℕ)) (k : ℕ) (d : List ℕ) → k < length xs → get_or (xs ++ ys) k d ≡ get_or xs k d
 at_left [] ys k d l = absurd (omega arith)
 at_left (x ∷ xs) ys zero d l = refl
 at_left (x ∷ xs) ys (suc k) d l = at_left xs ys k d (omega arith)
 
+-- what is put between two lists stands at the length of the first
 at_middle : (xs ys : List (List ℕ)) (y d : List ℕ) → get_or (xs ++ y ∷ ys) (length xs) d ≡ y
 at_middle [] ys y d = refl
 at_middle (x ∷ xs) ys y d = at_middle xs ys y d
 
+-- the first list is shorter than all
 left_shorter : (xs ys : List (List ℕ)) (y : List ℕ) → length xs < length (xs ++ y ∷ ys)
 left_shorter [] ys y = omega arith
 left_shorter (x ∷ xs) ys y = omega (arith, left_shorter xs ys y)
@@ -57,6 +62,7 @@ apart_from-pairs table key i earlier (name ∷ names) h =
     rw new (apart_from-pairs table key (i + 1) (earlier ++ name ∷ []) names
     (subst AreApart (sym (append_assoc earlier (name ∷ []) names)) h))
 
+-- different names aren't refused as double
 apart-names : (table : Table) (key : Key) (names : List (List ℕ)) → AreApart names → apart table key names ≡ Ok tt
 unfolding apart
 apart-names table key names h = apart_from-pairs table key 0 [] names h
@@ -82,10 +88,12 @@ each_back : {S T : Type 0} (step : ℕ → T → Reading S) (f : S → T) (P : S
 each_back step f P h i [] a = refl
 each_back step f P h i (x ∷ xs) a = rw (h i x a.0, each_back step f P h (i + 1) xs a.1) refl
 
+-- mapping twice is mapping once by both
 map_map : {X Y Z : Type 0} (f : X → Y) (r : Y → Z) (xs : List X) → map r (map f xs) ≡ map (λ x. r (f x)) xs
 map_map f r [] = refl
 map_map f r (x ∷ xs) = ap (λ l. r (f x) ∷ l) (map_map f r xs)
 
+-- the number that a reading gives, or 0
 abbrev number_value : Reading ℕ → ℕ
 number_value (Ok n) = n
 number_value (Err e) = 0
@@ -100,6 +108,7 @@ only names h m n l k e =
 
 -- the names of an order differ, and stand for its numbers
 module _ (names : List (List ℕ)) (names_differ : AreApart names) where
+  -- the names of an order differ
   order_names_apart : (o : List ℕ) → IsOrderWithin (length names) o → AreApart (map (name_in names) o)
   order_names_apart o h i j d lt l same =
       let l' : j < length o = omega (arith, l, length-map o (name_in names)) in
@@ -124,6 +133,7 @@ module _ (names : List (List ℕ)) (names_differ : AreApart names) where
       (λ i p l. number_at names _ p names_differ l) 0 o (all_by_recursion _ o h.there)) refl
 
 module _ (g : Graph) (limited : IsWithinLimits g) where
+  -- a written slot is read as the slot
   slot_back : (i : ℕ) (s : Slot) → IsSlotWithin (length g.nodes) s → slot_of g.nodes i (raw_slot g.nodes s) ≡ Ok s
   unfolding slot_of
   slot_back i s h = rw (number_at g.nodes _ s.node limited.node_names h.node) refl
@@ -135,10 +145,12 @@ module _ (g : Graph) (limited : IsWithinLimits g) where
   process_by i p None e h = rw (number_at g.nodes _ p.node limited.node_names h.node, e) refl
   process_by i p (Some d) e h = rw (number_at g.nodes _ p.node limited.node_names h.node, e) refl
 
+  -- the names of the processes differ
   names_apart : AreApart (names_of g.processes)
   names_apart = AllPairs-map (λ (p : Process) (q : Process). p.name ≢ q.name) (λ a b. a ≢ b)
       (λ (p : Process). p.name) g.processes (λ p q d. d) limited.process_names
 
+  -- the nodes of the slots differ
   slots_apart : AreApart (map (λ (s : Slot). get_or g.nodes s.node []) g.slots)
   slots_apart i j d lt l same =
       let l' : j < length g.slots = omega (arith, l, length-map g.slots (λ (s : Slot). get_or g.nodes s.node [])) in
@@ -163,6 +175,7 @@ module _ (g : Graph) (limited : IsWithinLimits g) where
         number_at (names_of g.processes) _ e.to names_apart (omega (arith, count, h.to)),
       ) refl
 
+  -- the order, if there is one, is of these processes
   order_within : IfSome g.order (IsOrderWithin (length (names_of g.processes)))
   order_within = subst (λ n. IfSome g.order (IsOrderWithin n))
       (sym (length-map g.processes (λ (p : Process). p.name))) limited.order

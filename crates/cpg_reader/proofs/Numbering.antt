@@ -16,6 +16,7 @@ use Rattle.cpg_reader.specs.Reading.{Reading}
 use Rattle.cpg_reader.specs.Ranges.{different}
 use Rattle.cpg_reader.specs.Names.{apart_from, apart, known, number_of}
 
+-- a number that is known was found
 known-parts : (place : Place) (found : Option ℕ) (n : ℕ) → known place found ≡ Ok n → found ≡ Some n
 known-parts place (Some m) n h = cc
 known-parts place None n h = cc
@@ -29,9 +30,11 @@ number-is names place name n h d =
     let found = position-Some (bytes_eq name) names n d (known-parts place (position (bytes_eq name) names) n h) in
     (found.0, sym ((bytes_eq-Decides name (get_or names n d)).0 found.1))
 
+-- names that the test tells apart are different
 differ : (x y : List ℕ) → bytes_eq y x ≡ false → x ≢ y
 differ x y e is = true≢false (sym ((bytes_eq-Decides y x).1 (sym is)) ∙ e)
 
+-- a reading that isn't refused by a test goes on to its next step
 goes_by : {T : Type 0} (b : Bool) (next : Reading T) (fault : ReadFault) (x : T) → cond b (Err fault) next ≡ Ok x →
     (b ≡ false) × (next ≡ Ok x)
 goes_by true next fault x h = cc
@@ -58,6 +61,7 @@ pub apart-pairs : (table : Table) (key : Key) (names : List (List ℕ)) (x : Uni
 unfolding apart
 apart-pairs table key names x h = apart_from-pairs table key 0 [] names x (λ i j d lt l. absurd (omega arith)) h
 
+-- a name is noted, or was noted before
 noted_if : (seen : List (List ℕ)) (name : List ℕ) (b : Bool) → list_any (bytes_eq name) seen ≡ b →
     Contains (cond b seen (seen ++ name ∷ [])) name
 noted_if seen name true e =
@@ -65,6 +69,7 @@ noted_if seen name true e =
     subst (Contains seen) (sym ((bytes_eq-Decides name other).0 same)) there
 noted_if seen name false e = Contains-push seen name
 
+-- names that were seen before are among those seen with one more
 kept_if : (seen : List (List ℕ)) (name other : List ℕ) (b : Bool) → Contains seen other →
     Contains (cond b seen (seen ++ name ∷ [])) other
 kept_if seen name other true h = h

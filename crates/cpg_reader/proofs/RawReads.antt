@@ -40,6 +40,7 @@ slot_read : (nodes : List (List ℕ)) (i : ℕ) (s : Slot) → IsName (get_or no
 unfolding read_slot read_name read_integer optional only
 slot_read nodes i s h = rw (name_read (get_or nodes s.node []) h) refl
 
+-- a process and its node have lawful names
 pub record IsCalled (nodes : List (List ℕ)) (p : Process) : Type 0 where
   pub name : IsName p.name
   pub node : IsName (get_or nodes p.node [])
@@ -52,6 +53,7 @@ unfolding read_process read_name read_integer integer_or flag_or optional only
 process_by nodes i p None e h = rw (e, name_read p.name h.name, name_read (get_or nodes p.node []) h.node) refl
 process_by nodes i p (Some d) e h = rw (e, name_read p.name h.name, name_read (get_or nodes p.node []) h.node) refl
 
+-- both ends of an edge have lawful names
 pub record IsJoined (names : List (List ℕ)) (e : Edge) : Type 0 where
   pub from : IsName (get_or names e.from [])
   pub to : IsName (get_or names e.to [])
@@ -93,6 +95,7 @@ names_read : (names : List (List ℕ)) (order : List ℕ) → AllByRecursion (λ
 names_read names [] h = refl
 names_read names (p ∷ ps) h = rw (name_read (name_in names p) h.0, names_read names ps h.1) refl
 
+-- mapping each element to itself changes nothing
 map_same : {X : Type 0} (xs : List X) → map (λ x. x) xs ≡ xs
 map_same [] = refl
 map_same (x ∷ xs) = ap (λ l. x ∷ l) (map_same xs)
@@ -105,6 +108,7 @@ pub record AreNames (g : Graph) : Type 0 where
   pub edges : AllByRecursion (IsJoined (names_of g.processes)) g.edges
   pub order : IfSome g.order (AllByRecursion (λ p. IsName (name_in (names_of g.processes) p)))
 
+-- the tables of the nodes are read as their names
 nodes_read : (g : Graph) → AreNames g → read_rows places.Node read_node (map node_members g.nodes) ≡ Ok g.nodes
 nodes_read g h = each_read (λ i ms. read_node (record { table = places.Node; index = i; members = ms })) node_members
     (λ n. n) IsName node_read 0 g.nodes h.nodes ∙ ap (λ l. Ok l) (map_same g.nodes)

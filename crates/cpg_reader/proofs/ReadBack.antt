@@ -33,6 +33,7 @@ process_flat : (nodes : List (List ℕ)) (p : Process) (own : Option ℕ) → p.
 process_flat nodes p None e = rw e (omega arith)
 process_flat nodes p (Some d) e = rw e (omega arith)
 
+-- the table of an edge has no tables in it
 edge_flat : (ps : List Process) (e : Edge) (when : Option Bool) → e.when ≡ when → members_depth (edge_members ps e) ≤ 0
 edge_flat ps e None is = rw is (omega arith)
 edge_flat ps e (Some value) is = rw is (omega arith)
@@ -43,6 +44,7 @@ names_flat : (names : List (List ℕ)) (order : List ℕ) →
 names_flat names [] = omega arith
 names_flat names (p ∷ ps) = omega (arith, names_flat names ps)
 
+-- a written document is no deeper than a reader goes
 shallow_by : (g : Graph) (order : Option (List ℕ)) → g.order ≡ order → members_depth (graph_members g) ≤ 80
 shallow_by g None is = rw is (
     let nodes = tables_flat node_members (λ n. omega arith) g.nodes in
@@ -64,9 +66,11 @@ graph_shallow g = shallow_by g g.order refl
 -- given a graph within the limits, with well-formed names
 module _ (g : Graph) (limited : IsWithinLimits g) (nodes : All IsName g.nodes)
     (processes : All (λ p. IsName p.name) g.processes) where
+  -- each node has a lawful name
   node_named : (n : ℕ) → n < length g.nodes → IsName (get_or g.nodes n [])
   node_named n l = nodes n [] l
 
+  -- each process has a lawful name
   process_named : (n : ℕ) → n < length g.processes → IsName (get_or (names_of g.processes) n [])
   process_named n l =
       let none : Process = record {
@@ -90,6 +94,7 @@ module _ (g : Graph) (limited : IsWithinLimits g) (nodes : All IsName g.nodes)
   order_named None h = tt
   order_named (Some o) h = all_by_recursion _ o (λ k d l. process_named (get_or o k d) (h.there k d l))
 
+  -- all names of the graph are lawful
   are_names : AreNames g
   are_names = record {
     nodes = all_by_recursion IsName g.nodes nodes;
@@ -107,6 +112,7 @@ module _ (g : Graph) (limited : IsWithinLimits g) (nodes : All IsName g.nodes)
     order = order_named g.order limited.order;
   }
 
+  -- the written members are read as the graph
   members_back : read_members (graph_members g) ≡ Ok g
   unfolding read_members
   members_back = rw (raw_read g are_names, raw_limited g limited) (graph_back g limited)

@@ -15,6 +15,7 @@ pub bind-parts : {T U : Type 0} (a : Reading T) (next : T → Reading U) (y : U)
 bind-parts (Ok x) next y h = (x, refl, h)
 bind-parts (Err fault) next y h = cc
 
+-- what a reading gives, or a default
 ok_value : {T : Type 0} → T → Reading T → T
 ok_value d (Ok x) = x
 ok_value d (Err fault) = d

@@ -14,16 +14,20 @@ use Rattle.cpg_reader.specs.Ranges.{different, sources}
 use Rattle.cpg_reader.specs.Names.{apart_from, name_place}
 use Rattle.cpg_reader.proofs.Each.{drop-here}
 
+-- texts that are borrowed
 abbrev pub Texts : Type 0
 Texts = List (Bor (List ℕ))
 
+-- the texts themselves
 abbrev pub texts : Texts → List (List ℕ)
 texts ks = map (λ k. k.now) ks
 
+-- a text is among borrowed ones if it is among the texts
 any-texts : (name : List ℕ) (ks : Texts) → list_any (λ k. bytes_eq name k.now) ks ≡ list_any (bytes_eq name) (texts ks)
 any-texts name [] = refl
 any-texts name (k ∷ ks) = rw (any-texts name ks) refl
 
+-- a text stands among borrowed ones at the place at which it stands among the texts
 first-texts : (name : List ℕ) (ks : Texts) →
     position_or_len (λ k. bytes_eq name k.now) ks ≡ position_or_len (bytes_eq name) (texts ks)
 first-texts name [] = refl
@@ -34,6 +38,7 @@ pub position-texts : (name : List ℕ) (ks : Texts) →
     position (λ k. bytes_eq name k.now) ks ≡ position (bytes_eq name) (texts ks)
 position-texts name ks = rw (first-texts name ks, length-map ks (λ k. k.now)) refl
 
+-- whether two borrowed texts are equal
 abbrev pub same_text : Bor (List ℕ) → Bor (List ℕ) → Bool
 same_text a b = bytes_eq a.now b.now
 
@@ -88,6 +93,7 @@ was_new true e = cc
 
 module _ (ks : Texts) (k : Bor (List ℕ)) (new : Texts) (keys : new ≡ insert_key same_text ks k)
     (e : list_any (same_text k) ks ≡ false) where
+  -- the texts with one more
   noted : texts new ≡ texts ks ++ k.now ∷ []
   noted = ap texts (rw e at keys) ∙ map_push (λ n. n.now) ks k
 

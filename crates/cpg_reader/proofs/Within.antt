@@ -52,6 +52,7 @@ shows_slot nodes i raw s h =
       bytes = ap (λ (x : Slot). x.bytes) is;
     }
 
+-- a process of the graph has what the document says of it, and the number of the node that is named
 record ShowsProcess (nodes : List (List ℕ)) (i : ℕ) (raw : RawProcess) (p : Process) : Type 0 where
   pub name : raw.name ≡ p.name
   pub node : number_of nodes (place tables.Process i Node) raw.node ≡ Ok p.node
@@ -82,6 +83,7 @@ shows_process nodes i raw p h =
       deadline = ap (λ (x : Process). x.deadline) is;
     }
 
+-- an edge of the graph has what the document says of it, and the numbers of the processes that are named
 record ShowsEdge (processes : List (List ℕ)) (i : ℕ) (raw : RawEdge) (e : Edge) : Type 0 where
   pub from : number_of processes (place tables.Edge i From) raw.from ≡ Ok e.from
   pub to : number_of processes (place tables.Edge i To) raw.to ≡ Ok e.to
@@ -138,14 +140,17 @@ record AreParts (g : RawGraph) (ss : List Slot) (ps : List Process) (es : List E
   pub order_apart : order_apart g.order ≡ Ok tt
   pub order : order_of (process_names g.processes) g.order ≡ Ok found
 
+-- a deadline of its own that is within the limit is so as a natural number
 deadline_within : (own : Option ℤ) (most : ℕ) → natural (unwrap_or own (pos 0)) ≤ most →
     IfSome (option_map natural own) (λ d. d ≤ most)
 deadline_within (Some d) most h = h
 deadline_within None most h = tt
 
+-- a slot for places behind the list
 some_slot : RawSlot
 some_slot = record { node = []; length = pos 0; bytes = pos 0 }
 
+-- a process for places behind the list
 some_process : RawProcess
 some_process = record {
   name = [];
@@ -161,6 +166,7 @@ some_process = record {
   deadline = None;
 }
 
+-- an edge for places behind the list
 some_edge : RawEdge
 some_edge = record { from = []; to = []; bytes = pos 0; when = None; frozen = false }
 
@@ -168,18 +174,23 @@ some_edge = record { from = []; to = []; bytes = pos 0; when = None; frozen = fa
 -- `ss`, `ps`, `es`, `order`, `parts`: the slots, processes, edges and the order that are built of the document g
 module _ (g : RawGraph) (ss : List Slot) (ps : List Process) (es : List Edge) (order : Option (List ℕ))
     (limited : AreLimits g) (parts : AreParts g ss ps es order) where
+  -- there are as many slots as tables of slots
   slot_count : length ss ≡ length g.slots
   slot_count = each-length (slot_of g.nodes) 0 g.slots ss parts.slots
 
+  -- there are as many processes as tables of processes
   process_count : length ps ≡ length g.processes
   process_count = each-length (process_of g.nodes) 0 g.processes ps parts.processes
 
+  -- there are as many edges as tables of edges
   edge_count : length es ≡ length g.edges
   edge_count = each-length (edge_of (process_names g.processes)) 0 g.edges es parts.edges
 
+  -- there are as many names as processes
   name_count : length (process_names g.processes) ≡ length ps
   name_count = length-map g.processes (λ p. p.name) ∙ sym process_count
 
+  -- each slot has what its table says
   slot_there : (k : ℕ) (d : Slot) → k < length ss → ShowsSlot g.nodes k (get_or g.slots k some_slot) (get_or ss k d)
   slot_there k d l = shows_slot g.nodes k _ _
       (each-at (slot_of g.nodes) 0 g.slots ss parts.slots k k some_slot d (zero-add k) (omega (arith, l, slot_count)))
@@ -196,6 +207,7 @@ module _ (g : RawGraph) (ss : List Slot) (ps : List Process) (es : List Edge) (o
   edge_there k d l = shows_edge (process_names g.processes) k _ _ (each-at (edge_of (process_names g.processes)) 0
       g.edges es parts.edges k k some_edge d (zero-add k) (omega (arith, l, edge_count)))
 
+  -- each slot is within the limits
   slots_within : All (IsSlotWithin (length g.nodes)) ss
   slots_within k d l =
       let shown = slot_there k d l in
@@ -227,6 +239,7 @@ module _ (g : RawGraph) (ss : List Slot) (ps : List Process) (es : List Edge) (o
             (deadline_within (get_or g.processes k some_process).deadline 1000000000 ranges.2.2.2.2.2.2.1);
       }
 
+  -- each edge is within the limits
   edges_within : All (IsEdgeWithin (length ps)) es
   edges_within k d l =
       let shown = edge_there k d l in
@@ -243,11 +256,13 @@ module _ (g : RawGraph) (ss : List Slot) (ps : List Process) (es : List Edge) (o
   named k d l =
       get_or-map _ g.processes k some_process [] (omega (arith, l, process_count)) ∙ (process_there k d l).name
 
+  -- the names of the processes differ
   names_differ : AllPairs (λ p q. p.name ≢ q.name) ps
   names_differ i j d lt l e =
       parts.processes_apart i j [] lt (omega (arith, l, name_count))
       (named i d (omega (arith, lt, l)) ∙ e ∙ sym (named j d l))
 
+  -- the nodes of the slots differ
   slots_differ : AllPairs (λ s t. s.node ≢ t.node) ss
   slots_differ i j d lt l e =
       let a = number-is g.nodes _ _ _ (slot_there i d (omega (arith, lt, l))).node [] in
@@ -262,14 +277,17 @@ module _ (g : RawGraph) (ss : List Slot) (ps : List Process) (es : List Edge) (o
   conditional : List ℕ
   conditional = filter (has_conditional_output es) (numbers_below (length ps))
 
+  -- the name of a process
   name_of : ℕ → List ℕ
   name_of p = get_or (process_names g.processes) p []
 
+  -- a conditional process is one of the graph
   conditional_below : (p : ℕ) → Contains conditional p → p < length ps
   unfolding conditional
   conditional_below p c = numbers-Contains (length ps) p
       (Contains-filter_parts (has_conditional_output es) (numbers_below (length ps)) p c).0
 
+  -- the names of the conditional processes differ
   conditional_names_differ : AllPairs (λ a b. a ≢ b) (map name_of conditional)
   unfolding conditional name_of
   conditional_names_differ i j d lt l e =
@@ -299,6 +317,7 @@ module _ (g : RawGraph) (ss : List Slot) (ps : List Process) (es : List Edge) (o
       (Contains-filter (λ (r : RawEdge). is_some r.when) g.edges raw (ap is_some when ∙ taken)
       (Contains-get_or g.edges k some_edge (omega (arith, l, edge_count)))))
 
+  -- there are at most 32 of them
   few_conditional : length conditional ≤ 32
   few_conditional =
       let all = length-le_of_apart (map name_of conditional) (different [] (sources g.edges)) conditional_names_differ
@@ -307,10 +326,12 @@ module _ (g : RawGraph) (ss : List Slot) (ps : List Process) (es : List Edge) (o
       (inr (subst (Contains (sources g.edges)) is (conditional_named p there)))) in
       omega (arith, all, limited.conditions, length-map conditional name_of)
 
+  -- there are at most 32 conditions
   conditions_within : condition_count (graph_with g ss ps es order) ≤ 32
   unfolding conditional
   conditions_within = subst (λ n. n ≤ 32) (ap length (conditions_found (graph_with g ss ps es order))) few_conditional
 
+  -- an order that is within the limits of the document is within those of the graph
   order_there : (o : Option (List ℕ)) →
       IfSome o (λ o. (n : ℕ) → length (process_names g.processes) ≡ n → IsOrderWithin n o) →
       IfSome o (IsOrderWithin (length ps))

@@ -31,6 +31,7 @@ use Rattle.cpg_refusal.specs.declared.halt.Refusal.TheVariants.{UnknownNode, NoH
 use Rattle.cpg_refusal.specs.declared.halt.Halt.{Halt}
 use Rattle.cpg_refusal.specs.declared.halt.Halt.TheVariants.{Words, Read, Refused, Late, TooWide, Unsafe, Memory}
 
+-- the status that a run ends with when it halts for this reason
 abbrev pub status_of : Halt → ℕ
 status_of Words = 1
 status_of Read = 2
@@ -53,9 +54,11 @@ table_text Slot index = codes "slot " ++ decimal index
 table_text Process index = codes "process " ++ decimal index
 table_text Edge index = codes "edge " ++ decimal index
 
+-- a place in a graph file: its table and its key
 abbrev pub place_text : Place → List ℕ
 place_text place = table_text place.table place.index ++ codes " " ++ key_text place.key
 
+-- what is over a limit, in a word or as a place
 abbrev pub what_text : What → List ℕ
 what_text Nodes = codes "nodes"
 what_text Slots = codes "slots"
@@ -127,6 +130,7 @@ refusal_text (NoHypergraph fault) = codes "22 hyper " ++ parts_text fault
 refusal_text (BadLog line) = codes "23 log " ++ decimal line
 refusal_text (BadOrder g p) = codes "24 order " ++ name_of g p
 
+-- the text of a refusal
 abbrev pub refused_text : Refusal → List ℕ
 refused_text refusal = codes "refused " ++ refusal_text refusal
 
@@ -149,6 +153,7 @@ unsafe_text g f =
     codes "unsafe V" ++ decimal f.rule ++ codes " " ++ item_text g f.item ++ codes " column " ++ column_text f.column
     ++ codes " in " ++ scenario_text g f.scenario
 
+-- the text of a reason to halt
 abbrev pub reason_text : Halt → List ℕ
 reason_text Words = codes "words"
 reason_text Read = codes "read fault"
@@ -172,6 +177,7 @@ abbrev pub IsNamedRefusal : Refusal → Type 0
 IsNamedRefusal (TwoAlternatives g p s) = HasRoom g s
 IsNamedRefusal refusal = ⊤
 
+-- an item that a halt names is one of the graph, and a scenario that it names has as many values as the graph
 abbrev pub IsNamed : Halt → Type 0
 IsNamed (Refused refusal) = IsNamedRefusal refusal
 IsNamed (Late a s p time) = HasRoom a.graph s

@@ -24,6 +24,7 @@ use Rattle.cpg_row_trees.proofs.SliceLaws.{back_from_over, slice_tree_parted, ma
 -- ---- one literal more
 
 module _ (ls : List Literal) (i : ℕ) (l : Literal) (there : i < length ls) (s : Scenario) where
+  -- a scenario that one literal more matches is matched by those before and by it
   less_matches : matches (take (i + 1) ls) s ≡ true → (matches (take i ls) s ≡ true) × (holds s (get_or ls i l) ≡ true)
   less_matches all = and_parts (matches (take i ls) s) (holds s (get_or ls i l))
       (sym (matches_push s (get_or ls i l) (take i ls))
@@ -63,9 +64,11 @@ own_all k space ls i past = subst (IsOwn k space) (take_all i ls past)
 
 -- ---- the sides of a fork
 
+-- a number is at most itself
 le_self : (n : ℕ) → n ≤ n
 le_self n = omega arith
 
+-- a number is at most itself with more added
 le_more : (n m : ℕ) → n + 1 ≤ (n + 1) + m
 le_more n m = omega arith
 
@@ -73,17 +76,21 @@ le_more n m = omega arith
 -- `ranges`: the ranges of the space alone say who is in it. `open_`: the cut has numbers of the space on both sides.
 module _ (k : ℕ) (space side : Space) (v cut : ℕ) (there : v < 256) (ranges : AreRangesAll k space)
     (open_ : IsOpenCut space v cut) where
+  -- the space is one that a fork comes to
   reached : IsForkSpace k space (sum_by (narrowed k space) (numbers_below 256))
   reached = record { by_ranges = ranges; few = le_self (sum_by (narrowed k space) (numbers_below 256)) }
 
+  -- one more than the narrow variables leaves room for the one of the cut
   more : (sum_by (narrowed k space) (numbers_below 256)) + 1
       ≤ ((sum_by (narrowed k space) (numbers_below 256)) + 1) + narrowed k space v
   more = le_more (sum_by (narrowed k space) (numbers_below 256)) (narrowed k space v)
 
+  -- the cut is below the high
   below_high : cut < get_or space.high v 0
   below_high = cut_in_range k space v cut (sum_by (narrowed k space) (numbers_below 256))
       ((sum_by (narrowed k space) (numbers_below 256)) + 1) there reached open_ more
 
+  -- the cut isn't below the low
   above_low : get_or space.low v 0 ≤ cut
   above_low = low_in_range k space v cut (sum_by (narrowed k space) (numbers_below 256))
       ((sum_by (narrowed k space) (numbers_below 256)) + 1) there reached open_ more
@@ -97,9 +104,11 @@ module _ (k : ℕ) (space side : Space) (v cut : ℕ) (there : v < 256) (ranges 
         ((sum_by (narrowed k space) (numbers_below 256)) + 1)
         there long reached open_ more is goes).by_ranges
 
+    -- below the cut the low is as before
     low_as_before : get_or side.low v 0 ≡ get_or space.low v 0
     low_as_before = ap (λ (r : Space). get_or r.low v 0) is
 
+    -- below the cut the high is the cut
     high_is_cut : get_or side.high v 0 ≡ cut
     high_is_cut =
         ap (λ (r : Space). get_or r.high v 0) is ∙ set_same space.high v cut v (omega (arith, long, there)) refl
@@ -124,10 +133,12 @@ module _ (k : ℕ) (space side : Space) (v cut : ℕ) (there : v < 256) (ranges 
         ((sum_by (narrowed k space) (numbers_below 256)) + 1)
         there long reached open_ more is goes).by_ranges
 
+    -- above the cut the low is the next number
     low_is_next : get_or side.low v 0 ≡ cut + 1
     low_is_next =
         ap (λ (r : Space). get_or r.low v 0) is ∙ set_same space.low v (cut + 1) v (omega (arith, long, there)) refl
 
+    -- above the cut the high is as before
     high_as_before : get_or side.high v 0 ≡ get_or space.high v 0
     high_as_before = ap (λ (r : Space). get_or r.high v 0) is
 

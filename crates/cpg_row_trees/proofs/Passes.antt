@@ -18,6 +18,7 @@ holds_leaf {T} fact space x n is all = subst (λ (m : TreeNode T). HoldsInSpace 
 -- a fork, and a fact of the values that scenarios of a space come to
 module _ {T : Type 0} (fact : T → Scenario → Type 0) (space : Space) (v cut : ℕ) (below above n : TreeNode T)
     (is : n ≡ Fork v cut below above) where
+  -- what holds of the value of a side holds of the fork's
   from_side : (s : Scenario) (x y : T) → y ≡ x → fact x s → fact y s
   from_side s x y e h = subst (λ (z : T). fact z s) (sym e) h
 

@@ -89,6 +89,7 @@ range_implied literals l v first on implied = record {
 -- `keeps`: a cube that a fitting scenario matches is kept if it is among the places. `lies`: s fits.
 module _ (cubes : List (List Literal)) (fits : Scenario → Type 0) (places kept : List ℕ)
     (keeps : KeepsWhere cubes fits places kept) (s : Scenario) (lies : fits s) where
+  -- the place of a match among those kept is that of a match among all
   widen_place : (x : Option ℕ) → IsMatchAmong cubes kept x s → IsMatchAmong cubes places x s
   widen_place None h = λ j c m. h j (keeps s j lies c m) m
   widen_place (Some i) h = record { is = h.is; only = λ j c m. h.only j (keeps s j lies c m) m }
@@ -104,6 +105,7 @@ module _ (cubes : List (List Literal)) (space one two : Space) (places low high 
     (of_two : HoldsInSpace (IsMatchAmong cubes high) two above)
     (goes_one : (s : Scenario) → IsInSpace space s → number_of s v ≤ cut → IsInSpace one s)
     (goes_two : (s : Scenario) → IsInSpace space s → cut < number_of s v → IsInSpace two s) where
+  -- each scenario of the space finds its match on its side
   found_parted : HoldsInSpace (IsMatchAmong cubes places) space r
   found_parted s lies = elim (cases_lt cut (number_of s v)) [
     | inl h ↦ let l = goes_two s lies h in

@@ -32,15 +32,18 @@ is_no_leaf None h e = h
 is_no_leaf (Some i) h e = cc
 
 module _ {X : Type 0} (P : X → Type 0) where
+  -- what holds of all of two lists holds of the first
   in_front : (xs ys : List X) → All P (xs ++ ys) → All P xs
   in_front [] ys all = All-nil P
   in_front (x ∷ xs) ys all =
       All-cons P x xs (All-head P x (xs ++ ys) all) (in_front xs ys (All-tail P x (xs ++ ys) all))
 
+  -- what holds of all of two lists holds of the second
   behind : (xs ys : List X) → All P (xs ++ ys) → All P ys
   behind [] ys all = all
   behind (x ∷ xs) ys all = behind xs ys (All-tail P x (xs ++ ys) all)
 
+-- if both sides of a fork have a place, so has the one that a scenario goes to
 side_there : (b : Bool) (x y : Option ℕ) → (x ≡ None → ⊥) → (y ≡ None → ⊥) → (if b then x else y) ≡ None → ⊥
 side_there true x y low high = low
 side_there false x y low high = high

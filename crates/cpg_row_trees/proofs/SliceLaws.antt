@@ -78,14 +78,17 @@ in_range space s lies = record { low = lies.low; high = lies.high }
 
 -- ---- what leads to the sides
 
+-- a sum over one side of a fork: it differs from the whole by what changed at the fork's variable
 sum_of_side : (side whole at_side at_whole narrow n : ℕ) → side + at_whole ≡ whole + at_side → whole ≤ narrow →
     narrow + 1 ≤ n + at_whole → at_side ≤ 1 → side ≤ n
 sum_of_side side whole at_side at_whole narrow n changed few more one = omega arith
 
+-- literals can't be as many as needed if a variable that needs one has none
 too_few : (literals rest whole at_rest here narrow found : ℕ) → literals ≤ rest → rest + here ≡ whole + at_rest →
     at_rest ≡ 0 → here ≡ 1 → whole ≤ narrow → narrow ≤ found → found ≤ literals → ⊥
 too_few literals rest whole at_rest here narrow found few changed none one most enough some = omega arith
 
+-- a variable is narrowed once at most
 narrowed_le : (k : ℕ) (space : Space) (v : ℕ) → narrowed k space v ≤ 1
 narrowed_le k space v = step (nat_lt v 256 && is_narrow k space v)
   where
@@ -98,6 +101,7 @@ narrowed_le k space v = step (nat_lt v 256 && is_narrow k space v)
 -- `more`: n counts the variable v as well.
 module _ (k : ℕ) (space : Space) (v cut narrow n : ℕ) (there : v < 256) (reached : IsForkSpace k space narrow)
     (open_ : IsOpenCut space v cut) (more : narrow + 1 ≤ n + narrowed k space v) where
+  -- a side has at most n narrow variables
   one_more : (side : Space) → ((u : ℕ) → (u ≡ v → ⊥) → narrowed k side u ≡ narrowed k space u) →
       sum_by (narrowed k side) (numbers_below 256) ≤ n
   one_more side same = sum_of_side _ _ (narrowed k side v) (narrowed k space v) narrow n
@@ -165,10 +169,12 @@ whole_reached k space whole lies = record {
       | inr l ↦ whole.values v l there ∙ sym (cond-false (nat_lt v 128) k 1 (le-ltb v 128 l))
     ]
 
+    -- a variable with its whole range isn't narrow
     not_narrow : (v low high : ℕ) → low ≡ 0 → high ≡ top k v → (nat_lt 0 low || nat_lt high (top k v)) ≡ false
     not_narrow v low high none all =
         ap (λ n. nat_lt 0 n || nat_lt high (top k v)) none ∙ le-ltb high (top k v) (omega (arith, all))
 
+    -- a variable with its whole range doesn't count as narrow
     wide : (v : ℕ) → v < 256 → narrowed k space v ≡ 0
     wide v there = cond-false {A = ℕ} (nat_lt v 256 && is_narrow k space v) 1 0
         (ap (λ b. nat_lt v 256 && b)
@@ -182,10 +188,12 @@ whole_reached k space whole lies = record {
 module _ (k : ℕ) (space : Space) (ls : List Literal) (narrow found : ℕ) (rising : IsRising ls)
     (reached : IsForkSpace k space narrow) (bounds : AreSpaceBounds k space ls found)
     (enough : narrow ≤ found) where
+  -- a narrow variable counts as one
   is_one : (v : ℕ) → v < 256 → is_narrow k space v ≡ true → narrowed k space v ≡ 1
   is_one v there on = cond-true {A = ℕ} (nat_lt v 256 && is_narrow k space v) 1 0
       (and_from (nat_lt v 256) (is_narrow k space v) (lt-ltb v 256 there) on)
 
+  -- a number that is no variable doesn't count as narrow
   is_none : (v : ℕ) → 256 ≤ v → narrowed k space v ≤ 0
   is_none v past = omega (
     arith,
@@ -193,6 +201,7 @@ module _ (k : ℕ) (space : Space) (ls : List Literal) (narrow found : ℕ) (ris
         (ap (λ b. b && is_narrow k space v) (le-ltb v 256 past)),
   )
 
+  -- a narrow variable can't be without a literal
   none_without : (v : ℕ) → v < 256 → is_narrow k space v ≡ true → ((l : Literal) → Contains ls l → l.variable ≡ v → ⊥) →
       ⊥
   none_without v there on off =
@@ -203,6 +212,7 @@ module _ (k : ℕ) (space : Space) (ls : List Literal) (narrow found : ℕ) (ris
       (sum_changed (without v f) f 256 v there (λ u d. without_other v u f d)) (without_here v f)
       (is_one v there on) reached.few enough bounds.narrow
 
+  -- each narrow variable has a literal
   has_literal : (v : ℕ) → v < 256 → is_narrow k space v ≡ true → (l : Literal) × Contains ls l × (l.variable ≡ v)
   has_literal v there on = step (list_any (λ (l : Literal). l.variable == v) ls) refl
     where
@@ -214,6 +224,7 @@ module _ (k : ℕ) (space : Space) (ls : List Literal) (narrow found : ℕ) (ris
           (from_any_false (λ (m : Literal). m.variable == v) ls l e c) (eq-eqb l.variable v is)))
 
   module _ (s : Scenario) (few : HasAtMostFaults k s) (all : matches ls s ≡ true) where
+    -- at a literal's variable the scenario's number is in the space
     at_literal : (v : ℕ) (l : Literal) → Contains ls l → l.variable ≡ v →
         (get_or space.low v 0 ≤ number_of s v) × (number_of s v ≤ get_or space.high v 0)
     at_literal v l c is =
@@ -222,6 +233,7 @@ module _ (k : ℕ) (space : Space) (ls : List Literal) (narrow found : ℕ) (ris
         subst (λ (u : ℕ). (get_or space.low u 0 ≤ number_of s u) × (number_of s u ≤ get_or space.high u 0)) is
         (omega (arith, inside.low, holds-low s l on), omega (arith, inside.high, holds-high s l on))
 
+    -- at a variable that isn't narrow every number is in the space
     at_wide : (v : ℕ) → is_narrow k space v ≡ false →
         (get_or space.low v 0 ≤ number_of s v) × (number_of s v ≤ get_or space.high v 0)
     at_wide v off =
@@ -230,11 +242,13 @@ module _ (k : ℕ) (space : Space) (ls : List Literal) (narrow found : ℕ) (ris
           omega (arith, not_less (get_or space.high v 0) (top k v) parts.1, number_le_top k s few v),
         )
 
+    -- at each variable the scenario's number is in the space
     at_each : (v : ℕ) → v < 256 → (b : Bool) → is_narrow k space v ≡ b →
         (get_or space.low v 0 ≤ number_of s v) × (number_of s v ≤ get_or space.high v 0)
     at_each v there true on = let r = has_literal v there on in at_literal v r.0 r.1 r.2
     at_each v there false off = at_wide v off
 
+    -- a scenario that matches the literals lies in the space
     comes_here : IsInSpace space s
     comes_here = reached.by_ranges s few
         (record { low = λ v l. (at_each v l (is_narrow k space v) refl).0; high = λ v l. (at_each v l (is_narrow k space v) refl).1 })
@@ -273,6 +287,7 @@ finds_nowhere cubes k space from to none = record {
   comes = λ s j few after before m. absurd (omega (arith, none, after, before));
 }
 
+-- two places that are there are equal if they are so as options
 some_is : (i j : ℕ) → Some i ≡ Some j → i ≡ j
 some_is i j e = cc
 
@@ -280,6 +295,7 @@ some_is i j e = cc
 -- `one`: the slice has at most the cube at `from`. `is_own`: the literals of this cube say who is in the space.
 module _ (cubes : List (List Literal)) (k : ℕ) (space : Space) (from to : ℕ) (there : from < length cubes)
     (one : to ≤ from + 1) (is_own : IsOwn k space (cube_at cubes from)) where
+  -- the slice has one place
   only_place : (j : ℕ) → from ≤ j → j < to → j ≡ from
   only_place j after before = omega (arith, one, after, before)
 
@@ -332,6 +348,7 @@ module _ (k : ℕ) (space side : Space) (v cut narrow n : ℕ) (there : v < 256)
   module _ (long : length space.high ≡ 256) (reached : IsForkSpace k space narrow) (open_ : IsOpenCut space v cut)
       (more : narrow + 1 ≤ n + narrowed k space v) (is : side ≡ below_cut space v cut)
       (goes : (s : Scenario) → IsInSpace space s → number_of s v ≤ cut → IsInSpace side s) where
+    -- a scenario up to the cut lies in the side below
     to_under : (s : Scenario) → IsInSpace space s → number_of s v ≤ cut → IsInSpace (below_cut space v cut) s
     to_under s lies h = subst (λ (r : Space). IsInSpace r s) is (goes s lies h)
 
@@ -345,6 +362,7 @@ module _ (k : ℕ) (space side : Space) (v cut narrow n : ℕ) (there : v < 256)
     back_from_under s few lies = lies_from_below k space v cut narrow n there reached open_ more long to_under s few
         (subst (λ (r : Space). IsInSpace r s) is lies)
 
+    -- in the side below the number is at most the cut
     under_cut : (s : Scenario) → IsInSpace side s → number_of s v ≤ cut
     under_cut s lies = number_below space v cut there s long
         (in_range (below_cut space v cut) s (subst (λ (r : Space). IsInSpace r s) is lies))
@@ -353,6 +371,7 @@ module _ (k : ℕ) (space side : Space) (v cut narrow n : ℕ) (there : v < 256)
   module _ (long : length space.low ≡ 256) (reached : IsForkSpace k space narrow) (open_ : IsOpenCut space v cut)
       (more : narrow + 1 ≤ n + narrowed k space v) (is : side ≡ above_cut space v cut)
       (goes : (s : Scenario) → IsInSpace space s → cut < number_of s v → IsInSpace side s) where
+    -- a scenario above the cut lies in the side above
     to_over : (s : Scenario) → IsInSpace space s → cut < number_of s v → IsInSpace (above_cut space v cut) s
     to_over s lies h = subst (λ (r : Space). IsInSpace r s) is (goes s lies h)
 
@@ -366,6 +385,7 @@ module _ (k : ℕ) (space side : Space) (v cut narrow n : ℕ) (there : v < 256)
     back_from_over s few lies = lies_from_above k space v cut narrow n there reached open_ more long to_over s few
         (subst (λ (r : Space). IsInSpace r s) is lies)
 
+    -- in the side above it is greater
     over_cut : (s : Scenario) → IsInSpace side s → cut < number_of s v
     over_cut s lies = number_above space v cut there s long
         (in_range (above_cut space v cut) s (subst (λ (r : Space). IsInSpace r s) is lies))
@@ -419,19 +439,23 @@ slice_tree_leaf cubes k space from to x old new finds added fewer =
 
 -- ---- what the literals of a path say
 
+-- a true part adds nothing to a conjunction
 with_true : (b : Bool) → (b && true) ≡ b
 with_true true = refl
 with_true false = refl
 
+-- a conjunction of three, in either grouping
 together : (a b c : Bool) → (a && (b && c)) ≡ ((a && b) && c)
 together true b c = refl
 together false b c = refl
 
+-- the last two parts of a conjunction change places
 swapped : (a b c : Bool) → ((a && b) && c) ≡ ((a && c) && b)
 swapped true true c = sym (with_true c)
 swapped true false c = sym (and-false c)
 swapped false b c = refl
 
+-- a number is in two ranges at once exactly if it is in what they have in common
 met_parts : (n a b c d : ℕ) →
     (nat_le (max a c) n && nat_le n (min b d)) ≡ ((nat_le a n && nat_le n b) && (nat_le c n && nat_le n d))
 met_parts n a b c d = grind (arith, nat_tests)
@@ -447,6 +471,7 @@ module _ (s : Scenario) (l : Literal) where
       ∙ ap (λ v. (nat_le m.low (number_of s m.variable) && nat_le (number_of s m.variable) m.high)
       && (nat_le l.low (number_of s v) && nat_le (number_of s v) l.high)) same
 
+  -- setting a literal to what it has in common with another adds the other
   matches_met : (ls : List Literal) (i : ℕ) (m : Literal) → i < length ls → get_or ls i m ≡ m →
       m.variable ≡ l.variable →
       matches (slice_set ls i (met_by m l)) s ≡ (matches ls s && holds s l)
@@ -458,16 +483,19 @@ module _ (s : Scenario) (l : Literal) where
       ap (λ b. holds s x && b) (matches_met xs i m (omega (arith, there)) is same)
       ∙ together (holds s x) (matches xs s) (holds s l)
 
+-- setting a literal and then the old one again leaves the list as it was
 last_back : (ls : List Literal) (i : ℕ) (m l : Literal) → get_or ls i m ≡ m → slice_set (slice_set ls i l) i m ≡ ls
 last_back [] i m l is = refl
 last_back (x ∷ xs) zero m l is = ap (λ (y : Literal). y ∷ xs) (sym is)
 last_back (x ∷ xs) (suc i) m l is = ap (λ (ys : List Literal). x ∷ ys) (last_back xs i m l is)
 
+-- setting a literal leaves the list as long
 as_long : (ls : List Literal) (i : ℕ) (l : Literal) → length (slice_set ls i l) ≡ length ls
 as_long [] i l = refl
 as_long (x ∷ xs) zero l = refl
 as_long (x ∷ xs) (suc i) l = ap suc (as_long xs i l)
 
+-- the literals before the last one are those it was added to
 before_last : (ls : List Literal) (l : Literal) → take (length (ls ++ l ∷ []) - 1) (ls ++ l ∷ []) ≡ ls
 before_last ls l = ap (λ n. take n (ls ++ l ∷ [])) (omega (arith, length-append ls (l ∷ []))) ∙ front ls
   where
@@ -573,13 +601,16 @@ module _ (space again over : Space) (v cut : ℕ) (back : again ≡ space) where
 -- `few`, `lies`: s has at most k faults and is in the space. `all`: the slice reaches to the last cube.
 module _ (cubes : List (List Literal)) (k : ℕ) (space : Space) (s : Scenario) (few : HasAtMostFaults k s)
     (lies : IsInSpace space s) (to : ℕ) (all : length cubes ≤ to) where
+  -- a place that is missing isn't there
   none_some : (j : ℕ) (x : Option ℕ) → x ≡ None → x ≡ Some j → ⊥
   none_some j x e h = cc
 
+  -- a tree that finds the matches comes to the cube that the scenario matches
   comes_to : (place : Scenario → Option ℕ) → FindsMatches cubes k space 0 to place → (j : ℕ) → IsMatched cubes s j →
       place s ≡ Some j
   comes_to place finds j m = finds.comes s j few (omega arith) (omega (arith, m.there, all)) m
 
+  -- a tree that finds the matches gives the place of the cube that the scenario matches
   is_place : (place : Scenario → Option ℕ) → FindsMatches cubes k space 0 to place → (x : Option ℕ) → place s ≡ x →
       IsPlaceOfMatch cubes x s
   is_place place finds None e = λ j m. none_some j (place s) e (comes_to place finds j m)

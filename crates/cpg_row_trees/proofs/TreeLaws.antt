@@ -43,6 +43,7 @@ module _ (lent : List (Bor (List Literal))) (columns : List Column)
 
 -- the column at a place matches exactly if the cube at that place is matched
 module _ (columns : List Column) (s : Scenario) (i : ℕ) where
+  -- the cube at a place is that of the column there
   cube_here : i < length columns → cube_at (cubes_in columns) i ≡ (column_at columns i).cube
   cube_here l = get_or-map (λ (c : Column). c.cube) columns i (record { time = 0; cube = [] }) [] l
 
@@ -64,6 +65,7 @@ module _ (columns : List Column) (s : Scenario) (i : ℕ) where
 -- the tree of a row, and a scenario of the graph
 module _ {g : Graph} {columns : List Column} {tree : PlacesState} (is : IsRowTree g columns tree) (s : Scenario)
     (law : IsScenario g s) where
+  -- what the tree finds is the place of a match
   found_as : (o : Option ℕ) → place_at tree s ≡ o → IsPlaceOfMatch (cubes_in columns) o s
   found_as o e = subst (λ p. IsPlaceOfMatch (cubes_in columns) p s) e (is.found s law)
 

@@ -16,6 +16,7 @@ use Rattle.cpg_rules.specs.Trees.{TestsBelow}
 use Rattle.cpg_rules.specs.Guards.{Guards, tree_of, IsEdgeBelow, AreBelow, AreGuardsOf}
 use Rattle.cpg_rules.proofs.EdgeGuards.{edges_below}
 
+-- what holds of each member of a list holds at each place
 all_from_members : {X : Type 0} (P : X → Type 0) (xs : List X) → ((x : X) → Contains xs x → P x) → All P xs
 all_from_members P xs f k d l = f (get_or xs k d) (Contains-get_or xs k d l)
 

@@ -50,6 +50,7 @@ module _ (g : Graph) (order : List ℕ) (topological : IsTopological g order) wh
   rank_is : (c : ℕ) → c < condition_count g → rank (place_ranks g order) c ≡ place order (process_of g c)
   rank_is c l = get_or-map-below (λ d. place order (process_of g d)) (condition_count g) c 0 l
 
+  -- there is a rank for each condition
   length_ranks : length (place_ranks g order) ≡ condition_count g
   length_ranks = length-map (numbers_below (condition_count g)) (λ d. place order (process_of g d))
       ∙ length-range_with_len 0 (condition_count g)
@@ -88,15 +89,19 @@ module _ (g : Graph) (order : List ℕ) (topological : IsTopological g order) wh
   module _ (p : ℕ) (trees : List Guard) (made : (q : ℕ) → q < process_count g → place order q < place order p →
       IsComposed q (get_or trees q (Leaf Inactive))) (join : Bool) where
     module _ (e : ℕ) (input : Contains (inputs g p) e) where
+      -- the input is an edge of the graph
       within : e < edge_count g
       within = (inputs_parts g p e input).0
 
+      -- the source of the input is a process of the graph
       from : source g e < process_count g
       from = source_in_order g order topological e within
 
+      -- the source of the input stands before the process
       sooner : place order (source g e) < place order p
       sooner = input_goes_up g order topological p e input
 
+      -- the tree of the input comes to the input's activation if the edge is live
       input_at : (o : List Bool) → length o ≡ condition_count g →
           outcome_at (input_tree g join trees (input_of g e)) o ≡ (if live g o e then by_input join e else Inactive)
       input_at o long = live_tree_at o (by_input join e) (test_of (condition_of g (source g e)) (edge_at g e).when)
@@ -105,6 +110,7 @@ module _ (g : Graph) (order : List ℕ) (topological : IsTopological g order) wh
           (ap is_active ((made (source g e) from sooner).is o long))
           (passed g order topological o e within (condition_of g (source g e)) refl (edge_at g e).when refl)
 
+      -- the test of the edge is on a condition that comes before the process
       its_test : IsRankedTest (place_ranks g order) (place order (source g e)) (place order p)
           (test_of (condition_of g (source g e)) (edge_at g e).when)
       its_test = record {
@@ -121,12 +127,14 @@ module _ (g : Graph) (order : List ℕ) (topological : IsTopological g order) wh
               rank_is t.condition (condition_of_below g (source g e) t.condition its)
               ∙ ap (place order) (process_of_condition_of g (source g e) t.condition its)
 
+      -- the tree of the input tests in the order of the ranks
       input_ranked : IsRanked (place_ranks g order) 0 (place order p) (input_tree g join trees (input_of g e))
       input_ranked = live_tree_ranked (place_ranks g order) 0 (place order (source g e)) (place order p)
           (by_input join e) (test_of (condition_of g (source g e)) (edge_at g e).when)
           (get_or trees (source g e) (Leaf Inactive)) its_test (omega arith) (omega (arith, sooner))
           (made (source g e) from sooner).ranked
 
+      -- the tree of the input is reduced
       input_reduced : IsReduced (input_tree g join trees (input_of g e))
       input_reduced = live_tree_reduced (by_input join e) (test_of (condition_of g (source g e)) (edge_at g e).when)
           (get_or trees (source g e) (Leaf Inactive))
@@ -204,6 +212,7 @@ module _ (g : Graph) (order : List ℕ) (topological : IsTopological g order) wh
       tree : Guard
       tree = composed g (process_at g p).join (place_ranks g order) trees (map (input_of g) (inputs g p))
 
+      -- the tree is the one that is composed for the process
       its : IsComposed p tree
       its =
           let of = composed_of p trees (λ q l m. are.made q l (omega (arith, at))) (process_at g p).join

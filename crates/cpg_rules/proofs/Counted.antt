@@ -68,9 +68,11 @@ module _ (g : Graph) (order : List ℕ) (topological : IsTopological g order) (f
         within : c < condition_count g
         within = condition_of_below g p c its
 
+        -- the condition's process is this one
         of_it : process_of g c ≡ p
         of_it = process_of_condition_of g p c its
 
+        -- with the value true the ways follow as well
         moved : Follows g order k s (set o c true)
         moved = record {
           takes =

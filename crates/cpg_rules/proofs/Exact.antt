@@ -39,6 +39,7 @@ module _ (g : Graph) (senders : HasSenderSlots g) (node : ℕ) where
       let slot = senders (broadcast_item g c) (omega arith) (ap (is_sent_item g) item ∙ some) in
       subst (λ n. has_slot g n ≡ true) (ap (λ i. node_of g (producer_of_item g i)) item ∙ at) slot
 
+  -- a node that sends has a slot
   slot_of_sender : is_sender g node ≡ true → has_slot g node ≡ true
   slot_of_sender sends = elim (or_cases (sends_message g node) (nat_lt 1 (length g.nodes) && decides g node) sends) [
     | inl m ↦ (let r = list_any_parts (λ e. is_message_of g e node) (numbers_below (edge_count g)) m in

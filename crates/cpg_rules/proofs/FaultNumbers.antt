@@ -72,11 +72,13 @@ of_view f P None o e h = tt
 of_view f P (Some x) o e h = subst (λ q. IfSome q P) (sym e) h
 
 module _ (g : Graph) (faults : ℕ) where
+  -- the graph with the other fault number
   abbrev h : Graph
   h = with_fault_number g faults
 
   -- ---- activity
 
+  -- activations don't depend on the fault number, to any depth
   activation_within_same : (depth : ℕ) (values : List Bool) (p : ℕ) →
       activation_within depth h values p ≡ activation_within depth g values p
   activation_within_same zero values p = refl
@@ -85,23 +87,28 @@ module _ (g : Graph) (faults : ℕ) where
       (λ e among. ap (λ a. is_active a && takes (edge_at g e).when (value_of g values (source g e)))
       (activation_within_same depth values (source g e)))
 
+  -- activations don't depend on the fault number
   activation_same : (values : List Bool) (p : ℕ) → activation h values p ≡ activation g values p
   activation_same values p = activation_within_same (process_count g) values p
 
+  -- which edges are live doesn't depend on the fault number
   live_same : (values : List Bool) (e : ℕ) → live h values e ≡ live g values e
   live_same values e = ap (λ a. is_active a && takes (edge_at g e).when (value_of g values (source g e)))
       (activation_same values (source g e))
 
   -- ---- tracks and joins
 
+  -- which outcomes are tracks doesn't depend on the fault number
   track_same : (o : List Bool) → is_track h o ≡ is_track g o
   track_same o = same_all _ _ (numbers_below (condition_count g))
       (λ c among. ap (λ a. not (get_or o c false) || is_active a) (activation_same o (process_of g c)))
 
+  -- how many tracks there are doesn't depend on the fault number
   tracks_same : track_count h ≡ track_count g
   tracks_same =
       ap length (same_filter (is_track h) (is_track g) (outcomes (condition_count g)) (λ o among. track_same o))
 
+  -- single joins stay so
   joins_same : HasSingleJoins g → HasSingleJoins h
   joins_same single p values l join long =
       subst (λ n. n ≤ 1)
@@ -110,9 +117,11 @@ module _ (g : Graph) (faults : ℕ) where
 
   -- ---- orders
 
+  -- a topological order stays one
   topological_same : (order : List ℕ) → IsTopological g order → IsTopological h order
   topological_same order top = record { all = top.all; forward = top.forward }
 
+  -- an order that the graph gives stays topological
   given_same : GivesTopological g → GivesTopological h
   given_same = go g.order
     where
@@ -120,6 +129,7 @@ module _ (g : Graph) (faults : ℕ) where
       go None none = none
       go (Some order) top = topological_same order top
 
+  -- the longest ways don't depend on the fault number, to any depth
   tail_within_same : (depth p : ℕ) → tail_within depth h p ≡ tail_within depth g p
   tail_within_same zero p = refl
   tail_within_same (suc depth) p =
@@ -127,9 +137,11 @@ module _ (g : Graph) (faults : ℕ) where
       (same_map _ _ (outputs g p)
       (λ e among. ap (λ way. (if is_message g e then round g else 0) + way) (tail_within_same depth (target g e))))
 
+  -- the longest ways don't depend on the fault number
   tail_same : (p : ℕ) → tail h p ≡ tail g p
   tail_same p = tail_within_same (process_count g) p
 
+  -- the urgency order stays
   urgency_same : (order : List ℕ) → IsUrgencyOrder g order → IsUrgencyOrder h order
   urgency_same order urgent = record {
     all = urgent.all;
@@ -141,6 +153,7 @@ module _ (g : Graph) (faults : ℕ) where
 
   -- ---- guards
 
+  -- a tree stays ordered
   ordered_same : (order : List ℕ) (k : ℕ) (tree : Guard) → IsOrderedFrom g order k tree → IsOrderedFrom h order k tree
   ordered_same order k (Leaf a) is = is
   ordered_same order k (Test c off on) (within, later, is_off, is_on) = (
@@ -150,6 +163,7 @@ module _ (g : Graph) (faults : ℕ) where
     ordered_same order (place order (process_of g c) + 1) on is_on,
   )
 
+  -- the guard of a process stays
   guard_same : (order : List ℕ) (p : ℕ) (tree : Guard) → IsGuardOf g order p tree → IsGuardOf h order p tree
   guard_same order p tree guard = record {
     is = λ o long. guard.is o long ∙ sym (activation_same o p);
@@ -157,6 +171,7 @@ module _ (g : Graph) (faults : ℕ) where
     reduced = guard.reduced;
   }
 
+  -- the guards of the graph are those with any other fault number
   guards_same : (order : List ℕ) (guards : Guards) → AreGuardsOf g order guards → AreGuardsOf h order guards
   guards_same order guards are = record {
     conditions = are.conditions;
@@ -165,6 +180,7 @@ module _ (g : Graph) (faults : ℕ) where
     edges = are.edges;
   }
 
+  -- the graph stays well formed
   well_formed_same : WellFormed g → WellFormed h
   well_formed_same w = record {
     sources = w.sources;
@@ -180,6 +196,7 @@ module _ (g : Graph) (faults : ℕ) where
     few_conditions = w.few_conditions;
   }
 
+  -- a graph that is admitted is so with another fault number, by the same order and guards
   pub admitted_same : (order : List ℕ) (guards : Guards) → faults ≤ MOST_FAULTS → IsAdmitted g order guards →
       IsAdmitted h order guards
   admitted_same order guards few is = record {

@@ -28,6 +28,7 @@ input_of_target g e l =
     (eq-eqb (target g e) (target g e) refl) (Contains-numbers (edge_count g) e l)
 
 module _ (g : Graph) (list : List ℕ) where
+  -- a list that lacks none has each process
   there : LacksNone g list → (p : ℕ) → p < process_count g → Contains list p
   there all p l = let r = list_any_parts (λ q. q == p) list (all p l) in subst (Contains list) (eqb-true r.0 p r.2) r.1
 
@@ -51,6 +52,7 @@ module _ (g : Graph) (list : List ℕ) where
 
   -- given an order that is as long as there are processes
   module _ (lawful : IsOrder list) (long : length list ≡ process_count g) where
+    -- each process is in the list
     in_list : (p : ℕ) → p < process_count g → Contains list p
     in_list p l = Contains-order (length list) list lawful.all p (omega (arith, long, l))
 
@@ -91,6 +93,7 @@ module _ (g : Graph) (list : List ℕ) where
   -- ---- a list that shows none is topological
 
   module _ (within : IsOrderWithin (process_count g) list) (all : LacksNone g list) where
+    -- the list has each process once
     each_once : IsPermutation (numbers_below (process_count g)) list
     each_once = permutation_of_same (numbers_below (process_count g)) list (numbers_apart (process_count g)) within.once
         (λ p c. there all p (numbers-Contains (process_count g) p c))
@@ -143,6 +146,7 @@ module _ (g : Graph) (list : List ℕ) where
 
   -- ---- one process at most shows it
 
+  -- one process is the first that the order lacks
   one_lacking : (p q : ℕ) → IsLacking g list p → IsLacking g list q → p ≡ q
   one_lacking p q a b = elim (cases_lt p q) [
     | inl l ↦ absurd (both_ways (is_in list p) a.lacks (b.before p l))
@@ -152,6 +156,7 @@ module _ (g : Graph) (list : List ℕ) where
     ]
   ]
 
+  -- one process at most is the first that stands too early
   one_early : (p q : ℕ) → IsFirstEarly g list p → IsFirstEarly g list q → p ≡ q
   one_early p q a b = elim (cases_eq p q) [
     | inl same ↦ same

@@ -16,6 +16,7 @@ module _ (g : Graph) (edges : List Edge) (are : edges ≡ g.edges) (p n : ℕ) (
   abbrev here : Edge
   here = get_or edges n (record { from = 0; to = 0; size = 0; when = None; frozen = false })
 
+  -- the edge at hand is the one of this number
   at : here ≡ edge_at g n
   at = ap (λ es. get_or es n (record { from = 0; to = 0; size = 0; when = None; frozen = false })) are
 

@@ -47,6 +47,7 @@ module _ (o : List Bool) where
       yes_at true = refl
       yes_at false = refl
 
+      -- a test for the value false chooses the other way around
       no_at : (v : Bool) → (if v then Inactive else a) ≡ (if same_bool false v then a else Inactive)
       no_at true = refl
       no_at false = refl
@@ -88,12 +89,14 @@ module _ (o : List Bool) where
       abbrev mine : Activation
       mine = if get_or o c false then high else low
 
+      -- on the first tree's own condition, both sides come to what settles
       own : (t : Guard) → (v : Bool) →
           (if v then outcome_at (on t) o else outcome_at (off t) o)
           ≡ first_settling join (if v then high else low) (outcome_at t o)
       own t true = at_on t
       own t false = at_off t
 
+      -- if both trees test the same condition, both sides come to what settles
       at_once : (d : ℕ) (s t : Guard) → c ≡ d → (v : Bool) → get_or o c false ≡ v
           → (if v then outcome_at (on t) o else outcome_at (off s) o) ≡ first_settling join (if v then high else low)
           (if get_or o d false then outcome_at t o else outcome_at s o)
@@ -104,11 +107,13 @@ module _ (o : List Bool) where
           at_off s ∙ ap (λ w. first_settling join low (if w then outcome_at t o else outcome_at s o))
           (sym is ∙ ap (λ x. get_or o x false) e)
 
+      -- if both sides come to what settles, so does the value's
       sooner : (x y p q : Activation) → x ≡ first_settling join mine p → y ≡ first_settling join mine q → (w : Bool) →
           (if w then y else x) ≡ first_settling join mine (if w then q else p)
       sooner x y p q h k true = k
       sooner x y p q h k false = h
 
+      -- a tree that goes against another comes to what settles of both
       against_at : (t : Guard) → outcome_at (against ranks c off on t) o ≡ first_settling join mine (outcome_at t o)
       against_at (Leaf b) = tested_at c (off (Leaf b)) (on (Leaf b)) ∙ own (Leaf b) (get_or o c false)
       against_at (Test d s t) = go (c == d) (nat_lt (rank ranks d) (rank ranks c)) refl (against_at s) (against_at t)
@@ -215,6 +220,7 @@ module _ (ranks : List ℕ) where
     module _ (c : ℕ) (within : c < length ranks) (below : rank ranks c < m) (off on : Guard → Guard)
         (of_off : (t : Guard) → IsRanked ranks (rank ranks c + 1) m t → IsRanked ranks (rank ranks c + 1) m (off t))
         (of_on : (t : Guard) → IsRanked ranks (rank ranks c + 1) m t → IsRanked ranks (rank ranks c + 1) m (on t)) where
+      -- a tree that goes against another tests in the order of the ranks
       against_ranked : (k : ℕ) (t : Guard) → k ≤ rank ranks c → IsRanked ranks k m t →
           IsRanked ranks k m (against ranks c off on t)
       against_ranked k (Leaf b) h r =
@@ -271,6 +277,7 @@ tested_reduced c off on h j = go (same_guard off on) refl
       j,
     )
 
+-- the tree of an activation behind a test, if there is one, is reduced
 passing_reduced : (a : Activation) (x : Option ValueTest) → IsReduced (passing a x)
 passing_reduced a None = tt
 passing_reduced a (Some t) = go t.value
@@ -294,6 +301,7 @@ live_tree_reduced a x (Test c off on) =
 -- given a test of c at the top of the first tree, whose branches keep trees reduced: no test has two equal sides
 module _ (ranks : List ℕ) (c : ℕ) (off on : Guard → Guard) (of_off : (t : Guard) → IsReduced t → IsReduced (off t))
     (of_on : (t : Guard) → IsReduced t → IsReduced (on t)) where
+  -- a tree that goes against another is reduced
   against_reduced : (t : Guard) → IsReduced t → IsReduced (against ranks c off on t)
   against_reduced (Leaf b) r = tested_reduced c (off (Leaf b)) (on (Leaf b)) (of_off (Leaf b) tt) (of_on (Leaf b) tt)
   against_reduced (Test d s t) r =

@@ -29,6 +29,7 @@ use Rattle.cpg_rules.proofs.Parts.{all_parts}
 use Rattle.cpg_rules.proofs.Along.{rest_first, rest_more}
 use Rattle.cpg_rules.proofs.Searched.{search_none, search_some}
 
+-- nothing is both true and false
 true_false : (a : Bool) → a ≡ true → a ≡ false → ⊥
 true_false true h k = cc
 true_false false h k = cc
@@ -52,18 +53,22 @@ module _ (s u : List (Option Bool)) where
     live_alike is (λ q r. h q (or_right (i.source == q) (list_any (λ (j : Input). j.source == q) is) r)),
   )
 
+  -- the same input is the first live one
   first_alike : (is : List Input) → AreLiveAlike is → first_live s is ≡ first_live u is
   first_alike [] h = refl
   first_alike (i ∷ is) h = ap₂ (λ b a. if b then By i.edge else a) h.0 (first_alike is h.1)
 
+  -- the same inputs are all live
   all_alike : (is : List Input) → AreLiveAlike is → list_all (is_live_in s) is ≡ list_all (is_live_in u) is
   all_alike [] h = refl
   all_alike (i ∷ is) h = ap₂ (λ a b. a && b) h.0 (all_alike is h.1)
 
+  -- the same ones are live
   filter_alike : (is : List Input) → AreLiveAlike is → filter (is_live_in s) is ≡ filter (is_live_in u) is
   filter_alike [] h = refl
   filter_alike (i ∷ is) h = ap₂ (λ b r. if b then i ∷ r else r) h.0 (filter_alike is h.1)
 
+  -- as many inputs are live by both standings
   count_alike : (is : List Input) → AreLiveAlike is → count_by (is_live_in s) is ≡ count_by (is_live_in u) is
   count_alike is h =
       sym (length-filter (is_live_in s) is) ∙ ap length (filter_alike is h) ∙ length-filter (is_live_in u) is
@@ -77,6 +82,7 @@ module _ (s u : List (Option Bool)) where
 
 -- ---- standings that are alike where steps read them
 
+-- standings of the processes that agree on each process whose activation the steps read
 record IsAlike (steps : List ActivationStep) (s u : List (Option Bool)) : Type 0 where
   long : length s ≡ length u
   same : (q : ℕ) → are_reading steps q ≡ true → get_or s q None ≡ get_or u q None
@@ -101,6 +107,7 @@ module _ (step : ActivationStep) (kept : List ActivationStep) (s u : List (Optio
   inputs_alike : IsAlike (step ∷ kept) s u → AreLiveAlike s u step.inputs
   inputs_alike alike = live_alike s u step.inputs (λ q r. alike.same q (or_left (reads q step) (are_reading kept q) r))
 
+  -- a step has one activation in both
   here_alike : IsAlike (step ∷ kept) s u → activation_in s step ≡ activation_in u step
   here_alike alike = activation_alike s u step.join step.inputs (inputs_alike alike)
 
@@ -166,6 +173,7 @@ tracks_rested steps s = sym (tracks_alike steps s s (record { long = refl; same 
 
 -- ---- the steps that are kept are among the steps
 
+-- what holds of one step and of others holds of all of them
 all_cons : (P : ActivationStep → Type 0) (step : ActivationStep) (steps : List ActivationStep) → P step → All P steps →
     All P (step ∷ steps)
 all_cons P step steps h t zero d l = h
@@ -209,6 +217,7 @@ AreFoundAlike (Some f) (Some g) = (q : ℕ) → is_set (get_or f q None) ≡ is_
 AreFoundAlike None (Some g) = ⊥
 AreFoundAlike (Some f) None = ⊥
 
+-- if the first search finds as much as the whole one, or the other way does, so does the one after it
 found_passed : (c : Option ℕ) (x y z : Option (List (Option Bool))) → AreFoundAlike x z → is_some y ≡ is_some z →
     AreFoundAlike (first_some x (if_other c y)) z
 found_passed c (Some f) y z h k = h
@@ -289,6 +298,7 @@ module _ (g : Graph) (order : List ℕ) (topological : IsTopological g order) (f
     sets : (q : ℕ) → is_set (get_or s q None) ≡ is_set (get_or u q None)
     fresh : (q : ℕ) → q < process_count g → k ≤ place order q → get_or u q None ≡ None
 
+  -- an inactive process has no value set
   unset : (a : Activation) → is_set (standing a false) ≡ false
   unset Inactive = refl
   unset Plain = refl
@@ -297,6 +307,7 @@ module _ (g : Graph) (order : List ℕ) (topological : IsTopological g order) (f
   -- given standings that are set alike, and the process at the next place
   module _ (k q : ℕ) (h : q < process_count g) (at : place order q ≡ k) (s u : List (Option Bool))
       (sets : AreSetAlike k s u) where
+    -- once the process at the place is settled as false, the same conditions are still set
     sets_passed : AreSetAlike (k + 1) (settled s (step_of g q) false) u
     sets_passed = record {
       long = length-set s q (standing (activation_in s (step_of g q)) false) ∙ sets.long;
@@ -409,9 +420,11 @@ module _ (g : Graph) (order : List ℕ) (topological : IsTopological g order) (f
 
   -- ---- from the start
 
+  -- at the start no standing is chosen
   abbrev start : List (Option Bool)
   start = replicate 128 None
 
+  -- at the start no process has a standing
   start_none : (q : ℕ) → get_or start q None ≡ None
   start_none q = elim (cases_lt q 128) [
     | inl l ↦ get_or-replicate {A = Option Bool} 128 q None None l

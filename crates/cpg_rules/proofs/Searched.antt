@@ -92,6 +92,7 @@ module _ (g : Graph) (order : List ℕ) (s : List (Option Bool)) where
       get_or (scenario_of g s).values c false ≡ is_set (get_or s (process_of g c) None)
   value_in c l = get_or-map-below (λ d. is_set (get_or s (process_of g d) None)) (condition_count g) c false l
 
+  -- the scenario that is made has no faults
   no_faults : (p : ℕ) → fault_of (scenario_of g s) p ≡ 0
   no_faults p = get_or-zeros (process_count g) p
     where
@@ -101,6 +102,7 @@ module _ (g : Graph) (order : List ℕ) (s : List (Option Bool)) where
         | inr l ↦ get_or_past (replicate {A = ℕ} n 0) i 0 (omega (arith, length-replicate {A = ℕ} n 0))
       ]
 
+  -- it follows the standings that it is made from
   own_follows : (k : ℕ) → Follows g order k s (scenario_of g s).values
   own_follows k = record { takes = λ c l m v e. value_in c l ∙ ap is_set e }
 
@@ -209,6 +211,7 @@ module _ (g : Graph) (order : List ℕ) (topological : IsTopological g order) (f
       abbrev off : List (Option Bool)
       off = settled s (step_of g q) false
 
+      -- the standings if the process's condition is true
       abbrev on : List (Option Bool)
       on = settled s (step_of g q) true
 
@@ -216,15 +219,18 @@ module _ (g : Graph) (order : List ℕ) (topological : IsTopological g order) (f
       abbrev here : Activation
       here = activation_in s (step_of g q)
 
+      -- a search from here on keeps the standings of earlier processes
       kept : (v : Bool) (found : List (Option Bool)) → IsFirstFrom (k + 1) (settled s (step_of g q) v) found → (r : ℕ) →
           r < process_count g → place order r < k →
           get_or found r None ≡ get_or s r None
       kept v found first r l m = first.keeps r l (omega arith)
           ∙ get_or-set_other s q r (standing here v) None (λ e. let f = ap (place order) e in omega arith)
 
+      -- the order is the processes before this one, it, and those behind
       whole : order ≡ take k order ++ q ∷ qs
       whole = sym (take-append-drop k order) ∙ ap (λ xs. take k order ++ xs) rest
 
+      -- those before have earlier places
       before_here : (r : ℕ) → Contains (take k order) r → (r < process_count g) × (place order r < k)
       before_here r c = in_take g order topological k r c
 
@@ -241,9 +247,11 @@ module _ (g : Graph) (order : List ℕ) (topological : IsTopological g order) (f
 
       -- both ways
       module _ (c : ℕ) (some : choice here (condition_of g q) ≡ Some c) where
+        -- the condition is the process's
         its : condition_of g q ≡ Some c
         its = its_condition g order topological k s are q h few at true c some
 
+        -- the process is active
         active_here : is_active here ≡ true
         active_here = go here some
           where
@@ -252,10 +260,12 @@ module _ (g : Graph) (order : List ℕ) (topological : IsTopological g order) (f
             go Plain e = refl
             go (By i) e = refl
 
+        -- with the value false its standing says so
         stands : get_or off q None ≡ Some false
         stands = get_or-set_same s q (standing here false) None (omega (arith, are.long))
             ∙ ap (λ b. if b then Some false else None) active_here
 
+        -- a scenario that follows and makes two inputs live has the value true if the search with false finds none
         least_off : (found : List (Option Bool)) → IsFirstFrom (k + 1) off found → (t : Scenario) →
             Follows g order k s t.values → has_two_live g t.values p ≡ true → (v : Bool) →
             get_or t.values c false ≡ v
@@ -272,6 +282,7 @@ module _ (g : Graph) (order : List ℕ) (topological : IsTopological g order) (f
             (λ r i. let b = before_here r i in no_more k s found t f r b.1 (kept false found first r b.0 b.1))
             (omega (arith, no_faults g order found q)) its low e)
 
+        -- the answers of both values together are the answer, if the condition may be chosen
         both : (x y : Option (List (Option Bool))) → Answers (k + 1) off x → Answers (k + 1) on y →
             Answers k s (first_some x y)
         both None None a b = λ o f. go o f (get_or o c false) refl
@@ -301,6 +312,7 @@ module _ (g : Graph) (order : List ℕ) (topological : IsTopological g order) (f
           least = λ t f two. least_off found first t f two (get_or t.values c false) refl;
         }
 
+      -- the answers of both values together are the answer, whether the condition may be chosen or not
       either : (x y : Option (List (Option Bool))) → Answers (k + 1) off x → Answers (k + 1) on y →
           Answers k s (first_some x (if_other (choice here (condition_of g q)) y))
       either x y a b = go (choice here (condition_of g q)) refl
@@ -353,9 +365,11 @@ module _ (g : Graph) (order : List ℕ) (topological : IsTopological g order) (f
 
     -- ---- from the start
 
+    -- at the start no standing is chosen
     abbrev start : List (Option Bool)
     start = replicate 128 None
 
+    -- at the start no process has a standing
     start_fresh : IsFresh 0 start
     start_fresh = record { unset = λ q l m. get_or-replicate {A = Option Bool} 128 q None None (omega arith) }
 

@@ -22,6 +22,7 @@ pub any_nowhere : (p : ℕ → Bool) (n : ℕ) → ((i : ℕ) → i < n → p i 
 any_nowhere p n h = list_any_false p (numbers_below n) (λ i c. h i (numbers-Contains n i c))
 
 module _ (g : Graph) (w : IsWithinLimits g) (none_lacks : (n : ℕ) → n < length g.nodes → lacks_slot g n ≡ false) where
+  -- each node that sends has a slot
   slot_there : (n : ℕ) → n < length g.nodes → is_sender g n ≡ true → has_slot g n ≡ true
   slot_there n l sends = go (has_slot g n) (none_lacks n l)
     where
@@ -29,6 +30,7 @@ module _ (g : Graph) (w : IsWithinLimits g) (none_lacks : (n : ℕ) → n < leng
       go true e = refl
       go false e = absurd (both_ways (is_sender g n && true) e (and_from (is_sender g n) true sends refl))
 
+  -- the node of a process is one of the graph
   node_within : (p : ℕ) → p < process_count g → node_of g p < length g.nodes
   node_within p l = (w.processes p _ l).node
 

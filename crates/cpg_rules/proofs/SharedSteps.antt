@@ -115,12 +115,15 @@ module _ (g : Graph) (a b c : Sharing) (count : ℕ) (roots : List ℕ) (are : A
   abbrev its : Guard
   its = input_tree g true (trees_of a.parts roots) input
 
+  -- the union of the other inputs, with the parts so far
   abbrev later : Option Guard
   later = union g b.ranks (trees_of b.parts roots) left
 
+  -- it is the one from before, since parts are only added
   later_is : later ≡ union g a.ranks (trees_of a.parts roots) left
   later_is = ap₂ (λ ranks trees. union g ranks trees left) made.more.ranks (same_trees a b roots made.more are.within)
 
+  -- with the first input it is the union of all
   whole_is : with_first a.ranks its later ≡ union g a.ranks (trees_of a.parts roots) inputs
   whole_is = union_first a.ranks left its later some ∙ ap (union_with a.ranks left its) later_is
       ∙ ap (union g a.ranks (trees_of a.parts roots)) (sym all)
@@ -161,6 +164,7 @@ module _ (g : Graph) (a b c : Sharing) (count : ℕ) (roots : List ℕ) (are : A
 
     -- `last`: r is the part in which the first tree and the later ones meet
     module _ (d : Sharing) (r : ℕ) (last : Makes c d (met true c.ranks (tree_at c.parts n) (tree_at c.parts m)) r) where
+      -- if the first tree and the later ones are never live at once, the part where they meet is the union
       apart_later : (x : Option Guard) → MakesUnion b c x (Some m) →
           are_both_live c.ranks (tree_at c.parts n) (tree_at c.parts m) ≡ false →
           MakesUnion a d (with_first a.ranks its x) (Some r)

@@ -29,6 +29,7 @@ module _ (g : Graph) (s : List (Option Bool)) where
   abbrev pub is_live_edge : ℕ → Bool
   is_live_edge e = is_taken (edge_at g e).when (get_or s (source g e) None)
 
+  -- the first live input by the standings is the first of those that are live
   first_live-is : (es : List ℕ) → first_live s (map (input_of g) es) ≡ by_first (filter is_live_edge es)
   first_live-is [] = refl
   first_live-is (e ∷ es) = go (is_live_edge e) (first_live-is es)
@@ -64,15 +65,19 @@ module _ (g : Graph) (order : List ℕ) (topological : IsTopological g order) wh
     -- given an outcome that follows the standings, and an input of the process at the place
     module _ (o : List Bool) (follows : Follows g order k s o) (p e : ℕ) (at : place order p ≡ k)
         (input : Contains (inputs g p) e) where
+      -- the input is an edge of the graph
       within : e < edge_count g
       within = (inputs_parts g p e input).0
 
+      -- the source of the input is a process of the graph
       from : source g e < process_count g
       from = source_in_order g order topological e within
 
+      -- the source of the input stands before the place
       sooner : place order (source g e) < k
       sooner = omega (arith, input_goes_up g order topological p e input)
 
+      -- its value by the standings is that of the outcome
       takes_same : (v : Bool) → get_or s (source g e) None ≡ Some v → (w : Option Bool) → (edge_at g e).when ≡ w →
           takes w v ≡ takes w (value_of g o (source g e))
       takes_same v is None when = refl
@@ -84,6 +89,7 @@ module _ (g : Graph) (order : List ℕ) (topological : IsTopological g order) wh
           (subst (λ q. get_or s q None ≡ Some v) (sym d.2) is) in
           ap (takes (Some wanted)) (sym (there ∙ value))
 
+      -- the input is live by the standings exactly if its edge is live
       live_by : (x : Option Bool) → get_or s (source g e) None ≡ x → is_some x ≡ active g o (source g e) →
           is_taken (edge_at g e).when x ≡ live g o e
       live_by None is same = ap (λ b. b && takes (edge_at g e).when (value_of g o (source g e))) same
@@ -111,12 +117,15 @@ module _ (g : Graph) (order : List ℕ) (topological : IsTopological g order) wh
       abbrev next : List (Option Bool)
       next = settled s (step_of g p) v
 
+      -- the standing that is set is that of the process
       next_here : get_or next p None ≡ standing (activation_in s (step_of g p)) v
       next_here = get_or-set_same s p (standing (activation_in s (step_of g p)) v) None (omega (arith, are.long))
 
+      -- the others are as they were
       next_before : (q : ℕ) → q ≢ p → get_or next q None ≡ get_or s q None
       next_before q n = get_or-set_other s p q (standing (activation_in s (step_of g p)) v) None n
 
+      -- an earlier process isn't this one
       not_here : (q : ℕ) → place order q < k → q ≢ p
       not_here q l e = let f = ap (place order) e in omega arith
 
@@ -127,6 +136,7 @@ module _ (g : Graph) (order : List ℕ) (topological : IsTopological g order) wh
             f.takes c l (omega arith) value (next_before (process_of g c) (not_here (process_of g c) m) ∙ is);
       }
 
+      -- only an active process has a standing, with the value that was set
       some_standing : (a : Activation) (v w : Bool) → standing a v ≡ Some w → (is_active a ≡ true) × (v ≡ w)
       some_standing Inactive v w e = cc
       some_standing Plain v w e = (refl, cc)
@@ -148,6 +158,7 @@ module _ (g : Graph) (order : List ℕ) (topological : IsTopological g order) wh
         ];
       }
 
+      -- an active process without a choice has no condition
       no_condition : (a : Activation) (x : Option ℕ) (c : ℕ) → choice a x ≡ None → is_active a ≡ true → x ≡ Some c → ⊥
       no_condition Inactive x c e f i = cc
       no_condition Plain x c e f i = cc
@@ -161,6 +172,7 @@ module _ (g : Graph) (order : List ℕ) (topological : IsTopological g order) wh
           (λ c i j active. absurd (no_condition (activation_in s (step_of g p)) (condition_of g p) c none active
           (subst (λ x. condition_of g x ≡ Some c) j (condition_of_process_of g c i))))
 
+      -- what is to be chosen is the process's condition
       chosen : (a : Activation) (x : Option ℕ) (c : ℕ) → choice a x ≡ Some c → x ≡ Some c
       chosen Inactive x c e = cc
       chosen Plain x c e = e
@@ -180,6 +192,7 @@ module _ (g : Graph) (order : List ℕ) (topological : IsTopological g order) wh
           follows_on o f (λ d i j active. ap (λ x. get_or o x false) (same_condition g d c i
           (condition_of_below g p c its) (j ∙ sym (process_of_condition_of g p c its))) ∙ value)
 
+      -- a process has a standing exactly if it is active
       is_some-standing : (a : Activation) → is_some (standing a v) ≡ is_active a
       is_some-standing Inactive = refl
       is_some-standing Plain = refl

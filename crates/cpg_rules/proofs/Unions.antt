@@ -26,6 +26,7 @@ use Rattle.cpg_rules.proofs.EdgeGuards.{passed}
 
 -- ---- two trees that are active in an outcome
 
+-- whichever value there is, its side holds, so one of both does
 either : (v a b : Bool) → (v ≡ false → a ≡ true) → (v ≡ true → b ≡ true) → (a || b) ≡ true
 either v true b f h = refl
 either true false b f h = h refl
@@ -36,12 +37,15 @@ module _ (o : List Bool) where
   abbrev on_in : Guard → Bool
   on_in t = is_active (outcome_at t o)
 
+  -- a live way through a test goes on below it if the value is false
   way_off : (c : ℕ) (off on : Guard) → on_in (Test c off on) ≡ true → get_or o c false ≡ false → on_in off ≡ true
   way_off c off on h e = subst (λ v. is_active (if v then outcome_at on o else outcome_at off o) ≡ true) e h
 
+  -- a live way through a test goes on above it if the value is true
   way_on : (c : ℕ) (off on : Guard) → on_in (Test c off on) ≡ true → get_or o c false ≡ true → on_in on ≡ true
   way_on c off on h e = subst (λ v. is_active (if v then outcome_at on o else outcome_at off o) ≡ true) e h
 
+  -- a tree that is live for an outcome is live somewhere
   somewhere_at : (t : Guard) → on_in t ≡ true → is_live_somewhere t ≡ true
   somewhere_at (Leaf a) h = h
   somewhere_at (Test c off on) h = either (get_or o c false) (is_live_somewhere off) (is_live_somewhere on)
@@ -52,9 +56,11 @@ module _ (o : List Bool) where
     module _ (c : ℕ) (off on : Guard → Bool)
         (at_off : get_or o c false ≡ false → (t : Guard) → on_in t ≡ true → off t ≡ true)
         (at_on : get_or o c false ≡ true → (t : Guard) → on_in t ≡ true → on t ≡ true) where
+      -- a tree that is live is so on one of the sides
       own : (t : Guard) → on_in t ≡ true → (off t || on t) ≡ true
       own t h = either (get_or o c false) (off t) (on t) (λ e. at_off e t h) (λ e. at_on e t h)
 
+      -- trees that are live for one outcome are found to be live at once
       beside_at : (t : Guard) → on_in t ≡ true → beside ranks c off on t ≡ true
       beside_at (Leaf b) h = and_from (is_active b) (off (Leaf b) || on (Leaf b)) h (own (Leaf b) h)
       beside_at (Test d low high) h = go (c == d) (nat_lt (rank ranks d) (rank ranks c)) refl
@@ -85,6 +91,7 @@ record IsOne (a : Activation) (n : ℕ) : Type 0 where
   active : is_active a ≡ nat_lt 0 n
   few : nat_lt 1 n ≡ false
 
+-- without a live input there is at most one
 none_live : IsOne Inactive 0
 none_live = record { active = refl; few = refl }
 
@@ -164,6 +171,7 @@ module _ (g : Graph) (order : List ℕ) (topological : IsTopological g order) (g
       its : Contains (inputs g p) e
       its = f e (Contains-first e (d ∷ es))
 
+      -- one input more: if it is live with none of the others, the union goes on
       more : (t : Guard) → IsOne (outcome_at t o) (length (filter (live g o) (d ∷ es))) → (b : Bool) →
           are_both_live ranks (tree_in e) t ≡ b
           → IsUnion (e ∷ d ∷ es) (if b then None else Some (met true ranks (tree_in e) t))
@@ -177,6 +185,7 @@ module _ (g : Graph) (order : List ℕ) (topological : IsTopological g order) (g
       go None h = tt
       go (Some t) one = more t one (are_both_live ranks (tree_in e) t) refl
 
+  -- what isn't so is false
   not_both : (a : Bool) → not a ≡ true → a ≡ false
   not_both true h = cc
   not_both false h = refl

@@ -12,16 +12,19 @@ activation_to Inactive = None
 activation_to Plain = Some None
 activation_to (By e) = Some (Some e)
 
+-- the activation that a code stands for
 abbrev pub activation_from : Option (Option ℕ) → Activation
 activation_from None = Inactive
 activation_from (Some None) = Plain
 activation_from (Some (Some e)) = By e
 
+-- coding an activation and reading the code gives it back
 pub activation_back : (a : Activation) → activation_from (activation_to a) ≡ a
 activation_back Inactive = refl
 activation_back Plain = refl
 activation_back (By e) = refl
 
+-- a code for activations: an option of an option of a number
 abbrev pub activation_code : Coded Activation
 activation_code =
     code_by (Option (Option ℕ)) (coded_option (coded_option coded_ℕ)) activation_to activation_from activation_back
@@ -30,10 +33,12 @@ activation_code =
 abbrev pub Piece : Type 0
 Piece = Activation ⊎ ℕ
 
+-- a tree as a list of pieces: both sides of a test, and then the test
 abbrev pub pieces_of : Guard → List Piece → List Piece
 pieces_of (Leaf a) rest = inl a ∷ rest
 pieces_of (Test c off on) rest = pieces_of off (pieces_of on (inr c ∷ rest))
 
+-- the tree that pieces stand for, with a stack of trees read so far
 abbrev pub tree_from : List Piece → List Guard → Guard
 tree_from [] [] = Leaf Inactive
 tree_from [] (t ∷ ts) = t
@@ -42,12 +47,14 @@ tree_from (inr c ∷ rest) [] = Leaf Inactive
 tree_from (inr c ∷ rest) (t ∷ []) = Leaf Inactive
 tree_from (inr c ∷ rest) (on ∷ off ∷ ts) = tree_from rest (Test c off on ∷ ts)
 
+-- the pieces of a tree are read as the tree
 pub tree_from-pieces : (t : Guard) (rest : List Piece) (ts : List Guard) →
     tree_from (pieces_of t rest) ts ≡ tree_from rest (t ∷ ts)
 tree_from-pieces (Leaf a) rest ts = refl
 tree_from-pieces (Test c off on) rest ts =
     tree_from-pieces off (pieces_of on (inr c ∷ rest)) ts ∙ tree_from-pieces on (inr c ∷ rest) (off ∷ ts)
 
+-- a code for trees: the list of their pieces
 abbrev pub tree_code : Coded Guard
 tree_code =
     code_by (List Piece) (coded_list (coded⊎ activation_code coded_ℕ)) (λ t. pieces_of t []) (λ ps. tree_from ps [])

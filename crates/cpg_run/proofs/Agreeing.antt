@@ -33,10 +33,12 @@ module _ (g : Graph) (order : List ℕ) (topological : IsTopological g order) wh
     pub end_before : (p : ℕ) → place order p < i → moment_of_end g order p < i * phases g
     end_before p l = sooner (place order p) i 1 (phases g) l (omega arith)
 
+    -- the broadcast of a condition of an earlier process is of an earlier moment
     broadcast_before : (c : ℕ) → place order (process_of g c) < i → moment g order (broadcast_item g c) < i * phases g
     broadcast_before c l = subst (λ x. moment_of_item g order x < i * phases g) (sym (item_at-broadcast g c))
         (sooner (place order (process_of g c)) i 2 (phases g) l (omega arith))
 
+    -- an earlier process has the same end in both
     end_same : (p : ℕ) → p < process_count g → place order p < i → end_in t p ≡ end_in u p
     end_same p h l = ap (λ o. unwrap_or o 0) (a.ends p h (end_before p l))
 
@@ -51,9 +53,11 @@ module _ (g : Graph) (order : List ℕ) (topological : IsTopological g order) wh
         (ap (λ o. unwrap_or o 0 + slot_length g (home g (broadcast_item g c)))
         (a.items (broadcast_item g c) (omega arith) (broadcast_before c up)))
 
+    -- what was sent before leaves a node's slots free from the same time in both
     after_same : (node y : ℕ) → IsSentBefore g order s node i y → free_after g t y ≡ free_after g u y
     after_same node y b = ap (λ o. unwrap_or o 0 + round g) (a.items y b.0.within (item_before y b.0.within b.1))
 
+    -- what is known of the first is known of the second
     knows_same : (known : Times) → Knows g order t i known → Knows g order u i known
     knows_same known k = record {
       times = λ x h l. k.times x h l ∙ a.items x h (item_before x h l);

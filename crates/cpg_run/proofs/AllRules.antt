@@ -16,6 +16,7 @@ use Rattle.cpg_run.proofs.Rule4.{keeps-4}
 -- `supported`: each literal of a column that matches lies within what its node has heard.
 module _ (g : Graph) (order : List ℕ) (frozen : List (Option ℕ)) (tables : List NodeTable)
     (given : Given g order frozen tables) (supported : Supported g order tables) where
+  -- the tables keep the rules that tables with the times of the runs keep
   kept : KeepsRules g order frozen tables
   kept = run_tables_keep_rules g order frozen tables given
 

@@ -87,6 +87,7 @@ module _ (g : Graph) (order : List ℕ) (topological : IsTopological g order) wh
         (λ e j. let r = receives_earlier p e j in
         ap (λ ls. if is_message g e then ls else []) (told_same (message_item g e) r.0 (omega (arith, r.1, h))))
 
+    -- what an execution carries is found in the rows of earlier processes
     executed_same : (p : ℕ) → place order p ≤ bound → executed g rows s p ≡ executed g others s p
     executed_same p h =
         ap (λ ls. (if (process_at g p).frozen then [] else ls) ++ number_known s p ∷ []) (received_same p h)

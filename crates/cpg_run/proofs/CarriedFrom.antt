@@ -46,11 +46,13 @@ in_if : {X : Type 0} (b : Bool) (xs : List X) (x : X) → Contains (if b then xs
 in_if true xs x j = (refl, j)
 in_if false xs x j = absurd (Contains-nil x j)
 
+-- what is in a list that a test may empty is in the list, and the test fails
 in_unless : {X : Type 0} (b : Bool) (xs : List X) (x : X) → Contains (if b then [] else xs) x →
     (b ≡ false) × Contains xs x
 in_unless true xs x j = absurd (Contains-nil x j)
 in_unless false xs x j = (refl, j)
 
+-- what is in a list of one is that one
 in_one : {X : Type 0} (x y : X) → Contains (x ∷ []) y → y ≡ x
 in_one x y j = elim (Contains-cases x [] y j) [ inl e ↦ sym e | inr none ↦ absurd (Contains-nil y none) ]
 
@@ -85,6 +87,7 @@ module _ (g : Graph) (order : List ℕ) (rows : List (List Column)) (s : Scenari
     pub matched : matches column.cube s ≡ true
     pub literal : Contains column.cube m
 
+  -- a literal that a row carries comes from a column of the row
   from_told : (y : ℕ) (m : Literal) → Contains (carried_by_row rows s y) m → FromRow y m
   from_told y m j =
       let r = Contains-flat_map_parts (λ (c : Column). c.cube)
@@ -159,6 +162,7 @@ module _ (g : Graph) (order : List ℕ) (rows : List (List Column)) (s : Scenari
 
   -- ---- each literal is of one
 
+  -- a literal on what decides a process comes from a value
   in_decided : (q : ℕ) (m : Literal) → Contains (decided g s q) m → FromValue q m
   in_decided q m j =
       let r = Contains-map_parts (λ (c : ℕ). number_known s (value_variable c)) (deciding g s.values q) m j in
@@ -173,6 +177,7 @@ module _ (g : Graph) (order : List ℕ) (rows : List (List Column)) (s : Scenari
       (carried_by_row rows s (broadcast_item g r.0)) m r.2 in
       record { condition = r.0; decides = r.1; other = t.0; row = from_told (broadcast_item g r.0) m t.1 }
 
+  -- one that is received comes from a message
   in_received : (q : ℕ) (m : Literal) → Contains (received g rows s q) m → FromMessage q m
   in_received q m j =
       let r = Contains-flat_map_parts (λ e. if is_message g e then carried_by_row rows s (message_item g e) else [])
@@ -244,6 +249,7 @@ module _ (g : Graph) (order : List ℕ) (rows : List (List Column)) (s : Scenari
           | inr a ↦ its_count (in_one (number_known s p) m a)
         ]
 
+    -- one that a send adds comes from the value that it sends
     in_sent : (x : ℕ) (m : Literal) → Contains (sent_by_value g s x) m → FromSent x m
     in_sent x m j = let r = Contains-map_parts (number_known s) (sent_value g (item_at g x)) m j in
         record { variable = r.0; stands = r.1; is = sym r.2 }
@@ -289,11 +295,13 @@ module _ (g : Graph) (order : List ℕ) (rows : List (List Column)) (s : Scenari
 
     -- ---- so it is a number of the scenario, or of an earlier row
 
+    -- where a literal comes from: a number of the scenario, or an earlier row
     pub data IsOf (bound : ℕ) (m : Literal) : Type 0 where
       of_number : (v : ℕ) → IsVariable g v → m ≡ number_known s v → IsOf bound m
       of_row : (y : ℕ) → IsEarlier g order bound y → FromRow y m → IsOf bound m
 
     module _ (few : process_count g ≤ 128) (bound : ℕ) (m : Literal) where
+      -- a literal that comes from a value is a number of the scenario
       value_is : (q : ℕ) → FromValue q m → IsOf bound m
       value_is q f =
           let r =
@@ -310,19 +318,23 @@ module _ (g : Graph) (order : List ℕ) (rows : List (List Column)) (s : Scenari
           of_row (message_item g f.edge) (e.0, omega (arith, e.1, at)) f.row
       process_is p q l at (by_count before on is) = of_number q (inl l) is
 
+      -- a literal that is carried at a start is a number of the scenario or from an earlier row
       start_is : (p : ℕ) → p < process_count g → place order p ≤ bound → FromStart p m → IsOf bound m
       start_is p l at (own f) = value_is p f
       start_is p l at (more f) = let e = up_to_parts g order topological p f.process l f.stands in
           process_is p f.process e.within (omega (arith, e.place, at)) f.told
 
+      -- a literal that is carried at an end is a number of the scenario or from an earlier row
       end_is : (p : ℕ) → p < process_count g → place order p ≤ bound → FromEnd p m → IsOf bound m
       end_is p l at (from_start f) = start_is p l at f
       end_is p l at (its_count is) = of_number p (inl l) is
 
+      -- a literal that a send adds is a number of the scenario
       sent_is : (x : ℕ) → FromSent x m → IsOf bound m
       sent_is x f = let c = sent_variable g x f.variable f.stands in
           of_number f.variable (inr (omega (arith, c.2), omega (arith, c.1, c.2))) f.is
 
+      -- a literal that is carried by an item before in the queue is a number of the scenario or from an earlier row
       queued_is : (y : ℕ) → producer g y < process_count g → place order (producer g y) ≤ bound → FromQueued y m →
           IsOf bound m
       queued_is y l at (left_value f) = value_is (producer g y) f

@@ -51,7 +51,7 @@ module _ (g : Graph) (urgency order : List ℕ) (frozen : List (Option ℕ)) (ro
   run_times s t x law run =
       ap (λ cs. times_in cs s) (z.columns x) ∙ carrying_times g urgency order frozen z.timed rows z.found x s t law run
 
-  -- so the laws of tables that have the times of the runs apply to them
+  -- tables of carrying rows have the times of the runs, so the laws on such tables apply to them
   pub given : Given g order frozen tables
   given = record {
     formed = z.timed.admitted.formed;
@@ -61,6 +61,7 @@ module _ (g : Graph) (urgency order : List ℕ) (frozen : List (Option ℕ)) (ro
   }
 
   module _ (s : Scenario) (law : IsScenario g s) where
+    -- the column that a literal comes from is one that matches
     row_column : (y : ℕ) (m : Literal) → (f : FromRow g order rows s y m) → Contains (matching tables s y) f.column
     row_column y m f = Contains-filter (λ (c : Column). matches c.cube s) (columns_of tables y) f.column f.matched
         (subst (λ cs. Contains cs f.column) (sym (z.columns y)) f.stands)

@@ -88,6 +88,7 @@ module _ (g : Graph) (urgency order : List ℕ) (frozen : List (Option ℕ)) (ti
       let f = list_any_parts (λ w. w == v) (reach_of r x) t in
       subst (Contains (reach_of r x)) (eqb-true _ _ f.2) f.1
 
+  -- the reach that the rule gives a start is the start's reach
   start_by_rule : (p v : ℕ) → p < process_count g → Contains (start_reach g order r p) v → Contains (reach_of r p) v
   start_by_rule p v l j = by_rule p v (omega (arith, l))
       (subst (λ i. Contains (reach_by_item g order r p i) v) (sym (item_at-start g p l)) j)
@@ -101,13 +102,16 @@ module _ (g : Graph) (urgency order : List ℕ) (frozen : List (Option ℕ)) (ti
 
   -- ---- the parts of a start's reach, if it isn't frozen
 
+  -- what a start depends on by hearing the conditions that were waited for on the node
   conditions_part : ℕ → List ℕ
   conditions_part p = flat_map (λ c. value_variable c ∷ hearing_reach g r (node_of g p) c)
       (flat_map (conditions_of g) (before_on_node g order p ++ p ∷ []))
 
+  -- by the ends of the processes before on the node
   ends_part : ℕ → List ℕ
   ends_part p = flat_map (end_reach r) (before_on_node g order p)
 
+  -- what a start depends on by its inputs
   inputs_part : ℕ → List ℕ
   inputs_part p = flat_map (input_reach g r) (inputs g p)
 
@@ -158,19 +162,23 @@ module _ (g : Graph) (urgency order : List ℕ) (frozen : List (Option ℕ)) (ti
       Contains c.cube m → Contains (reach_of r y) m.variable
 
   module _ (s : Scenario) (law : IsScenario g s) (bound : ℕ) (speak : SpeakOfReach bound) (m : Literal) where
+    -- a literal from an earlier row is on a variable of that item's reach
     of_row : (y : ℕ) → IsEarlier g order bound y → FromRow g order rows s y m → Contains (reach_of r y) m.variable
     unfolding SpeakOfReach
     of_row y e f = speak y e f.column f.stands m f.literal
 
+    -- a condition that decides a process in a scenario is one of its conditions
     condition_in : (q : ℕ) → (c : ℕ) → Contains (deciding g s.values q) c → Contains (conditions_of g q) c
     condition_in q c j =
         let d = Contains-filter_parts (decides g s.values q) (numbers_below (condition_count g)) c j in
         in_conditions_of g urgency timed.admitted.urgent q s.values c law.values
         (numbers-Contains (condition_count g) c d.0) d.1
 
+    -- a literal on a variable of a list is on one of it
     variable_of : (v : ℕ) (vs : List ℕ) → m ≡ number_known s v → Contains vs v → Contains vs m.variable
     variable_of v vs e j = subst (Contains vs) (sym (ap (λ (l : Literal). l.variable) e)) j
 
+    -- a literal from a value is on a variable of the process's conditions
     value_in : (q : ℕ) → FromValue g order rows s q m → Contains (map value_variable (conditions_of g q)) m.variable
     value_in q f = variable_of (value_variable f.condition) (map value_variable (conditions_of g q)) f.is
         (Contains-map value_variable (conditions_of g q) f.condition (condition_in q f.condition f.decides))
@@ -237,6 +245,7 @@ module _ (g : Graph) (urgency order : List ℕ) (frozen : List (Option ℕ)) (ti
     front x = if is_frozen g x then map value_variable (conditions_of g (producer g x))
         else (end_reach r (producer g x) ++ flat_map (reach_of r) (queued_before g order x))
 
+    -- what is in the first part of a send's reach is in the reach
     of_front : (x v : ℕ) → Contains (front x) v → Contains (send_reach g order r x) v
     unfolding front
     of_front x v j =
@@ -262,6 +271,7 @@ module _ (g : Graph) (urgency order : List ℕ) (frozen : List (Option ℕ)) (ti
         (Contains-append_right (end_reach r (producer g x)) (flat_map (reach_of r) (queued_before g order x)) v
         (Contains-flat_map (reach_of r) (queued_before g order x) y v k j)))
 
+    -- a literal that a send adds is in the reach of the send
     sent_in : (x : ℕ) → FromSent g order rows s x m → Contains (send_reach g order r x) m.variable
     sent_in x f = variable_of f.variable (send_reach g order r x) f.is
         (Contains-append_right (if is_frozen g x then map value_variable (conditions_of g (producer g x))

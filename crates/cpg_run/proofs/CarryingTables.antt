@@ -37,6 +37,7 @@ module _ (g : Graph) (urgency order : List ℕ) (frozen : List (Option ℕ)) (ro
     ordered = (z.found.each x l).ordered;
   }
 
+  -- the tables are exact
   exact : IsExact g urgency order frozen r tables
   exact = record {
     times = run_times g urgency order frozen rows tables z;
@@ -44,6 +45,7 @@ module _ (g : Graph) (urgency order : List ℕ) (frozen : List (Option ℕ)) (ro
     merged = λ p l. subst (IsMerged g) (sym (z.columns p)) (z.found.merged p l);
   }
 
+  -- the tables keep all rules but the one on dues
   rules : (rule : Rule) → rule ≢ Rule.Due → Keeps rule g tables
   rules = all_rules g order frozen tables (given g urgency order frozen rows tables z)
       (supported g urgency order frozen rows tables z)

@@ -29,6 +29,7 @@ module _ (g : Graph) (urgency order : List ℕ) (frozen : List (Option ℕ)) (ti
   row_past : (x : ℕ) → item_count g ≤ x → row_at rows x ≡ []
   row_past x l = get_or_past rows x [] (omega (arith, all.count, l))
 
+  -- behind the items there is no time
   time_past : (s : Scenario) (t : Times) → IsRun g order frozen s t → (x : ℕ) → item_count g ≤ x →
       get_or t.times x None ≡ None
   time_past s t run x l = get_or_past t.times x None

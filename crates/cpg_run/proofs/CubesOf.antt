@@ -141,9 +141,11 @@ module _ (k : ℕ) (literals : List Literal) where
   kept : ℕ → Literal
   kept v = record { variable = v; low = kept_low literals v; high = kept_high k literals v }
 
+  -- whether a literal is on the variable
   is_spoken : ℕ → Bool
   is_spoken v = list_any (λ (m : Literal). m.variable == v) literals
 
+  -- the variables that literals are on, rising
   spoken_below : List ℕ
   spoken_below = filter is_spoken (numbers_below (suc (greatest (map (λ (m : Literal). m.variable) literals))))
 
@@ -151,6 +153,7 @@ module _ (k : ℕ) (literals : List Literal) where
   pub cube_of : List Literal
   cube_of = map kept spoken_below
 
+  -- the cube that is made is by rising variables
   rising : IsRising cube_of
   unfolding cube_of kept spoken_below
   rising = AllPairs-map (λ v w. v < w) (λ (l m : Literal). l.variable < m.variable) kept spoken_below (λ v w h. h)
@@ -169,6 +172,7 @@ module _ (k : ℕ) (literals : List Literal) where
         subst (λ w. kept w ≡ l) v r.2,
       )
 
+  -- it has a literal on each variable that one is on
   in_cube : (v : ℕ) → is_spoken v ≡ true → Contains cube_of (kept v)
   unfolding cube_of spoken_below is_spoken
   in_cube v e =
@@ -180,14 +184,17 @@ module _ (k : ℕ) (literals : List Literal) where
       (Contains-filter is_spoken (numbers_below (suc (greatest (map (λ (m : Literal). m.variable) literals)))) v e
       (Contains-numbers (suc (greatest (map (λ (m : Literal). m.variable) literals))) v (omega (arith, same, most))))
 
+  -- the cube has no literal on a variable that none is on
   not_in_cube : (v : ℕ) → is_spoken v ≡ false → (l : Literal) → Contains cube_of l → l.variable ≢ v
   not_in_cube v e l j same = both_ways (is_spoken v) e (subst (λ w. is_spoken w ≡ true) same (from_cube l j).0)
 
+  -- on which no literal is
   unspoken : (v : ℕ) → is_spoken v ≡ false → (m : Literal) → Contains literals m → m.variable ≡ v → ⊥
   unfolding is_spoken
   unspoken v e m j same = both_ways (list_any (λ (m : Literal). m.variable == v) literals) e
       (list_any_true (λ (m : Literal). m.variable == v) literals m j (eq-eqb m.variable v same))
 
+  -- the low of the cube is the one kept of the literals
   low_is : (v : ℕ) → low_in cube_of v ≡ kept_low literals v
   unfolding kept
   low_is v = elim (cases_Bool (is_spoken v)) [
@@ -199,6 +206,7 @@ module _ (k : ℕ) (literals : List Literal) where
     )
   ]
 
+  -- the high of the cube is the one kept of the literals
   high_is : (v : ℕ) → high_in k cube_of v ≡ kept_high k literals v
   unfolding kept
   high_is v = elim (cases_Bool (is_spoken v)) [

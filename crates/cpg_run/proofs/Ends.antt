@@ -32,6 +32,7 @@ greatest_there : (xs : List ℕ) (x : ℕ) → Contains xs x → Contains xs (gr
 greatest_there [] x c = absurd (Contains-nil x c)
 greatest_there (y ∷ ys) x c = greatest_in y ys
 
+-- what is in the list of an option is its value
 option_of : (o : Option ℕ) (n : ℕ) → Contains (option_to_list o) n → o ≡ Some n
 option_of None n c = absurd (Contains-nil n c)
 option_of (Some m) n c = elim (Contains-cases m [] n c) [

@@ -71,6 +71,7 @@ the_one (y ∷ z ∷ xs) x l j = absurd (omega arith)
 module _ (g : Graph) (urgency order : List ℕ) (frozen : List (Option ℕ)) (rows : List (List Column)) (x : ℕ)
     (timed : IsTimed g urgency order frozen) (l : x < item_count g)
     (earlier : AreRowsFor g order frozen x rows) where
+  -- the graph has at most 128 processes
   few : process_count g ≤ 128
   few = timed.admitted.formed.few_processes
 
@@ -130,12 +131,15 @@ module _ (g : Graph) (urgency order : List ℕ) (frozen : List (Option ℕ)) (ro
 
   module _ (entries : List Column) (are : AreEntriesOf g order frozen rows x entries) where
     module _ (e : Column) (j : Contains entries e) where
+      -- the cube of an entry is one of the graph
       entry_known : IsCube g e.cube
       entry_known = let a = are.each e j in cube_known (lows g e.cube) a.lawful a.active e.cube a.cube
 
+      -- the cube of an entry matches its least scenario
       entry_own : matches e.cube (lows g e.cube) ≡ true
       entry_own = let a = are.each e j in cube_own (lows g e.cube) a.lawful a.active e.cube a.cube
 
+      -- a scenario that it matches has the same item at the same time
       entry_same : (u : Scenario) → IsScenario g u → matches e.cube u ≡ true →
           IsSameIn g order frozen rows x (lows g e.cube) u
       entry_same = let a = are.each e j in cube_same (lows g e.cube) a.lawful a.active e.cube a.cube

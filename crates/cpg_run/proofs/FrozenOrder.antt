@@ -38,6 +38,7 @@ rises_at R (x ∷ xs) h (suc i) zero d l m = absurd (omega arith)
 rises_at R (x ∷ xs) h (suc i) (suc j) d l m = rises_at R xs h.1 i j d (omega arith) (omega arith)
 
 module _ (g : Graph) (order : List ℕ) (topological : IsTopological g order) where
+  -- an item is of an earlier moment than another
   abbrev Sooner : ℕ → ℕ → Type 0
   Sooner x y = moment g order x < moment g order y
 
@@ -46,6 +47,7 @@ module _ (g : Graph) (order : List ℕ) (topological : IsTopological g order) wh
     within : x < item_count g
     by : producer g x ≡ p
 
+  -- a process and the items that it sends are made by it
   made_by : (p x : ℕ) → p < process_count g → Contains (p ∷ queue_of g p) x → IsMadeBy p x
   made_by p x h c = elim (Contains-cases p (queue_of g p) x c) [
     | inl e ↦
@@ -61,6 +63,7 @@ module _ (g : Graph) (order : List ℕ) (topological : IsTopological g order) wh
       ap (λ r. place order r * phases g + phase (item_at g x)) q.by
       ∙ ap (λ n. place order p * phases g + n) (phase_is_rank g (item_at g x) q.sent)
 
+  -- the frozen items of a process rise in moment
   items_rise : (p : ℕ) → p < process_count g → Rises Sooner (frozen_items_of g p)
   items_rise p h = Rises-filter Sooner (is_frozen g) (p ∷ queue_of g p) (
     λ x c. omega (arith, moment_of_start g order topological p h, moment_of_sent p x c),
@@ -68,6 +71,7 @@ module _ (g : Graph) (order : List ℕ) (topological : IsTopological g order) wh
         (λ a b k m l. omega (arith, l, moment_of_sent p a k, moment_of_sent p b m)) (queue_rises g p),
   )
 
+  -- a frozen item that is listed for a process is made by it
   listed : (p x : ℕ) → Contains order p → Contains (frozen_items_of g p) x → IsMadeBy p x
   listed p x k c = made_by p x (from_order (process_count g) order topological.all p k)
       (Contains-filter_parts (is_frozen g) (p ∷ queue_of g p) x c).0

@@ -47,6 +47,7 @@ module _ (g : Graph) (urgency order : List ℕ) (frozen : List (Option ℕ)) (ro
     ordered = (found.each x l).merge.ordered;
   }
 
+  -- the rows carry no more than they may
   carrying : AreCarrying g urgency order frozen rows
   carrying = record {
     count = found.count;

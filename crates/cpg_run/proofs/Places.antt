@@ -32,6 +32,7 @@ module _ (g : Graph) (order : List ℕ) (topological : IsTopological g order) (f
     (long : length readies ≡ length g.nodes) (far : length frees ≡ length g.nodes)
     (heard : ℕ) (is_heard : IsMost (λ c. (c < condition_count g) × (decides g s.values p c ≡ true))
     (heard_there g known (node_of g p)) heard) where
+  -- the node of the process
   abbrev node : ℕ
   node = node_of g p
 
@@ -77,7 +78,7 @@ module _ (g : Graph) (order : List ℕ) (topological : IsTopological g order) (f
         (a.nodes_ready (node_of g p) on) is_heard
 
     module _ (end : ℕ) (ends : end ≡ start + duration g p (fault_of s p)) where
-      -- so is the end
+      -- the end that is found is the end of the process in the run
       pub end_right : end ≡ end_in t p
       end_right = ends ∙ ap (λ n. n + duration g p (fault_of s p)) start_right
           ∙ sym (end_active g order frozen s t run p l acts)

@@ -31,12 +31,14 @@ module _ (g : Graph) (order : List ℕ) where
         ];
       }
 
+  -- an item that goes before is queued before
   queued_by : (y x : ℕ) → GoesBefore y x → is_queued_before g order y x ≡ true
   queued_by y x b = and_from _ _ (and_from _ _ b.sent (eq-eqb _ _ b.home)) (elim b.first [
     | inl c ↦ or_left _ _ c
     | inr c ↦ or_right _ _ (and_from _ _ (eq-eqb _ _ c.0) (lt-ltb _ _ c.1))
   ])
 
+  -- the producer of an item that goes before stands no later
   place_of : (y x : ℕ) → GoesBefore y x → place order (producer g y) ≤ place order (producer g x)
   place_of y x b = elim b.first [
     | inl c ↦ omega (arith, places_from_comes_before order (producer g y) (producer g x) c)

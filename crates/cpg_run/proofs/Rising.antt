@@ -49,6 +49,7 @@ next_slot-le g node time =
     let inside : offset g node ≤ round g = sum_by-take-le (λ (s : Slot). s.length) g.slots (slot_place g node) in
     omega (arith, times_le (time - offset g node) (round g))
 
+-- a bound of a frozen time, if there is one, bounds the greatest of none or it
 frozen_le : (o : Option ℕ) (b : ℕ) → ((time : ℕ) → o ≡ Some time → time ≤ b) → greatest (option_to_list o) ≤ b
 frozen_le None b h = omega arith
 frozen_le (Some time) b h = let l = h time refl in omega (arith, greatest-cons time [])
@@ -128,6 +129,7 @@ module _ (base : ℕ) (g : Graph) (order : List ℕ) (frozen : List (Option ℕ)
                 (omega (arith, broadcast_sooner g order topological p c up)))
           ]
 
+      -- no start is later than the bound by more than a release and what it waits for
       start_le : p < process_count g → greatest (start_bounds g order s t p) ≤ bound base m + 16000000000
       start_le l =
           let release : (process_at g p).release ≤ 1000000000 = (within.processes p _ l).release in
@@ -181,10 +183,12 @@ module _ (base : ℕ) (g : Graph) (order : List ℕ) (frozen : List (Option ℕ)
           omega arith
     ]
 
+    -- an end is a duration after the start, if there is one
     end_from : (o : Option ℕ) (d b : ℕ) → unwrap_or o 0 ≤ b → unwrap_or (option_map (λ start. start + d) o) 0 ≤ b + d
     end_from None d b h = omega arith
     end_from (Some n) d b h = omega arith
 
+    -- no process has more than 8 faults
     fault_le : (p : ℕ) → p < process_count g → fault_of s p ≤ 8
     fault_le p l = omega (
       arith,

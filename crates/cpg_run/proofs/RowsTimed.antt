@@ -19,6 +19,7 @@ use Rattle.cpg_run.proofs.EntriesMerge.{entries_times}
 module _ (g : Graph) (urgency order : List ℕ) (frozen : List (Option ℕ)) (timed : IsTimed g urgency order frozen)
     (rows others : List (List Column)) (x : ℕ) (l : x < item_count g)
     (same : SameRowsBefore g order (place order (producer g x)) rows others) where
+  -- beside the item the same is carried by both lists of rows
   carried_alike : (s : Scenario) → carried g order rows s x ≡ carried g order others s x
   carried_alike s =
       carried_same g order timed.admitted.topological rows others (place order (producer g x)) same s x l (omega arith)
@@ -33,6 +34,7 @@ module _ (g : Graph) (urgency order : List ℕ) (frozen : List (Option ℕ)) (ti
     cube = subst (λ ls. IsCubeOf g.faults ls e.cube) (carried_alike s) is.cube;
   }
 
+  -- an entry by the other rows is one by these
   entry_back : (s : Scenario) (e : Column) → IsEntryIn g order frozen others x s e → IsEntryIn g order frozen rows x s e
   entry_back s e is = record {
     lawful = is.lawful;

@@ -23,6 +23,7 @@ one_of_map f [] z e = absurd (omega (arith, ap length e))
 one_of_map f (x ∷ []) z e = (x, refl, ap (λ (ns : List ℕ). get_or ns 0 z) e)
 one_of_map f (x ∷ y ∷ xs) z e = absurd (omega (arith, ap length e))
 
+-- a list that is mapped to nothing is empty
 none_of_map : {X : Type 0} (f : X → ℕ) (xs : List X) → map f xs ≡ [] → xs ≡ []
 none_of_map f [] e = refl
 none_of_map f (x ∷ xs) e = absurd (omega (arith, ap length e))

@@ -114,6 +114,7 @@ module _ (g : Graph) (urgency order : List ℕ) (frozen : List (Option ℕ)) (ro
 
   -- ---- what an item leaves to those behind it
 
+  -- what an item leaves carried holds in the second scenario
   record Leaves (y : ℕ) : Type 0 where
     decided : matches (decided g s (producer g y)) u ≡ true
     value : active g s.values (producer g y) ≡ true → matches (sent_by_value g s y) u ≡ true
@@ -147,6 +148,7 @@ module _ (g : Graph) (urgency order : List ℕ) (frozen : List (Option ℕ)) (ro
 
   -- ---- what is carried beside an end
 
+  -- the number of faults of a process whose end is carried is the same in the second scenario
   end_count : (p : ℕ) → matches (carried_at_end g order rows s p) u ≡ true → holds u (number_known s p) ≡ true
   end_count p h = from_all (holds u) (number_known s p ∷ []) (number_known s p) (holds_right u
       (carried_at_start g order rows s p) (number_known s p ∷ []) h) (Contains-first (number_known s p) [])
@@ -188,6 +190,7 @@ module _ (g : Graph) (urgency order : List ℕ) (frozen : List (Option ℕ)) (ro
 
   -- ---- a send
 
+  -- the item is sent in the second scenario too, at the same time
   pub record SameSend (x : ℕ) : Type 0 where
     pub acts : item_active g u.values (item_at g x) ≡ true
     pub time : get_or t.times x None ≡ get_or w.times x None
@@ -207,6 +210,7 @@ module _ (g : Graph) (urgency order : List ℕ) (frozen : List (Option ℕ)) (ro
       else flat_map (queued g order rows s) (queued_before g order x) ++ carried_at_end g order rows s (producer g x))
       (sent_by_value g s x) h
 
+  -- the value that is sent holds in the second scenario
   value_of_send : (x : ℕ) → matches (carried_at_send g order rows s x) u ≡ true → matches (sent_by_value g s x) u ≡ true
   value_of_send x h = holds_right u (if is_frozen g x then decided g s (producer g x)
       else flat_map (queued g order rows s) (queued_before g order x) ++ carried_at_end g order rows s (producer g x))
@@ -255,6 +259,7 @@ module _ (g : Graph) (urgency order : List ℕ) (frozen : List (Option ℕ)) (ro
   module _ (x : ℕ) (within : x < item_count g) (sent : is_sent g x ≡ true) (at : place order (producer g x) ≤ bound)
       (free : is_frozen g x ≡ false) (on : item_active g s.values (item_at g x) ≡ true)
       (h : matches (carried_at_send g order rows s x) u ≡ true) (sooner : Sooner (moment g order x)) where
+    -- what each item before in the queue leaves holds in the second scenario
     leaves : (y : ℕ) → Contains (queued_before g order x) y → Leaves y
     leaves y j = leaves_parts y (queued_holds x free h y j)
 
@@ -285,12 +290,15 @@ module _ (g : Graph) (urgency order : List ℕ) (frozen : List (Option ℕ)) (ro
         (sooner y q.less q.within q.sent (omega (arith, producer_no_later g order x y j, at)) acts
         (carried_before y j acts)).time
 
+    -- the producer of the item is a process of the graph
     producer_within : producer g x < process_count g
     producer_within = producer_in_range g order z.timed.admitted.topological x within
 
+    -- the producer of the item is active
     producer_on : active g s.values (producer g x) ≡ true
     producer_on = producer_active g s.values (item_at g x) on
 
+    -- the producer has the same start in the second scenario
     start : SameStart g urgency order frozen rows bound s u t w z (producer g x)
     start = end_start (producer g x) producer_within at producer_on (end_holds x free h)
 
@@ -347,6 +355,7 @@ module _ (g : Graph) (urgency order : List ℕ) (frozen : List (Option ℕ)) (ro
 
   -- ---- each item
 
+  -- the item is active in the second scenario too, at the same time
   pub record SameItem (x : ℕ) : Type 0 where
     pub acts : item_active g u.values (item_at g x) ≡ true
     pub time : get_or t.times x None ≡ get_or w.times x None

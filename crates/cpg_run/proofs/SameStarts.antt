@@ -68,6 +68,7 @@ pub record Two (g : Graph) (urgency order : List ℕ) (frozen : List (Option ℕ
 module _ (g : Graph) (urgency order : List ℕ) (frozen : List (Option ℕ)) (rows : List (List Column)) (bound : ℕ)
     (s u : Scenario) (t w : Times)
     (z : Two g urgency order frozen rows bound s u t w) where
+  -- what the graph is admitted with
   k : Admitted g urgency order
   k = z.timed.admitted
 
@@ -95,6 +96,7 @@ module _ (g : Graph) (urgency order : List ℕ) (frozen : List (Option ℕ)) (ro
   Told y = (e : IsEarlier g order bound y) →
       SameTold g order frozen rows y e.0 (z.times y e) s u z.first z.second t w z.run z.other
 
+  -- what a row tells in the first scenario it tells in the second
   told : (y : ℕ) → item_active g s.values (item_at g y) ≡ true → matches (carried_by_row rows s y) u ≡ true → Told y
   unfolding Told
   told y on h e = told_alike g order frozen rows y e.0 (z.times y e) s u z.first z.second t w z.run z.other on h
@@ -116,6 +118,7 @@ module _ (g : Graph) (urgency order : List ℕ) (frozen : List (Option ℕ)) (ro
         sym (value_same c (Contains-filter (decides g s.values p) (numbers_below (condition_count g)) c e
         (Contains-numbers (condition_count g) c l))) ∙ number_of-value u c)
 
+    -- the process has the same activation in both
     activation_is_same : activation g s.values p ≡ activation g u.values p
     unfolding k
     activation_is_same = activation_same g urgency k.urgent p s.values u.values z.first.values z.second.values agrees
@@ -124,6 +127,7 @@ module _ (g : Graph) (urgency order : List ℕ) (frozen : List (Option ℕ)) (ro
     pub active_is_same : active g s.values p ≡ active g u.values p
     active_is_same = ap is_active activation_is_same
 
+    -- the same conditions decide the process in both
     deciding_is_same : deciding g s.values p ≡ deciding g u.values p
     unfolding k
     deciding_is_same = deciding_same g urgency k.urgent p s.values u.values agrees
@@ -135,6 +139,7 @@ module _ (g : Graph) (urgency order : List ℕ) (frozen : List (Option ℕ)) (ro
         (deciding g s.values p) (λ c j. ap (exactly (value_variable c)) (value_same c j))
 
     module _ (within : p < process_count g) where
+      -- a condition that decides the process is one of the graph, of an active process
       decides_is_active : (c : ℕ) → Contains (deciding g s.values p) c →
           (c < condition_count g) × (active g s.values (process_of g c) ≡ true)
       unfolding k
@@ -149,6 +154,7 @@ module _ (g : Graph) (urgency order : List ℕ) (frozen : List (Option ℕ)) (ro
       module _ (at : place order p ≤ bound) where
         -- what is heard of the conditions that decide a process is the same, if it holds
         module _ (h : matches (heard g rows s p) u ≡ true) where
+          -- the broadcast of a deciding condition of another node tells in both scenarios
           hears : (c : ℕ) → Contains (deciding g s.values p) c → (node_of g (process_of g c) == node_of g p) ≡ false →
               Told (broadcast_item g c)
           unfolding k
@@ -167,6 +173,7 @@ module _ (g : Graph) (urgency order : List ℕ) (frozen : List (Option ℕ)) (ro
               told (broadcast_item g c) (ap (item_active g s.values) (item_at-broadcast g c)
               ∙ and_from _ _ (lt-ltb 1 (length g.nodes) two) a.1) tells
 
+          -- the broadcast of such a condition is of an earlier row
           hears_at : (c : ℕ) → Contains (deciding g s.values p) c → IsEarlier g order bound (broadcast_item g c)
           unfolding k
           hears_at c j = let r = hears_earlier g order k.topological s p c j in (r.0, omega (arith, r.1, at))
@@ -198,6 +205,7 @@ module _ (g : Graph) (urgency order : List ℕ) (frozen : List (Option ℕ)) (ro
         -- ---- its inputs, if it is active
 
         module _ (on : active g s.values p ≡ true) where
+          -- the same inputs of the process are live
           live_is_same : filter (live g s.values) (inputs g p) ≡ filter (live g u.values) (inputs g p)
           unfolding k
           live_is_same =
@@ -209,18 +217,22 @@ module _ (g : Graph) (urgency order : List ℕ) (frozen : List (Option ℕ)) (ro
               (sym mine ∙ activation_is_same ∙ its)
               (ap is_active (sym mine) ∙ on)
 
+          -- the same inputs are live
           live_at : (e : ℕ) → Contains (inputs g p) e → live g s.values e ≡ live g u.values e
           live_at e j = same_filter_at (live g s.values) (live g u.values) (inputs g p) live_is_same e j
 
+          -- a message is active exactly if its edge is live
           message_acts : (v : List Bool) (e : ℕ) → e < edge_count g → is_message g e ≡ true →
               item_active g v (item_at g (message_item g e)) ≡ live g v e
           message_acts v e l m = ap (item_active g v) (item_at-message g e l) ∙ ap (λ b. b && live g v e) m
 
+          -- the message of an input is of an earlier row
           receives_at : (e : ℕ) → Contains (inputs g p) e → IsEarlier g order bound (message_item g e)
           unfolding k
           receives_at e j = let r = receives_earlier g order k.topological p e j in (r.0, omega (arith, r.1, at))
 
           module _ (m : matches (received g rows s p) u ≡ true) where
+            -- the message of a live input tells in both scenarios
             receives : (e : ℕ) → Contains (inputs g p) e → is_message g e ≡ true → live g s.values e ≡ true →
                 Told (message_item g e)
             receives e j is v = told (message_item g e) (message_acts s.values e (inputs_parts g p e j).0 is ∙ v)
@@ -282,7 +294,7 @@ module _ (g : Graph) (urgency order : List ℕ) (frozen : List (Option ℕ)) (ro
       ∙ ap₂ (λ o f. unwrap_or o 0 + duration g p f) same.time (count_same p l h)
       ∙ sym (end_active g order frozen u w z.other p l same.acts)
 
-  -- and the same is carried beside that end
+  -- the same is carried beside the end of the process in both scenarios
   pub end_told_same : (p : ℕ) → SameStart p → holds u (number_known s p) ≡ true →
       carried_at_end g order rows u p ≡ carried_at_end g order rows s p
   end_told_same p same h = ap₂ (λ ls n. ls ++ exactly p n ∷ []) same.told (same_number u s p h)
@@ -308,6 +320,7 @@ module _ (g : Graph) (urgency order : List ℕ) (frozen : List (Option ℕ)) (ro
         executed = λ on. subst (λ b. matches (if b then executed g rows s q else []) u ≡ true) on last;
       }
 
+  -- the number of faults that an execution carries is the same
   executed_count : (q : ℕ) → matches (executed g rows s q) u ≡ true → holds u (number_known s q) ≡ true
   executed_count q h = from_all (holds u) (number_known s q ∷ []) (number_known s q)
       (holds_right u (if (process_at g q).frozen then [] else received g rows s q) (number_known s q ∷ []) h)
@@ -410,9 +423,11 @@ module _ (g : Graph) (urgency order : List ℕ) (frozen : List (Option ℕ)) (ro
   module _ (p : ℕ) (within : p < process_count g) (at : place order p ≤ bound) (free : (process_at g p).frozen ≡ false)
       (on : active g s.values p ≡ true)
       (h : matches (carried_at_start g order rows s p) u ≡ true) (earlier : Before (place order p)) where
+    -- what holds of a process whose start is carried
     parts : Starts p
     parts = starts_parts p free h
 
+    -- a process before on the node is earlier in the order
     earlier_at : (q : ℕ) → Contains (before_on_node g order p) q → Earlier g order z.timed.admitted.topological p q
     earlier_at q j = earlier_parts g order z.timed.admitted.topological p q j
 
@@ -431,10 +446,12 @@ module _ (g : Graph) (urgency order : List ℕ) (frozen : List (Option ℕ)) (ro
               mine.decided mine.heard (executed_received q f (mine.executed acts))
         ]
 
+    -- a process before on the node starts at the same time in both
     start_before : (q : ℕ) → Contains (before_on_node g order p) q → active g s.values q ≡ true → SameStart q
     unfolding Before
     start_before q j acts = let e = earlier_at q j in earlier q e.earlier e.within acts (carried_before q j acts)
 
+    -- a process before on the node ends at the same time in both
     end_before : (q : ℕ) → Contains (before_on_node g order p) q → active g s.values q ≡ true → end_in t q ≡ end_in w q
     end_before q j acts = end_is_same q (earlier_at q j).within acts (start_before q j acts)
         (executed_count q ((parts.before q j).executed acts))
@@ -446,12 +463,14 @@ module _ (g : Graph) (urgency order : List ℕ) (frozen : List (Option ℕ)) (ro
       | inr is ↦ subst (λ q. matches (decided g s q) u ≡ true) is parts.decided
     ]
 
+    -- what is heard for the processes up to this one holds in the second scenario
     heard_up_to : (q : ℕ) → Contains (up_to g order p) q → matches (heard g rows s q) u ≡ true
     heard_up_to q j = elim (up_to_cases g order z.timed.admitted.topological p q j) [
       | inl i ↦ (parts.before q i).heard
       | inr is ↦ subst (λ q. matches (heard g rows s q) u ≡ true) is parts.heard
     ]
 
+    -- the processor is free at the same time
     processor_same : processor_bounds g order s t p ≡ processor_bounds g order u w p
     processor_same = same_map (end_in t) (end_in w) (filter (active g s.values) (before_on_node g order p))
         (λ q j. let r = Contains-filter_parts (active g s.values) (before_on_node g order p) q j in
@@ -481,6 +500,7 @@ module _ (g : Graph) (urgency order : List ℕ) (frozen : List (Option ℕ)) (ro
               ∙ sym (cond-false _ _ _ far)
         ]
 
+    -- what decides is heard at the same time
     hearing_same : hearing_bounds g order s t p ≡ hearing_bounds g order u w p
     hearing_same = same_map (heard_there g t (node_of g p)) (heard_there g w (node_of g p))
         (flat_map (deciding g s.values) (up_to g order p)) hearing_at
@@ -505,11 +525,13 @@ module _ (g : Graph) (urgency order : List ℕ) (frozen : List (Option ℕ)) (ro
               ∙ sym (cond-false _ _ _ m)
         ]
 
+    -- the inputs are there at the same time
     inputs_same : input_bounds g s t p ≡ input_bounds g u w p
     inputs_same = same_map (input_there g t) (input_there g w) (filter (live g s.values) (inputs g p))
         (λ e j. let r = Contains-filter_parts (live g s.values) (inputs g p) e j in input_at e r.0 r.1)
         ∙ ap (map (input_there g w)) (live_is_same p parts.decided within at on)
 
+    -- all bounds of the start are the same
     bounds_same : start_bounds g order s t p ≡ start_bounds g order u w p
     bounds_same = ap₂ (λ xs ys. (process_at g p).release ∷ xs ++ ys) (ap₂ ◌++◌ inputs_same processor_same) hearing_same
 

@@ -68,6 +68,7 @@ module _ (g : Graph) (order : List ℕ) (topological : IsTopological g order) (s
   -- ---- what a node has sent before an item
 
   module _ (k : ℕ) (inside : k < length (queue_of g p)) where
+    -- the item at place k of what the process sends
     abbrev here : ℕ
     here = get_or (queue_of g p) k 0
 
@@ -124,23 +125,28 @@ module _ (g : Graph) (order : List ℕ) (topological : IsTopological g order) (s
     module _ (frozen : List (Option ℕ)) (t : Times) (run : IsRun g order frozen s t) (free : ℕ)
         (is_free : IsMost (IsSentBy g order s p k) (free_after g t) free)
         (acts : item_active g s.values (item_at g here) ≡ true) where
+      -- the time found: the next free slot, or the frozen time if that is later
       abbrev found : ℕ
       found = max (max (next_slot g (node_of g p) (end_in t p)) free) (frozen_in frozen here)
 
+      -- the item waits for a slot of its process's node after that process's end
       at_producer : next_slot g (home g here) (end_in t (producer g here)) ≡ next_slot g (node_of g p) (end_in t p)
       at_producer = ap (λ q. next_slot g (node_of g q) (end_in t q)) (in_queue g p here here_sent).by
 
+      -- the time of the item is the greatest of its bounds and its frozen time
       item_time : time_in t here ≡ max (greatest (send_bounds g order s t here)) (frozen_in frozen here)
       item_time = let x = in_queue g p here here_sent in
           time_in_active g order frozen s t run here x.within acts
           ∙ greatest-cons (unfrozen_time g order s t here) (option_to_list (get_or frozen here None))
           ∙ ap₂ max (unfrozen_sent g order frozen s t run here x.sent) (greatest_option (get_or frozen here None))
 
+      -- the slots are free by the item's time
       free_by : free ≤ time_in t here
       free_by = let x = in_queue g p here here_sent in
           is_free.least (time_in t here)
           (λ y h. queue_below g order frozen s t run here y x.within acts x.sent (by_is_queued y h) h.0.active)
 
+      -- no bound of the item is above the time found
       bounds_found : greatest (send_bounds g order s t here) ≤ found
       bounds_found = send_bounds_le g order s t here found (omega (arith, at_producer))
           (λ y c a. omega (arith, is_free.above y (queued_is_by y c a)))
@@ -209,6 +215,7 @@ module _ (g : Graph) (order : List ℕ) (topological : IsTopological g order) (s
   module _ (frozen : List (Option ℕ)) (t : Times) (run : IsRun g order frozen s t) (old known : Times) (k free : ℕ)
       (inside : k < length (queue_of g p))
       (has : HasSent g order s t p k old known free) where
+    -- the item at place k of what the process sends
     abbrev item : ℕ
     item = get_or (queue_of g p) k 0
 

@@ -21,6 +21,7 @@ module _ (g : Graph) (order : List ℕ) (frozen : List (Option ℕ)) (s : Scenar
   low : AreLow (2 ^ 58) g order frozen
   low = record { low = λ x time l e. omega (arith, early x time e) }
 
+  -- at the last moment all times are small
   at_last : SmallBefore (2 ^ 58) g order frozen s t (last g)
   at_last = small_before (2 ^ 58) g order frozen s t within topological lawful low run (last g)
 

@@ -26,6 +26,7 @@ use Rattle.cpg_run.proofs.Mosts.{most_same}
 use Rattle.cpg_bus.proofs.Queued.{in_queue, queue-Contains}
 use Rattle.cpg_run.proofs.Sends.{Contains-take}
 
+-- nothing is true together with false
 and_none : (b : Bool) → (b && false) ≡ false
 and_none true = refl
 and_none false = refl
@@ -47,14 +48,17 @@ unsent_idle g values (Start p) h other = absurd (other p refl)
 unsent_idle g values (Message e) h other = ap (λ b. b && live g values e) h
 unsent_idle g values (Broadcast c) h other = ap (λ b. b && active g values (process_of g c)) h
 
+-- whether an item is a start
 abbrev starts_one : Item → Bool
 starts_one (Start p) = true
 starts_one (Message e) = false
 starts_one (Broadcast c) = false
 
+-- a message is no start
 message_start : (e q : ℕ) → Message e ≡ Start q → ⊥
 message_start e q h = true≢false (sym (ap starts_one h))
 
+-- a broadcast is no start
 broadcast_start : (c q : ℕ) → Broadcast c ≡ Start q → ⊥
 broadcast_start c q h = true≢false (sym (ap starts_one h))
 
@@ -158,6 +162,7 @@ module _ (g : Graph) (order : List ℕ) (topological : IsTopological g order) (f
       ))
       m
 
+  -- the items up to the last place are all that the process sends
   in_whole : (y : ℕ) → Contains (queue_of g p) y → Contains (take (length (queue_of g p)) (queue_of g p)) y
   in_whole y c = subst (λ ys. Contains ys y) (sym (take_all (length (queue_of g p)) (queue_of g p) (omega arith))) c
 
@@ -222,9 +227,11 @@ module _ (g : Graph) (order : List ℕ) (topological : IsTopological g order) (f
       (starts : begun.times ≡ set known.times p (Some start)) (stops : begun.ends ≡ set known.ends p (Some end))
       (start_is : start ≡ time_in t p) (end_is : end ≡ end_in t p)
       (sent : HasSent g order s t p (length (queue_of g p)) begun new free) (keeps : KeepsEnds begun new) where
+    -- one of the items sent so far is one that the process sends
     queued : (x : ℕ) → Contains (take (length (queue_of g p)) (queue_of g p)) x → Contains (queue_of g p) x
     queued x c = Contains-take (length (queue_of g p)) (queue_of g p) x c
 
+    -- a start is by its own process
     start_by : (x : ℕ) → x < process_count g → producer g x ≡ x
     start_by x k = ap (producer_of_item g) (item_at-start g x k)
 
@@ -233,9 +240,11 @@ module _ (g : Graph) (order : List ℕ) (topological : IsTopological g order) (f
     as_before x other unqueued = sent.others x (λ c. unqueued (queued x c)) ∙ ap (λ ts. get_or ts x None) starts
         ∙ get_or-set_other known.times p x (Some start) None other
 
+    -- items of other processes are as they were
     elsewhere : (x : ℕ) → (producer g x ≡ p → ⊥) → get_or new.times x None ≡ get_or known.times x None
     elsewhere x other = as_before x (λ e. other (ap (producer g) e ∙ start_by p l)) (λ c. other (in_queue g p x c).by)
 
+    -- the start of the process is known
     its_start : get_or new.times p None ≡ get_or t.times p None
     its_start = sent.others p (λ c. let q = in_queue g p p (queued p c) in absurd (omega (arith, q.above)))
         ∙ ap (λ ts. get_or ts p None) starts ∙ get_or-set_same known.times p (Some start) None (omega arith)
@@ -262,11 +271,13 @@ module _ (g : Graph) (order : List ℕ) (topological : IsTopological g order) (f
           | inr (inr c) ↦ absurd (broadcast_start c.0 q (sym c.3 ∙ e))
         ]
 
+    -- the end of the process is known
     its_end : get_or new.ends p None ≡ get_or t.ends p None
     its_end =
         ap (λ ts. get_or ts p None) (keeps.ends ∙ stops) ∙ get_or-set_same known.ends p (Some end) None (omega arith)
         ∙ ap Some (end_is ∙ end_active g order frozen s t run p l acts) ∙ sym (has_end g order frozen s t run p l acts)
 
+    -- the ends of other processes are as they were
     other_end : (q : ℕ) → q ≢ p → get_or new.ends q None ≡ get_or known.ends q None
     other_end q other =
         ap (λ ts. get_or ts q None) (keeps.ends ∙ stops) ∙ get_or-set_other known.ends p q (Some end) None other

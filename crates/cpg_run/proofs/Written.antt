@@ -83,15 +83,19 @@ columns_at rows x = elim (cases_lt x (length rows)) [
 module _ (g : Graph) (within : IsWithinLimits g) (urgency order : List ℕ) (admitted : Admitted g urgency order)
     (frozen : List (Option ℕ)) (rows : List Row)
     (is : AreRowsFound g urgency order frozen rows) where
+  -- the columns of the rows
   abbrev columns : List (List Column)
   columns = columns_of_rows rows
 
+  -- the frozen times are those of the admitted graph
   timed : IsTimed g urgency order frozen
   timed = record { admitted = admitted; frozen_times = is.frozen_times }
 
+  -- there is a row for each item
   long : length rows ≡ item_count g
   long = sym (length-map rows (λ (row : Row). row.item)) ∙ ap length is.items ∙ length-range_with_len 0 (item_count g)
 
+  -- the row of an item stands at the item's number
   item_is : (x : ℕ) → x < item_count g → (row_for rows x).item ≡ x
   item_is x l = sym (get_or-map (λ (row : Row). row.item) rows x no_row 0 (omega (arith, l, long)))
       ∙ ap (λ xs. get_or xs x 0) is.items ∙ get_or-range_with_len 0 (item_count g) x 0 l ∙ omega arith
@@ -99,6 +103,7 @@ module _ (g : Graph) (within : IsWithinLimits g) (urgency order : List ℕ) (adm
   -- ---- tables with these rows
 
   module _ (tables : List NodeTable) (have : (x : ℕ) → columns_of tables x ≡ (row_for rows x).columns) where
+    -- the tables carry what the rows do
     of_rows : AreTablesCarrying g urgency order frozen columns tables
     of_rows = record { timed = timed; found = is.found; columns = λ x. have x ∙ sym (columns_at rows x) }
 
@@ -108,6 +113,7 @@ module _ (g : Graph) (within : IsWithinLimits g) (urgency order : List ℕ) (adm
 
   -- ---- the rows themselves
 
+  -- as one table, the rows are those of all tables
   all_rows : flat_map (λ (t : NodeTable). t.starts ++ t.sends) (one_table rows) ≡ rows
   all_rows = append-nil (rows ++ []) ∙ append-nil rows
 
@@ -159,6 +165,7 @@ module _ (g : Graph) (within : IsWithinLimits g) (urgency order : List ℕ) (adm
             (row_at columns x) c row.not_whole k;
       }
 
+  -- each column of a row can be written
   row_writable : (x : ℕ) → x < item_count g → All (IsWritable g) (row_at columns x)
   row_writable x l =
       λ i d h. column_writable x l (get_or (row_at columns x) i d) (Contains-get_or (row_at columns x) i d h)
@@ -172,6 +179,7 @@ module _ (g : Graph) (within : IsWithinLimits g) (urgency order : List ℕ) (adm
   never_active x unsent later (inr (inr c)) s = ap (item_active g s.values) c.3
       ∙ ap (λ b. b && active g s.values (process_of g c.0)) (sym (ap (is_sent_item g) c.3) ∙ unsent)
 
+  -- the row of an item that isn't sent is empty
   unsent_row : (x : ℕ) → process_count g ≤ x → x < item_count g → is_sent g x ≡ false → (row_for rows x).columns ≡ []
   unsent_row x later l unsent = sym (columns_at rows x) ∙ never_columns g urgency order frozen timed columns is.found x
       (λ s lawful. never_active x unsent later (item_cases g x l) s)
@@ -208,6 +216,7 @@ module _ (g : Graph) (within : IsWithinLimits g) (urgency order : List ℕ) (adm
     abbrev reach : Reach
     reach = (some_reach g order admitted.topological).0
 
+    -- the reaches of the graph
     reached : IsReach g order reach
     reached = (some_reach g order admitted.topological).1
 
@@ -276,6 +285,7 @@ module _ (g : Graph) (within : IsWithinLimits g) (urgency order : List ℕ) (adm
           (let e : rows_of_item g (item_at g x) ≤ rows_of_item g (item_at g x) = omega arith in e)),
     )
 
+    -- the rows are within the limits of a row and of all rows
     fit : DoRowsFit g rows
     fit = record {
       few = All-from_get_or (λ (row : Row). length row.columns ≤ MOST_COLUMNS) rows no_row

@@ -75,6 +75,7 @@ module _ (g : Graph) (ms : Members) where
       (λ p c. ap (duration g p)
       (get_or-map-below (count_of g ms) (process_count g) p 0 (numbers-Contains (process_count g) p c)))
 
+  -- an execution takes at least one time unit
   takes_time : IsWithinLimits g → (p f : ℕ) → p < process_count g → 1 ≤ duration g p f
   takes_time within p f l = let at : IsProcessWithin _ (process_at g p) = within.processes p _ l in
       omega (arith, at.works)

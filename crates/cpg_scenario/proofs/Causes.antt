@@ -29,9 +29,11 @@ use Rattle.cpg_scenario.proofs.Filling.{all_pass, one_fails}
 
 -- ---- a test, and the fact that holds if it fails
 
+-- a test fails exactly if a fact holds: the test for the absence of a cause, and the cause
 abbrev Fails : Bool → Type 0 → Type 0
 Fails test Fact = (test ≡ false) ↔ Fact
 
+-- two tests together fail exactly if one of two facts holds
 both : (a b : Bool) (A B : Type 0) → Fails a A → Fails b B → Fails (a && b) (A ⊎ B)
 both false b A B f g = (λ e. inl (f.0 refl), λ s. refl)
 both true b A B f g = (λ e. inr (g.0 e), λ s. elim s [ inl x ↦ absurd (true≢false (f.1 x)) | inr y ↦ g.1 y ])
@@ -46,11 +48,13 @@ next (inl (inl x)) = inl x
 next (inl (inr y)) = inr (inl y)
 next (inr z) = inr (inr z)
 
+-- one of three, grouped the other way
 back : {A B C : Type 0} → A ⊎ (B ⊎ C) → (A ⊎ B) ⊎ C
 back (inl x) = inl (inl x)
 back (inr (inl y)) = inl (inr y)
 back (inr (inr z)) = inr z
 
+-- three tests together fail exactly if one of three facts holds
 three : (a b c : Bool) (A B C : Type 0) → Fails a A → Fails b B → Fails c C → Fails ((a && b) && c) (A ⊎ (B ⊎ C))
 three a b c A B C f g h =
     through ((a && b) && c) ((A ⊎ B) ⊎ C) (A ⊎ (B ⊎ C)) (both (a && b) c (A ⊎ B) C (both a b A B f g) h) next back
@@ -62,9 +66,11 @@ four a b c d A B C D f g h i = through (((a && b) && c) && d) ((A ⊎ B) ⊎ (C 
     (through (((a && b) && c) && d) (((A ⊎ B) ⊎ C) ⊎ D) ((A ⊎ B) ⊎ (C ⊎ D))
     (both ((a && b) && c) d ((A ⊎ B) ⊎ C) D (both (a && b) c (A ⊎ B) C (both a b A B f g) h) i) next back) next back
 
+-- a test that passes, for a fact that can't hold
 never : (A : Type 0) → (A → ⊥) → Fails true A
 never A none = (λ e. absurd (true≢false e), λ a. absurd (none a))
 
+-- a test that fails, for a fact that holds
 always : (A : Type 0) → A → Fails false A
 always A a = (λ e. a, λ b. refl)
 
@@ -80,6 +86,7 @@ module _ (p : ℕ → Bool) (n : ℕ) where
       off true e = absurd (true≢false (sym e))
       off false e = refl
 
+      -- what isn't otherwise is true
       on : (b : Bool) → not b ≡ false → b ≡ true
       on true e = refl
       on false e = absurd (true≢false e)
@@ -93,12 +100,14 @@ module _ (Fact : List ℕ → Data → Type 0) where
   first_entry key d ms (inr other) =
       record { key = other.key; value = other.value; stands = inr other.stands; fact = other.fact }
 
+  -- an entry with a fact is the first one or one of the others
   entry_first : (key : List ℕ) (d : Data) (ms : Members) (k : List ℕ) (e : Data) → Stands (member key d ms) k e →
       Fact k e →
       Fact key d ⊎ HasEntry ms Fact
   entry_first key d ms k e (inl same) fact = inl (subst (λ x. Fact key x) same.1 (subst (λ x. Fact x e) same.0 fact))
   entry_first key d ms k e (inr later) fact = inr (record { key = k; value = e; stands = later; fact = fact })
 
+-- the test that a key is one of some fails exactly if it isn't
 among : (key : List ℕ) (keys : List (List ℕ)) → Fails (list_any (bytes_eq key) keys) (Contains keys key → ⊥)
 among key keys = (
   λ e c. both_ways (list_any (bytes_eq key) keys) e
@@ -108,18 +117,21 @@ among key keys = (
       none (subst (Contains keys) (sym ((bytes_eq-Decides key r.0).0 r.2)) r.1)),
 )
 
+-- the test that all keys are among some fails exactly if there is another key
 keys_among : (keys : List (List ℕ)) (ms : Members) → Fails (are_among keys ms) (HasOtherKey keys ms)
 keys_among keys no_members = never (HasOtherKey keys no_members) (λ h. h.stands)
 keys_among keys (member key d ms) = through _ _ _ (both _ _ _ _ (among key keys) (keys_among keys ms))
     (first_entry (λ key d. Contains keys key → ⊥) key d ms)
     (λ h. entry_first (λ key d. Contains keys key → ⊥) key d ms h.key h.value h.stands h.fact)
 
+-- the test of the values' types fails exactly if one has another type
 entries_typed : (flags : Bool) (ms : Members) → Fails (are_typed flags ms) (HasOtherType flags ms)
 entries_typed flags no_members = never (HasOtherType flags no_members) (λ h. h.stands)
 entries_typed flags (member key d ms) = through _ _ _ (both _ _ _ _ (λ e. e, λ e. e) (entries_typed flags ms))
     (first_entry (λ key d. is_typed flags d ≡ false) key d ms)
     (λ h. entry_first (λ key d. is_typed flags d ≡ false) key d ms h.key h.value h.stands h.fact)
 
+-- the test that a key has a table of such values fails exactly if it has something else
 is_table : (flags : Bool) (o : Option Data) → Fails (is_table_of flags o) (IsSomeAnd o (IsNoTableOf flags))
 is_table flags None = never ⊥ (λ h. h)
 is_table flags (Some (string s)) = always ⊤ tt
@@ -130,14 +142,17 @@ is_table flags (Some (datetime dt)) = always ⊤ tt
 is_table flags (Some (array ds)) = always ⊤ tt
 is_table flags (Some (table ms)) = entries_typed flags ms
 
+-- the test that keys are names of processes fails exactly if one isn't
 named : (g : Graph) (o : Option Members) → Fails (are_named g o) (IsSomeAnd o (HasOtherKey (process_names g)))
 named g None = never ⊥ (λ h. h)
 named g (Some ms) = keys_among (process_names g) ms
 
+-- the test of all fields fails exactly if there is a bad one
 fields_fail : (ms : Members) → Fails (has_fields ms) (HasBadField ms)
 fields_fail ms = four _ _ _ _ _ _ _ _ (keys_among top_keys ms) (is_table false (get_member (codes "faults") ms))
     (is_table true (get_member (codes "values") ms)) (is_table false (get_member (codes "lengths") ms))
 
+-- the test of all names fails exactly if there is an unknown one
 names_fail : (g : Graph) (ms : Members) → Fails (has_names g ms) (HasUnknownName g ms)
 names_fail g ms = three _ _ _ _ _ _ (named g (option_and_then as_table (get_member (codes "faults") ms)))
     (named g (option_and_then as_table (get_member (codes "values") ms)))
@@ -154,6 +169,7 @@ module _ (g : Graph) (ms : Members) where
   bad_value p l (Some b) e None k f = record { process = p; within = l; value = b; given = e; none = k }
   bad_value p l (Some b) e (Some c) k f = absurd (true≢false f)
 
+  -- the test that values are of conditions fails exactly if one isn't
   conditions_fail : Fails (has_conditions g ms) (HasBadValue g ms)
   conditions_fail = (
     λ e. let r = some_fails (may_have_value g ms) (process_count g) e in
@@ -161,6 +177,7 @@ module _ (g : Graph) (ms : Members) where
     λ h. one_fails (may_have_value g ms) (process_count g) h.process h.within (rw (h.given, h.none) refl),
   )
 
+  -- the test for a natural number fails exactly if it is negative
   negative : (z : ℤ) → Fails (is_natural z) (IsNegative z)
   negative (pos n) = never ⊥ (λ h. h)
   negative (negsuc n) = always ⊤ tt
@@ -175,6 +192,7 @@ module _ (g : Graph) (ms : Members) where
         ((negative (count_given g ms h.process)).1 h.negative),
   )
 
+  -- the test for at most fails exactly if it is more
   above : (n m : ℕ) → Fails (nat_le n m) (m < n)
   above n m = (
     λ e. elim (cases_Bool (nat_le n m)) [
@@ -184,9 +202,11 @@ module _ (g : Graph) (ms : Members) where
     λ l. lt-leb n m l,
   )
 
+  -- the test of the faults fails exactly if one is negative or they are too many
   budget_fails : Fails (keeps_budget g ms) (IsOverBudget g ms)
   budget_fails = both _ _ _ _ counts_fail (above (sum_by (count_of g ms) (numbers_below (process_count g))) g.faults)
 
+  -- the test of a length fails exactly if it is below 1 or above the full one
   no_length : (longest : ℕ) (z : ℤ) → Fails (is_length longest z) (IsNoLength longest z)
   no_length longest (pos n) = both _ _ _ _ (above 1 n) (above n longest)
   no_length longest (negsuc n) = always ⊤ tt
@@ -204,6 +224,7 @@ module _ (g : Graph) (ms : Members) where
     bad = (no_length (duration g p (count_of g ms p)) z).0 f;
   }
 
+  -- the test of all lengths fails exactly if there is a bad one
   lengths_fail : Fails (keeps_lengths g ms) (HasBadLength g ms)
   lengths_fail = (
     λ e. let r =
@@ -217,6 +238,7 @@ module _ (g : Graph) (ms : Members) where
 
 -- ---- the first test that fails
 
+-- the causes, in the order of their tests
 abbrev cause_at : ℕ → Cause
 cause_at zero = Toml
 cause_at (suc zero) = Field
@@ -225,6 +247,7 @@ cause_at (suc (suc (suc zero))) = Condition
 cause_at (suc (suc (suc (suc zero)))) = Budget
 cause_at n = Length
 
+-- each cause has its place in that order
 at_place : (cause : Cause) → cause_at (rank_of_cause cause) ≡ cause
 at_place Toml = refl
 at_place Field = refl
@@ -233,6 +256,7 @@ at_place Condition = refl
 at_place Budget = refl
 at_place Length = refl
 
+-- there are six causes
 few : (cause : Cause) → rank_of_cause cause < 6
 few Toml = omega arith
 few Field = omega arith
@@ -241,12 +265,15 @@ few Condition = omega arith
 few Budget = omega arith
 few Length = omega arith
 
+-- causes with one place are one cause
 same_place : (c e : Cause) → rank_of_cause c ≡ rank_of_cause e → c ≡ e
 same_place c e k = sym (at_place c) ∙ ap cause_at k ∙ at_place e
 
+-- a reading is refused for one cause
 same_bad : (c e : Cause) → (let r : Reading = Err (Bad c) in r) ≡ Err (Bad e) → c ≡ e
 same_bad c e k = cc
 
+-- a reading that is refused gives nothing
 bad_well : {P : Type 0} (c : Cause) (p : Played) → (let r : Reading = Err (Bad c) in r) ≡ Ok p → P
 bad_well c p k = cc
 
@@ -260,9 +287,11 @@ module _ (test : Cause → Bool) (played : Played) where
   told [] = Ok played
   told (c ∷ cs) = if not (test c) then Err (Bad c) else told cs
 
+  -- the tests of all causes before the n-th pass
   abbrev Pass : ℕ → Type 0
   Pass n = (c : Cause) → rank_of_cause c < n → test c ≡ true
 
+  -- if the tests before a cause pass, and its own does, so do all up to it
   pass_more : (c : Cause) → Pass (rank_of_cause c) → test c ≡ true → Pass (suc (rank_of_cause c))
   pass_more c before here e l = elim (cases_lt (rank_of_cause e) (rank_of_cause c)) [
     | inl lt ↦ before e lt
@@ -270,15 +299,19 @@ module _ (test : Cause → Bool) (played : Played) where
         subst (λ x. test x ≡ true) (same_place c e same) here
   ]
 
+  -- the same by the cause's place
   pass_next : (n : ℕ) (c : Cause) → rank_of_cause c ≡ n → Pass n → test c ≡ true → Pass (suc n)
   pass_next n c at before here = subst (λ m. Pass (suc m)) at (pass_more c (subst Pass (sym at) before) here)
 
+  -- the test of a cause fails, and those before it pass
   abbrev IsFirstFailure : Cause → Type 0
   IsFirstFailure cause = (test cause ≡ false) × Pass (rank_of_cause cause)
 
+  -- a test that passes leaves it to the others
   goes_on : (c : Cause) (cs : List Cause) → test c ≡ true → told (c ∷ cs) ≡ told cs
   goes_on c cs pass = rw pass refl
 
+  -- one that fails stops with its cause
   stops : (c : Cause) (cs : List Cause) → test c ≡ false → told (c ∷ cs) ≡ Err (Bad c)
   stops c cs fail = rw fail refl
 
@@ -305,6 +338,7 @@ module _ (test : Cause → Bool) (played : Played) where
         stops c cs (subst (λ x. test x ≡ false) is first.0) ∙ ap (λ x. Err (Bad x)) (sym is)
   ]
 
+  -- if all pass, the scenario is read
   told_well : (cs : List Cause) → ((c : Cause) → test c ≡ true) → told cs ≡ Ok played
   told_well [] pass = refl
   told_well (c ∷ cs) pass = goes_on c cs (pass c) ∙ told_well cs pass
@@ -329,6 +363,7 @@ module _ (g : Graph) (ms : Members) where
   test Budget = keeps_budget g ms
   test Length = keeps_lengths g ms
 
+  -- the test of a cause fails exactly if the cause is there
   fails : (cause : Cause) → Fails (test cause) (IsIn g (Some ms) cause)
   fails Toml = never (Some ms ≡ None) (λ e. cc)
   fails Field = fields_fail ms
@@ -337,9 +372,11 @@ module _ (g : Graph) (ms : Members) where
   fails Budget = budget_fails g ms
   fails Length = lengths_fail g ms
 
+  -- what the document says
   abbrev played : Played
   played = record { scenario = scenario_of g ms; lengths = lengths_of g ms }
 
+  -- the test of a cause that isn't there passes
   passes : (cause : Cause) → (IsIn g (Some ms) cause → ⊥) → test cause ≡ true
   passes cause none = true_from_ne_false (test cause) (λ e. none ((fails cause).0 e))
 
@@ -350,6 +387,7 @@ Judged g document =
     ((other : Cause) → rank_of_cause other < rank_of_cause cause → IsIn g document other → ⊥)))
     × (((p : Played) × (played_if g document ≡ Ok p)) ↔ ((cause : Cause) → IsIn g document cause → ⊥))
 
+-- a document, or none, is refused for its first cause, and else is read
 judged : (g : Graph) (document : Option Members) → Judged g document
 judged g None = (
   λ cause. (λ e. at cause (let same : Toml ≡ cause = cc in same), λ h. back cause h.0),
@@ -389,9 +427,11 @@ judged g (Some ms) = (
     order : List Cause
     order = Field ∷ Unknown ∷ Condition ∷ Budget ∷ Length ∷ []
 
+    -- the causes are tested in order
     rise : Rise 1 order
     rise = (refl, (refl, (refl, (refl, (refl, refl)))))
 
+    -- before the second test, the first has passed
     start : Pass (test g ms) (played g ms) 1
     start Toml l = refl
     start Field l = absurd (omega (arith, l))
@@ -400,6 +440,7 @@ judged g (Some ms) = (
     start Budget l = absurd (omega (arith, l))
     start Length l = absurd (omega (arith, l))
 
+    -- a cause in a document that is one comes behind that of no document
     behind : (cause : Cause) → IsIn g (Some ms) cause → 1 ≤ rank_of_cause cause
     behind Toml h = cc
     behind Field h = omega arith

@@ -15,6 +15,7 @@ pub file_of-read : (g : Graph) (bytes : List ℕ) (ms : Members) → IsUtf8 byte
 unfolding file_of
 file_of-read g bytes ms text read = rw (is_utf8-from_IsUtf8 bytes text, read) refl
 
+-- a test that lets through only nothing gives nothing
 none_if : (b : Bool) (o : Option Members) → (b ≡ true → o ≡ None) → cond b o None ≡ None
 none_if true o h = h refl
 none_if false o h = refl

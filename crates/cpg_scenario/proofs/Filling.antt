@@ -68,6 +68,7 @@ pub sum_next : (f : ℕ → ℕ) (n : ℕ) → sum_by f (numbers_below (n + 1)) 
 sum_next f n = ap (sum_by f) (below_push n) ∙ sum_by-append f (numbers_below n) (n ∷ [])
     ∙ (let e = sum_by-cons f n [] in omega arith)
 
+-- a sum over more numbers is no less
 sum_grows : (f : ℕ → ℕ) (n m : ℕ) → sum_by f (numbers_below n) ≤ sum_by f (numbers_below (n + m))
 sum_grows f n zero = let e = ap (λ k. sum_by f (numbers_below k)) (let h : n + 0 ≡ n = omega arith in h) in omega arith
 sum_grows f n (suc m) =

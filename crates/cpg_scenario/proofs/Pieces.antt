@@ -39,23 +39,28 @@ finished [] h = refl
 finished ([] ∷ ps) h = absurd h
 finished ((c ∷ cs) ∷ ps) h = ap or_none (after_some c cs ps)
 
+-- if no piece of two lists is empty, none of both is
 AreSome-append : (ps qs : List (List ℕ)) → AreSome ps → AreSome qs → AreSome (ps ++ qs)
 AreSome-append [] qs h k = k
 AreSome-append ([] ∷ ps) qs h k = absurd h
 AreSome-append ((c ∷ cs) ∷ ps) qs h k = AreSome-append ps qs h k
 
+-- if no piece of any process is empty, none of all is
 AreSome-flat_map : (f : ℕ → List (List ℕ)) → ((x : ℕ) → AreSome (f x)) → (xs : List ℕ) → AreSome (flat_map f xs)
 AreSome-flat_map f h [] = tt
 AreSome-flat_map f h (x ∷ xs) = AreSome-append (f x) (flat_map f xs) (h x) (AreSome-flat_map f h xs)
 
+-- a name with something behind it isn't empty
 after_name : (name : List ℕ) (d : ℕ) (ds : List ℕ) → AreSome ((name ++ d ∷ ds) ∷ [])
 after_name [] d ds = tt
 after_name (c ∷ cs) d ds = tt
 
+-- a piece that isn't empty stays so if something is appended
 longer_some : (p q : List ℕ) → AreSome (p ∷ []) → AreSome ((p ++ q) ∷ [])
 longer_some [] q h = absurd h
 longer_some (c ∷ cs) q h = tt
 
+-- no piece on faults is empty
 faults_some : (name : List ℕ) (n : ℕ) → AreSome (fault_pieces name n)
 faults_some name n = where_some (n == 0)
   where
@@ -63,6 +68,7 @@ faults_some name n = where_some (n == 0)
     where_some false = longer_some (name ++ codes " faults ") (decimal n) (after_name name _ _)
     where_some true = tt
 
+-- no piece on a value is empty
 value_some : (name : List ℕ) (b : Bool) → AreSome (value_pieces name b)
 value_some name false = tt
 value_some name true = after_name name _ _

@@ -43,6 +43,7 @@ use Rattle.cpg_shelf_laws.proofs.Values.{says_graph, says_log, says_part, says_p
 
 -- ---- out of memory
 
+-- lack of memory may stop reading, whatever the shelf reports
 unread_memory : (old new : ShelfState) (told : Option Text) (halt : Halt) → halt ≡ Memory →
     StopsReading (seen old new) told halt
 unread_memory old new told halt e =
@@ -64,34 +65,43 @@ memory_stops old new (Hyper pairs) halt e = inl (inr e)
 memory_stops old new (Tune graph) halt e = inl (inl (unread_memory old new _ halt e))
 memory_stops old new (Audit graph pack log) halt e = inl (inl (unread_memory old new _ halt e))
 
+-- what leaves tables unverified stops the verdict by what the shelf reports too
 verdict_told : (a : Admission) (t : Tables) (halt : Halt) → Unverified a t halt → StopsVerdict a t halt
 verdict_told a t halt (inl other) = inl other
 verdict_told a t halt (inr broken) = inr (inl broken)
 
+-- a name that no node has stops the naming by what the shelf reports too
 naming_told : (t : Tables) (name : Text) (halt : Halt) → Unnamed t name halt → StopsNaming t name halt
 naming_told t name halt u = inl (u.halt_is, u.none)
 
 module _ (old new : ShelfState) (k : KeepsShelf old new) where
   -- ---- one, two or three files
 
+  -- the one fetch is the last
   one : (f : Fetch) → new.history ≡ f ∷ old.history → IsLast old new f
   one f e = last old new k f [] e
 
+  -- of two fetches, the second is the last
   two : (f p : Fetch) → new.history ≡ p ∷ f ∷ old.history → IsLast old new p
   two f p e = last old new k p (f ∷ []) e
 
+  -- the first of two agrees with the shelf
   first : (f p : Fetch) → new.history ≡ p ∷ f ∷ old.history → Agrees old.stands f
   first f p e = agreed old new k f (record { newer = p ∷ []; older = []; is = e })
 
+  -- of three fetches, the third is the last
   three : (f p c : Fetch) → new.history ≡ c ∷ p ∷ f ∷ old.history → IsLast old new c
   three f p c e = last old new k c (p ∷ f ∷ []) e
 
+  -- the first of three agrees with the shelf
   first_three : (f p c : Fetch) → new.history ≡ c ∷ p ∷ f ∷ old.history → Agrees old.stands f
   first_three f p c e = agreed old new k f (record { newer = c ∷ p ∷ []; older = []; is = e })
 
+  -- the second of three fetches agrees with the shelf
   second_three : (f p c : Fetch) → new.history ≡ c ∷ p ∷ f ∷ old.history → Agrees old.stands p
   second_three f p c e = agreed old new k p (record { newer = c ∷ []; older = f ∷ []; is = e })
 
+  -- a fetch within the limit gives a count within it
   within : (f : Fetch) (limit : ℕ) → IsLast old new f → length f.given ≤ limit → given_count new ≤ limit
   within f limit is short = let c = is.count in omega (arith, c, short)
 
@@ -117,12 +127,14 @@ module _ (old new : ShelfState) (k : KeepsShelf old new) where
         (tells_whole old.stands (file PackFile name) f r.whole ag) r.whole.short r.says.2,
   )
 
+  -- a graph that was read is the one that the shelf's file has
   graph_is : (g : Option Graph) (name : Text) (f : Fetch) (a : Admission) →
       IsRead g (file GraphFile name) f (graph_value a) → Agrees old.stands f →
       Admits (old.stands name) a
   graph_is g name f a r ag = admits (old.stands name) f.given a
       (tells_whole old.stands (file GraphFile name) f r.whole ag) r.whole.short (says_graph g f.given a r.says)
 
+  -- tables that were read are those that the shelf's file spells
   tables_are : (g : Option Graph) (name : Text) (f : Fetch) (t : Tables) →
       IsRead g (file PackFile name) f (tables_value t) → Agrees old.stands f →
       Spells (old.stands name) t
@@ -135,24 +147,28 @@ module _ (old new : ShelfState) (k : KeepsShelf old new) where
       Spells (old.stands name) t
   spelled_by name f t r ag = tables_are None name f t r ag
 
+  -- a scenario that was read is the one that the shelf's file says
   played_is : (g : Graph) (name : Text) (f : Fetch) (p : Played) →
       IsRead (Some g) (file ScenarioFile name) f (played_value p) → Agrees old.stands f →
       SaysPlayed (old.stands name) g p
   played_is g name f p r ag = says_scenario (old.stands name) f.given g p
       (tells_whole old.stands (file ScenarioFile name) f r.whole ag) r.whole.short (says_played g f.given p r.says)
 
+  -- a log that was read is the one that the shelf's file says
   log_is : (g : Graph) (name : Text) (f : Fetch) (l : Log) → IsRead (Some g) (file LogFile name) f (log_value l) →
       Agrees old.stands f →
       SaysLog (old.stands name) g l
   log_is g name f l r ag = says_acts (old.stands name) f.given g l
       (tells_whole old.stands (file LogFile name) f r.whole ag) r.whole.short (says_log g f.given l r.says)
 
+  -- a part that was read is the one that the shelf's file says
   part_is : (g : Option Graph) (name : Text) (f : Fetch) (h : Graph) → IsRead g (file PartFile name) f (part_value h) →
       Agrees old.stands f →
       Says (old.stands name) h
   part_is g name f h r ag = says (old.stands name) f.given h
       (tells_whole old.stands (file PartFile name) f r.whole ag) r.whole.short (says_part g f.given h r.says)
 
+  -- behind a graph and tables, files are read for that graph
   behind : (v w : Value) (a : Admission) (t : Tables) → v ≡ graph_value a → w ≡ tables_value t →
       graph_after (graph_after None v) w ≡ Some a.graph
   behind v w a t e d = ap (graph_after (graph_after None v)) d ∙ ap (graph_after None) e
@@ -207,7 +223,7 @@ module _ (old new : ShelfState) (k : KeepsShelf old new) where
         parts_said g pairs parts (f ∷ past) (f ∷ older) (ap (λ h. f ∷ h) e) rest h.1,
       )
 
-  -- and the last one gave no more than the limit
+  -- the last part that was read gave no more than the limit
   pub parts_within : (g : Option Graph) (pairs : List Pair) (parts : List Part) (past older : List Fetch) →
       past ≡ older ++ old.history →
       0 < length pairs →
@@ -285,16 +301,19 @@ module _ (old new : ShelfState) (k : KeepsShelf old new) where
 
   -- ---- all files of a command
 
+  -- one file was read
   record OneRead (kind : FileKind) (name : Text) (v : Value) : Type 0 where
     f : Fetch
     r : IsRead None (file kind name) f v
     end : new.history ≡ f ∷ old.history
 
+  -- reading a list of one file is reading it
   one_read : (kind : FileKind) (name : Text) (v : Value) →
       Reads None (file kind name ∷ []) old.history new.history (v ∷ []) →
       OneRead kind name v
   one_read kind name v (f, r, e) = record { f = f; r = r; end = e }
 
+  -- a graph and a pack were read
   record TwoRead (name pack : Text) (a : Admission) (t : Tables) : Type 0 where
     f : Fetch
     p : Fetch
@@ -302,12 +321,14 @@ module _ (old new : ShelfState) (k : KeepsShelf old new) where
     q : IsRead (Some a.graph) (file PackFile pack) p (tables_value t)
     end : new.history ≡ p ∷ f ∷ old.history
 
+  -- reading a list of both is reading both
   two_read : (name pack : Text) (a : Admission) (t : Tables) →
       Reads None (file GraphFile name ∷ file PackFile pack ∷ []) old.history new.history
       (graph_value a ∷ tables_value t ∷ []) →
       TwoRead name pack a t
   two_read name pack a t (f, r, (p, q, e)) = record { f = f; p = p; r = r; q = q; end = e }
 
+  -- a graph, a pack and a third file were read
   record ThreeRead (kind : FileKind) (name pack third : Text) (a : Admission) (t : Tables) (v : Value) : Type 0 where
     f : Fetch
     p : Fetch
@@ -317,12 +338,14 @@ module _ (old new : ShelfState) (k : KeepsShelf old new) where
     s : IsRead (Some a.graph) (file kind third) c v
     end : new.history ≡ c ∷ p ∷ f ∷ old.history
 
+  -- reading a list of three is reading all
   three_read : (kind : FileKind) (name pack third : Text) (a : Admission) (t : Tables) (v : Value) →
       Reads None (file GraphFile name ∷ file PackFile pack ∷ file kind third ∷ []) old.history new.history
       (graph_value a ∷ tables_value t ∷ v ∷ []) → ThreeRead kind name pack third a t v
   three_read kind name pack third a t v (f, r, (p, q, (c, s, e))) =
       record { f = f; p = p; c = c; r = r; q = q; s = s; end = e }
 
+  -- the files of a command were read
   abbrev Files : Command → List Value → Type 0
   Files c values = Reads None (files_of c) old.history new.history values
 
@@ -330,6 +353,7 @@ module _ (old new : ShelfState) (k : KeepsShelf old new) where
     one_graph : Admits (old.stands name) a
     one_graph = graph_is None name h.f a h.r (one h.f h.end).agrees
 
+    -- what was given of the one file is within its limit
     one_within : given_count new ≤ GRAPH_LIMIT
     one_within = within h.f (limit_of GraphFile) (one h.f h.end) h.r.whole.short
 
@@ -337,6 +361,7 @@ module _ (old new : ShelfState) (k : KeepsShelf old new) where
     one_pack : Spells (old.stands pack) t
     one_pack = tables_are None pack h.f t h.r (one h.f h.end).agrees
 
+    -- what was given of the one pack is within its limit
     pack_within : given_count new ≤ PACK_LIMIT
     pack_within = within h.f (limit_of PackFile) (one h.f h.end) h.r.whole.short
 
@@ -344,9 +369,11 @@ module _ (old new : ShelfState) (k : KeepsShelf old new) where
     two_graph : Admits (old.stands name) a
     two_graph = graph_is None name h.f a h.r (first h.f h.p h.end)
 
+    -- the pack that was read behind the graph is the shelf's
     two_pack : Spells (old.stands pack) t
     two_pack = tables_are (Some a.graph) pack h.p t h.q (two h.f h.p h.end).agrees
 
+    -- what was given of the pack behind the graph is within its limit
     two_within : given_count new ≤ PACK_LIMIT
     two_within = within h.p (limit_of PackFile) (two h.f h.p h.end) h.q.whole.short
 
@@ -355,17 +382,21 @@ module _ (old new : ShelfState) (k : KeepsShelf old new) where
     three_graph : Admits (old.stands name) a
     three_graph = graph_is None name h.f a h.r (first_three h.f h.p h.c h.end)
 
+    -- the pack that was read between the others is the shelf's
     three_pack : Spells (old.stands pack) t
     three_pack = tables_are (Some a.graph) pack h.p t h.q (second_three h.f h.p h.c h.end)
 
+    -- the third file agrees with the shelf
     three_agrees : Agrees old.stands h.c
     three_agrees = (three h.f h.p h.c h.end).agrees
 
+    -- what was given of the third file is within its limit
     three_within : given_count new ≤ limit_of kind
     three_within = within h.c (limit_of kind) (three h.f h.p h.c h.end) h.s.whole.short
 
   -- ---- the work stops a command
 
+  -- what stops a compile stops it by what the shelf reports
   compiled_stops : (name : Text) (halt : Halt) (values : List Value) →
       Reads None (file GraphFile name ∷ []) old.history new.history values →
       OnGraph values (λ a. IsUncompiled a halt) →

@@ -61,6 +61,7 @@ is_live (Some (Hyper pairs)) = false
 is_live (Some (Tune a)) = false
 is_live (Some (Audit a b c)) = false
 
+-- a command, or a default
 abbrev command_or : Command → Option Command → Command
 command_or d None = d
 command_or d (Some c) = c
@@ -75,6 +76,7 @@ no_command c e = absurd (cc e)
 
 -- ---- what one graph's facts are of another admission of it
 
+-- what holds of one of two admissions that are alike holds of the other
 moved_on : (a b : Admission) → AreAlike a b → (P : Graph → List ℕ → Type 0) → P a.graph a.order → P b.graph b.order
 moved_on a b same P p = subst (P b.graph) (sym same.order) (subst (λ g. P g a.order) (sym same.graph) p)
 
@@ -99,6 +101,7 @@ tables_alone t (part_value h ∷ ws) x = absurd x.0
 tables_alone t (played_value p ∷ ws) x = absurd x.0
 tables_alone t (log_value l ∷ ws) x = absurd x.0
 
+-- values that are alike to a graph and others are a graph that is alike, and others
 graph_first : (a : Admission) (vs ws : List Value) → AllAlike (graph_value a ∷ vs) ws →
     (b : Admission) × (rest : List Value) × (ws ≡ graph_value b ∷ rest) × AreAlike a b × AllAlike vs rest
 graph_first a vs [] x = absurd x
@@ -108,6 +111,7 @@ graph_first a vs (tables_value t ∷ ws) x = absurd x.0
 graph_first a vs (played_value p ∷ ws) x = absurd x.0
 graph_first a vs (log_value l ∷ ws) x = absurd x.0
 
+-- values that are alike to tables and others are the same tables, and others
 tables_first : (t : Tables) (vs ws : List Value) → AllAlike (tables_value t ∷ vs) ws →
     (rest : List Value) × (ws ≡ tables_value t ∷ rest) × AllAlike vs rest
 tables_first t vs [] x = absurd x
@@ -128,6 +132,7 @@ played_alone p (part_value h ∷ ws) x = absurd x.0
 played_alone p (tables_value t ∷ ws) x = absurd x.0
 played_alone p (log_value l ∷ ws) x = absurd x.0
 
+-- values that are alike to one log are one log
 log_alone : (l : Log) (ws : List Value) → AllAlike (log_value l ∷ []) ws → (m : Log) × (ws ≡ log_value m ∷ [])
 log_alone l [] x = absurd x
 log_alone l (log_value m ∷ []) x = (m, refl)
@@ -161,10 +166,12 @@ parts_told stands (pair ∷ pairs) (part ∷ parts) t =
     let rest = parts_told stands pairs parts t.2 in
     ((t.1.bytes, t.1.is, t.1.short, (part.problem, refl, t.1.says), rest.0), (t.0, rest.1))
 
+-- an admitted graph is what the bytes of its file tell
 graph_tells : (o : Option Graph) (bytes : Text) (a : Admission) → AreAdmitted bytes a →
     Tells o GraphFile bytes (graph_value a)
 graph_tells o bytes a x = (a, refl, record { says = x.says; admitted = x.admitted })
 
+-- lawful tables are what their spelling tells
 pack_tells : (o : Option Graph) (t : Tables) → AreLawful t → Tells o PackFile (spelling t) (tables_value t)
 pack_tells o t lawful = (t, refl, record { spelled = refl; lawful = lawful })
 
@@ -213,6 +220,7 @@ module _ (r : Run) (w : IsLawfulRun r) (k : KeepsShelf r.shelf.old r.shelf.new) 
       (files_of c) r.shelf.old.history [] values halt refl t stops) ending))
   by_stop c values e t halt ending (inr (inr x)) = has c values e t x.command x.values x.has
 
+  -- what ends a run that has its values is what the command comes to
   comes : (c : Command) (values : List Value) → command_of r.words ≡ Some c →
       AreTold r.shelf.old.stands None (files_of c) values → EndsRun r → Comes c values
   comes c values e t (inl (text, x)) = has c values e t x.prints.command x.prints.values x.prints.has
@@ -232,6 +240,7 @@ module _ (r : Run) (w : IsLawfulRun r) (k : KeepsShelf r.shelf.old r.shelf.new) 
     ]
   ]
 
+  -- the status is n, or memory ran out
   abbrev Answer : ℕ → Type 0
   Answer n = (r.status ≡ n) ⊎ (r.status ≡ 8)
 

@@ -32,6 +32,7 @@ use Rattle.cpg_shelf_laws.proofs.Fetched.{IsLast, agreed, last}
 use Rattle.cpg_shelf_laws.proofs.Sinks.{either_told, part_told, said_told}
 use Rattle.cpg_shelf_laws.proofs.Streams.{closed_told, cut_told, lawful_told, refused_told}
 
+-- lack of memory may stop a run, whatever it was asked
 asked_memory : (r : Run) (c : Option Command) (halt : Halt) → halt ≡ Memory →
     StopsAsked (seen r.shelf.old r.shelf.new) c halt
 asked_memory r None halt e = inr e
@@ -68,6 +69,7 @@ module _ (r : Run) (k : KeepsShelf r.shelf.old r.shelf.new) where
   pub told : (halt : Halt) → IsToldRun r halt → IsTold (told_of r) halt
   told halt t = record { status = t.status; out = t.out.taken; err = t.err.taken }
 
+  -- a run that could write no line is so by what it tells
   muted : (halt : Halt) → IsMutedRun r halt → IsMuted (told_of r) halt
   muted halt t = record { status = t.status; out = t.out.taken; err = part_told r.err (line_of halt) t.err }
 
@@ -75,6 +77,7 @@ module _ (r : Run) (k : KeepsShelf r.shelf.old r.shelf.new) where
   pub printed : (text : Text) → IsPrintedRun r text → IsPrinted (told_of r) text
   printed text t = record { status = t.status; out = t.out.taken; err = t.err.taken }
 
+  -- a run whose output was cut off is so by what it tells
   cut : (text : Text) → IsCutRun r text → IsCut (told_of r) text
   cut text t =
       record { status = t.status; out = part_told r.out text t.out; err = either_told r.err write_fault_line t.err }
@@ -95,6 +98,7 @@ module _ (r : Run) (k : KeepsShelf r.shelf.old r.shelf.new) where
     named = f.named;
   }
 
+  -- the fetch of the stream is the last
   last_of : (f : FollowsRun r) → IsLast r.shelf.old r.shelf.new f.fetch
   last_of f = last r.shelf.old r.shelf.new k f.fetch (f.read ∷ []) f.history
 
@@ -103,6 +107,7 @@ module _ (r : Run) (k : KeepsShelf r.shelf.old r.shelf.new) where
   front_of f =
       subst (λ name. IfSome (r.shelf.old.stands name) (λ whole. IsFrontOf whole f.fetch)) f.of (last_of f).agrees
 
+  -- a stream that is too long was given beyond the limit
   over : (f : FollowsRun r) (fault : StreamFault) (lines : Text) →
       IsRefusedFetch f.tables.head (table_in f) f.fetch fault lines → fault ≡ Long →
       STREAM_LIMIT < given_count r.shelf.new

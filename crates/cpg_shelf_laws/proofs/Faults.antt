@@ -18,11 +18,13 @@ use Rattle.cpg_app.specs.Lawful.{IsFailed, IsUnreadStream as IsUnreadRun}
 use Rattle.cpg_app.proofs.Statuses.{of_work}
 use Rattle.cpg_shelf_laws.proofs.Fetched.{last}
 
+-- a history with a fetch more isn't the one before
 longer : (f : Fetch) (newer past now : List Fetch) → now ≡ newer ++ f ∷ past → now ≡ past → ⊥
 longer f newer past now is same = let l = ap (λ (h : List Fetch). length h) (sym is ∙ same) in
     let k = length-append newer (f ∷ past) in
     omega (arith, l, k)
 
+-- reading that stops has fetched something
 grows : (g : Option Graph) (files : List File) (past now : List Fetch) (h : Halt) →
     StopsReading g files past now h → now ≡ past → ⊥
 grows g [] past now h s same = absurd s

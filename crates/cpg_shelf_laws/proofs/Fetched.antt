@@ -33,6 +33,7 @@ told_short told given limit alike short = on_some told (λ bytes. bytes ≡ give
 pub told_says : (told : Option Text) (given : Text) (P : Text → Type 0) → TellsAs told given → P given → IfSome told P
 told_says told given P alike p = on_some told (λ bytes. bytes ≡ given) P (λ bytes e. subst P (sym e) p) alike
 
+-- what holds of all fetches holds of one in the middle
 all_at : (P : Fetch → Type 0) (newer : List Fetch) (f : Fetch) (older : List Fetch) → All P (newer ++ f ∷ older) → P f
 all_at P [] f older h = All-head P f older h
 all_at P (x ∷ newer) f older h = all_at P newer f older (All-tail P x (newer ++ f ∷ older) h)
@@ -43,6 +44,7 @@ pub record IsIn (base now : List Fetch) (f : Fetch) : Type 0 where
   pub older : List Fetch
   pub is : now ≡ newer ++ f ∷ (older ++ base)
 
+-- a history with a fetch more isn't the one before
 longer : (f : Fetch) (older base : List Fetch) → f ∷ (older ++ base) ≡ base → ⊥
 longer f older base e = let l = ap length e in let k = length-append older base in omega (arith, l, k)
 
@@ -84,6 +86,7 @@ tells_whole stands file f w agrees = subst (λ name. TellsAs (stands name) f.giv
     (on_some (stands f.name) (λ bytes. IsFrontOf bytes f) (λ bytes. bytes ≡ f.given)
     (λ bytes h. whole_front bytes f w.ended h) agrees)
 
+-- if more than the limit was given, the bytes are more than the limit too
 long_front : (bytes : Text) (f : Fetch) (limit : ℕ) → limit < length f.given → IsFrontOf bytes f → limit < length bytes
 long_front bytes f limit over h = let l = ap (λ (b : Text). length b) h.front in
     let k = length-append f.given h.rest in

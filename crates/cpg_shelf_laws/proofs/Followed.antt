@@ -40,41 +40,50 @@ use Rattle.cpg_shelf_laws.proofs.Fetched.{agreed, last, tells_whole}
 use Rattle.cpg_shelf_laws.proofs.Streams.{closed_ends, refused_ends}
 use Rattle.cpg_shelf_laws.proofs.Telling.{AreTold, none_stops, read_as_told}
 
+-- the pack that `live` names, or a default
 abbrev pack_in : Text → Command → Text
 pack_in d (Live pack name stream) = pack
 pack_in d c = d
 
+-- the node that `live` names, or a default
 abbrev name_in : Text → Command → Text
 name_in d (Live pack name stream) = name
 name_in d c = d
 
+-- the stream that `live` names, or a default
 abbrev stream_in : Text → Command → Text
 stream_in d (Live pack name stream) = stream
 stream_in d c = d
 
+-- the tables that come first among values, or a default
 abbrev tables_or : Tables → List Value → Tables
 tables_or d (tables_value t ∷ vs) = t
 tables_or d vs = d
 
+-- a node, or a default
 abbrev node_or : ℕ → Option ℕ → ℕ
 node_or d None = d
 node_or d (Some n) = n
 
+-- a node that no name has isn't named
 not_both_named : (o : Option ℕ) (n : ℕ) → o ≡ None → o ≡ Some n → ⊥
 not_both_named o n e f = true≢false (ap is_some (sym f ∙ e))
 
 -- a run that is asked to follow a stream, with the pack and the stream reported by its shelf
 module _ (r : Run) (w : IsLawfulRun r) (k : KeepsShelf r.shelf.old r.shelf.new) (t : Tables) (name bytes : Text)
     (q : AsksStream (told_of r) t name bytes) where
+  -- the shelf reports the pack, which says the tables
   told : AreTold r.shelf.old.stands None (file PackFile q.pack ∷ []) (tables_value t ∷ [])
   told = (spelling t, q.spelled, all_short t q.lawful, (t, refl, record { spelled = refl; lawful = q.lawful }), tt)
 
   -- ---- what it follows is what it was asked to
 
+  -- the run's command is the one asked
   live_is : (f : FollowsRun r) → Live f.pack f.name f.stream ≡ Live q.pack name q.stream
   live_is f =
       same_command (command_of r.words) (Live f.pack f.name f.stream) (Live q.pack name q.stream) f.words q.words
 
+  -- the pack was given as the shelf reports it
   given_is : (f : FollowsRun r) → spelling t ≡ f.read.given
   given_is f =
       let ag = agreed r.shelf.old r.shelf.new k f.read (record { newer = f.fetch ∷ []; older = []; is = f.history }) in
@@ -83,20 +92,24 @@ module _ (r : Run) (w : IsLawfulRun r) (k : KeepsShelf r.shelf.old r.shelf.new) 
       ap r.shelf.old.stands (ap (pack_in f.pack) (live_is f)) ∙ q.spelled in
       subst (λ o. IfSome o (λ b. b ≡ f.read.given)) here alike
 
+  -- the tables are those of the pack
   tables_are : (f : FollowsRun r) → f.tables ≡ t
   tables_are f = says_alike None PackFile f.read.given (tables_value t) (tables_value f.tables)
       (t, refl, record { spelled = sym (given_is f); lawful = q.lawful }) f.spelled.says
 
+  -- the node that the run follows is the first of this name
   named_so : (f : FollowsRun r) → first_named t.head name ≡ Some f.node
   named_so f = ap₂ (λ (t : Tables) n. first_named t.head n) (sym (tables_are f)) (sym (ap (name_in f.name) (live_is f)))
       ∙ f.named
 
+  -- what was given of the stream is a front of what the shelf reports
   front : (f : FollowsRun r) → IsFrontOf bytes f.fetch
   front f = subst (λ o. IfSome o (λ whole. IsFrontOf whole f.fetch))
       (ap r.shelf.old.stands (ap (stream_in f.stream) (live_is f)) ∙ q.told) (front_of r k f)
 
   -- ---- it isn't stopped before, unless memory runs out
 
+  -- the values of the command are the tables
   value_is : (c : Command) (ws : List Value) → c ≡ Live q.pack name q.stream → Has r c ws → ws ≡ tables_value t ∷ []
   value_is c ws e h =
       let also : Has r (Live q.pack name q.stream) ws = subst (λ c. Has r c ws) e h in
@@ -132,6 +145,7 @@ module _ (r : Run) (w : IsLawfulRun r) (k : KeepsShelf r.shelf.old r.shelf.new) 
       (subst (λ d. StopsReading None (files_of d) r.shelf.old.history r.shelf.new.history halt) same x.stops))
   by_stop P halt (inr (inr x)) none memory = by_work P halt x none memory
 
+  -- `live` puts out no text
   no_text : (c : Command) (values : List Value) (text : Text) → c ≡ Live q.pack name q.stream → PutsOut c values text →
       ⊥
   no_text c values text e puts = subst (λ c. PutsOut c values text) e puts
@@ -139,9 +153,11 @@ module _ (r : Run) (w : IsLawfulRun r) (k : KeepsShelf r.shelf.old r.shelf.new) 
   -- ---- it is followed
 
   module _ (node : ℕ) (is : first_named t.head name ≡ Some node) where
+    -- the table of the run's node is the one asked
     table_is : (f : FollowsRun r) → table_of f ≡ table_at t.nodes node
     table_is f = ap₂ (λ (t : Tables) n. table_at t.nodes n) (tables_are f) (ap (node_or node) (sym (named_so f) ∙ is))
 
+    -- the status is that of how the whole stream ends
     answers : (f : FollowsRun r) (ends : Result ℕ StreamFault) → stream_end (table_of f) bytes ≡ ends →
         r.status ≡ status_of_end ends →
         r.status ≡ status_of_end (stream_end (table_at t.nodes node) bytes)
@@ -175,12 +191,14 @@ module _ (r : Run) (w : IsLawfulRun r) (k : KeepsShelf r.shelf.old r.shelf.new) 
 
   -- ---- no node has the name
 
+  -- if the words stopped the run, memory ran out
   of_words : (halt : Halt) → (IsToldRun r halt ⊎ IsMutedRun r halt) → StopsInWords r halt → r.status ≡ 8
   of_words halt ending x = elim x.cause [
     | inl formless ↦ absurd (no_command (Live q.pack name q.stream) (sym formless.1 ∙ q.words))
     | inr e ↦ of_memory r w k q.faultless halt e ending
   ]
 
+  -- if the files stopped the run, memory ran out
   of_files : (halt : Halt) → (IsToldRun r halt ⊎ IsMutedRun r halt) → StopsInFiles r halt → r.status ≡ 8
   of_files halt ending x =
       let same : x.command ≡ Live q.pack name q.stream =

@@ -37,6 +37,7 @@ module _ (r : Run) (w : IsLawfulRun r) (k : KeepsShelf r.shelf.old r.shelf.new) 
     )
   ]
 
+  -- what status 4 says, by what the shelf reports
   refused : r.status ≡ 4 →
       ((refusal : Refusal) × Stops (seen r.shelf.old r.shelf.new) r.words (Refused refusal) ×
       IsTold (told_of r) (Refused refusal)) ⊎ IsRefusedStream (told_of r)
@@ -45,17 +46,20 @@ module _ (r : Run) (w : IsLawfulRun r) (k : KeepsShelf r.shelf.old r.shelf.new) 
     | inr s ↦ inr (refused_stream_told r k s)
   ]
 
+  -- what status 5 says
   is_late : r.status ≡ 5 →
       (a : Admission) × (s : Scenario) × (p : ℕ) × (finish : ℕ) ×
       Stops (seen r.shelf.old r.shelf.new) r.words (Late a s p finish) × IsTold (told_of r) (Late a s p finish)
   is_late e = let p = w.is_late e in
       (p.0, p.1, p.2, p.3, stops_told r k (Late p.0 p.1 p.2 p.3) p.4, told r k (Late p.0 p.1 p.2 p.3) p.5)
 
+  -- what status 6 says
   is_wide : r.status ≡ 6 →
       (a : Admission) × (x : ℕ) × Stops (seen r.shelf.old r.shelf.new) r.words (TooWide a x) ×
       IsTold (told_of r) (TooWide a x)
   is_wide e = let p = w.is_wide e in (p.0, p.1, stops_told r k (TooWide p.0 p.1) p.2, told r k (TooWide p.0 p.1) p.3)
 
+  -- what status 7 says
   is_unsafe : r.status ≡ 7 →
       (a : Admission) × (fault : Fault) × Stops (seen r.shelf.old r.shelf.new) r.words (Unsafe a fault) ×
       IsTold (told_of r) (Unsafe a fault)

@@ -26,6 +26,7 @@ HasParts (Some (Live a b c)) = ⊤
 HasParts (Some (Tune a)) = ⊤
 HasParts (Some (Audit a b c)) = ⊤
 
+-- a command of one word has parts
 one_has : (make : Text → Command) → ((a : Text) → HasParts (Some (make a))) → (ws ts : List Text) →
     HasParts (one_word make ws ts)
 one_has make h [] ts = tt
@@ -33,6 +34,7 @@ one_has make h (a ∷ []) [] = h a
 one_has make h (a ∷ []) (t ∷ ts) = tt
 one_has make h (a ∷ b ∷ ws) ts = tt
 
+-- a command of two words has parts
 two_have : (make : Text → Text → Command) → ((a b : Text) → HasParts (Some (make a b))) → (ws ts : List Text) →
     HasParts (two_words make ws ts)
 two_have make h [] ts = tt
@@ -52,10 +54,12 @@ three_have make h (a ∷ b ∷ c ∷ []) [] = h a b c
 three_have make h (a ∷ b ∷ c ∷ []) (t ∷ ts) = tt
 three_have make h (a ∷ b ∷ c ∷ d ∷ ws) ts = tt
 
+-- `play` with a number, if that is one, has parts
 played : (a b c : Text) (n : Option ℕ) → HasParts (option_map (Play a b c) n)
 played a b c None = tt
 played a b c (Some n) = tt
 
+-- `play` with any words and turns has parts
 play_has : (ws ts : List Text) → HasParts (play_of ws ts)
 play_has [] ts = tt
 play_has (a ∷ []) ts = tt
@@ -65,45 +69,54 @@ play_has (a ∷ b ∷ c ∷ []) (t ∷ []) = played a b c (number t)
 play_has (a ∷ b ∷ c ∷ []) (t ∷ u ∷ ts) = tt
 play_has (a ∷ b ∷ c ∷ d ∷ ws) ts = tt
 
+-- `trial` with a number, if that is one, has parts
 tried : (n : Option ℕ) → HasParts (option_map Trial n)
 tried None = tt
 tried (Some n) = tt
 
+-- `trial` with any words and turns has parts
 trial_has : (ws ts : List Text) → HasParts (trial_of ws ts)
 trial_has [] ts = tt
 trial_has (n ∷ []) [] = tried (number n)
 trial_has (n ∷ []) (t ∷ ts) = tt
 trial_has (n ∷ m ∷ ws) ts = tt
 
+-- pairs that pass the test for 1 to 4 are at least one
 few : (b : Bool) (p : Pair) (ps : List Pair) → HasParts (option_map Hyper (cond b (Some (p ∷ ps)) None))
 few true p ps = omega arith
 few false p ps = tt
 
+-- `hyper` with its pairs, if there are 1 to 4, has parts
 paired : (pairs : Option (List Pair)) → HasParts (option_map Hyper (option_and_then one_to_four pairs))
 paired None = tt
 paired (Some []) = tt
 paired (Some (p ∷ ps)) = few (nat_lt 0 (length (p ∷ ps)) && nat_le (length (p ∷ ps)) 4) p ps
 
+-- `hyper` with any words and turns has parts
 hyper_has : (ws ts : List Text) → HasParts (hyper_of ws ts)
 hyper_has ws [] = paired (pairs_of ws)
 hyper_has ws (t ∷ ts) = tt
 
 -- ---- of all forms
 
+-- each form of a list gives commands that have parts
 abbrev AllHave : List Form → Type 0
 AllHave [] = ⊤
 AllHave (f ∷ fs) = ((ws ts : List Text) → HasParts (f.1 ws ts)) × AllHave fs
 
+-- the form that is found by a name gives one, or the others do
 found : (p : Parts) (b : Bool) (f : Form) (rest : Option Form) → HasParts (f.1 p.positionals p.turns) →
     HasParts (in_form p rest) →
     HasParts (in_form p (cond b (Some f) rest))
 found p true f rest h k = h
 found p false f rest h k = k
 
+-- the command of a name has parts
 named : (fs : List Form) (name : Text) (p : Parts) → AllHave fs → HasParts (command_named fs name p)
 named [] name p h = tt
 named (f ∷ fs) name p h = found p (bytes_eq f.0 name) f _ (h.0 p.positionals p.turns) (named fs name p h.1)
 
+-- the command of the words, if they can be parted, has parts
 parted : (fs : List Form) (name : Text) (p : Option Parts) → AllHave fs →
     HasParts (option_and_then (command_named fs name) p)
 parted fs name None h = tt
@@ -134,6 +147,7 @@ all_forms = (
   ),
 )
 
+-- each command that words say has parts
 have : (words : List Text) → HasParts (command_of words)
 have [] = tt
 have (name ∷ words) = parted forms name (parts_of words) all_forms

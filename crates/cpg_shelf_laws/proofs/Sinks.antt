@@ -19,6 +19,7 @@ pub either_told : (s : SinkSeenRun) (bytes : List ℕ) → WholeRun s bytes ⊎ 
     Whole (telling s) bytes ⊎ Part (telling s) bytes
 either_told s bytes e = elim e [ inl whole ↦ inl whole.taken | inr part ↦ inr (part_told s bytes part) ]
 
+-- what was sent by the account of this run was sent by that of what it tells
 sent_told : (s : SinkSeenRun) (status wanted : ℕ) (bytes : List ℕ) → SentRun s status wanted bytes →
     Sent (telling s) status wanted bytes
 sent_told s status wanted bytes p = record {

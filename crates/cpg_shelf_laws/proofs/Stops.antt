@@ -73,12 +73,15 @@ says_acts told given g l alike short x =
 -- ---- why the last file stops a run
 
 module _ (old new : ShelfState) (f : Fetch) (is : IsLast old new f) (name : Text) where
+  -- a file within the limit gives a count within it
   within : (limit : ℕ) → length f.given ≤ limit → given_count new ≤ limit
   within limit short = let c = is.count in omega (arith, c, short)
 
+  -- a file that couldn't be fetched raised the count of faults
   unread : (kind : FileKind) (halt : Halt) → IsUnreadFile (file kind name) f halt → IsUnread (seen old new) halt
   unread kind halt u = record { halt_is = u.halt_is; rose = is.rose u.failed }
 
+  -- a file that is too long is so on the shelf
   long : (kind : FileKind) (halt : Halt) → IsLongFile (file kind name) f halt →
       IsLong (limit_of kind) (long_of kind) (seen old new) (old.stands name) halt
   long kind halt l = record {
@@ -88,6 +91,7 @@ module _ (old new : ShelfState) (f : Fetch) (is : IsLast old new f) (name : Text
     long = tells_long old.stands (file kind name) f l.of (more (length f.given) (limit_of kind) l.over) is.agrees;
   }
 
+  -- a whole file is what the shelf reports
   tells : (kind : FileKind) → IsWhole (file kind name) f → TellsAs (old.stands name) f.given
   tells kind w = tells_whole old.stands (file kind name) f w is.agrees
 
@@ -105,6 +109,7 @@ module _ (old new : ShelfState) (f : Fetch) (is : IsLast old new f) (name : Text
     );
   }
 
+  -- lack of memory stops the reading of a graph
   no_graph : (halt : Halt) → halt ≡ Memory → IsFaulty (seen old new) (old.stands name) halt
   no_graph halt e = record {
     fault = ReadFault.OutOfMemory;

@@ -24,19 +24,23 @@ use Rattle.cpg_live.proofs.Cutting.{lawless_stays}
 use Rattle.cpg_live.proofs.Streams.{acts_more, after_more, not_long, took_more}
 use Rattle.cpg_shelf_laws.specs.Streams.{IsClosed, IsCutOff, IsLawfulSoFar, IsRefused}
 
+-- a bad state ends the stream as lawless
 end_lawless : (s : LiveState) (count : ℕ) (lawless : LawlessRecord) → s.lawless ≡ Some lawless →
     end_of s count ≡ Err (Lawless lawless)
 end_lawless s count lawless e =
     ap (λ o. cond (is_none o && nat_lt STREAM_LIMIT count) (Err Long) (end_by (outcome_if s o))) e
 
+-- once the state is bad, more bytes change nothing
 after_lawless : (table : NodeTable) (fed more : List ℕ) (lawless : LawlessRecord) →
     (after table fed).lawless ≡ Some lawless →
     after table (fed ++ more) ≡ after table fed
 after_lawless table fed more lawless e = after_more table fed more ∙ lawless_stays (after table fed) lawless more e
 
+-- a fault that is missing isn't there
 none_some : (lawless : LawlessRecord) → None ≡ Some lawless → ⊥
 none_some lawless e = true≢false (ap is_none e)
 
+-- up to a limit, what was fed and then what is left of the limit
 part_of : (limit : ℕ) (fed rest : List ℕ) → length fed ≤ limit →
     take limit (fed ++ rest) ≡ fed ++ take (limit - length fed) rest
 part_of limit fed rest l =
@@ -52,15 +56,19 @@ record IsRefusedBy (h : Head) (table : NodeTable) (bytes : List ℕ) (fault : St
 -- a fetch that gave a front of a stream
 module _ (h : Head) (table : NodeTable) (f : Fetch) (whole : List ℕ) (w : IsFrontOf whole f)
     (few : length f.given ≤ STREAM_LIMIT + 1) where
+  -- the part that is read of what was given is all of it
   read_given : read_part f.given ≡ f.given
   read_given = take_all (STREAM_LIMIT + 1) f.given few
 
+  -- the part of the stream that is read is what was given, and what is left of the limit
   read_whole : read_part whole ≡ f.given ++ take (STREAM_LIMIT + 1 - length f.given) w.rest
   read_whole = ap read_part w.front ∙ part_of (STREAM_LIMIT + 1) f.given w.rest few
 
+  -- without a rest it is that of what was given
   same_of_none : w.rest ≡ [] → read_part whole ≡ read_part f.given
   same_of_none none = ap read_part (w.front ∙ (ap (λ rest. f.given ++ rest) none ∙ append-nil f.given))
 
+  -- the part that is read is that of what was given if that is more than the limit
   same_of_full : STREAM_LIMIT < length f.given → read_part whole ≡ read_part f.given
   same_of_full over =
       let e : STREAM_LIMIT + 1 - length f.given ≡ 0 = omega (arith, over, few) in
@@ -103,6 +111,7 @@ module _ (h : Head) (table : NodeTable) (f : Fetch) (whole : List ℕ) (w : IsFr
         spelled = c.spelled ∙ sym (ap₂ (λ (s : LiveState) r. act_lines h s.progress.acts ++ close_of r) state ends);
       }
 
+  -- a refusal of lawful bytes is one of the whole stream
   refused_lawful : (fault : StreamFault) (lines : List ℕ) → IsRefusedFetch h table f fault lines →
       (after table f.given).lawless ≡ None →
       IsRefusedBy h table whole fault lines
@@ -110,6 +119,7 @@ module _ (h : Head) (table : NodeTable) (f : Fetch) (whole : List ℕ) (w : IsFr
   refused_lawful (Lawless lawless) lines c none =
       refused_same (Lawless lawless) lines c (same_of_none (w.all (c.all (not_long lawless) none)))
 
+  -- a refusal of what was given is one of the whole stream, whether the bytes are bad or lawful
   by_lawless : (fault : StreamFault) (lines : List ℕ) → IsRefusedFetch h table f fault lines →
       (o : Option LawlessRecord) →
       (after table f.given).lawless ≡ o →
@@ -132,6 +142,7 @@ module _ (h : Head) (table : NodeTable) (f : Fetch) (whole : List ℕ) (w : IsFr
       ∙ append_assoc (act_lines h acts) (act_lines h g.0) close) in
       subst (TookPrefix a b) (sym all) (took_more a b (act_lines h acts) (act_lines h g.0 ++ close) took)
 
+-- a fetch that came to the end gave the whole
 ended_whole : (f : Fetch) (whole : List ℕ) → f.ended ≡ true → IsFrontOf whole f → f.given ≡ whole
 ended_whole f whole ended w = sym (w.front ∙ (ap (λ rest. f.given ++ rest) (w.all ended) ∙ append-nil f.given))
 
@@ -169,6 +180,7 @@ module _ (h : Head) (table : NodeTable) (f : Fetch) where
   closed_told (Some whole) lines w c =
       record { bytes = f.given; of = ended_whole f whole c.ended w; time = c.time; ends = c.ends; spelled = c.spelled }
 
+  -- what was given is the first part of what the shelf reports
   given_first : (told : Option (List ℕ)) (count : ℕ) → count ≡ length f.given →
       IfSome told (λ whole. IsFrontOf whole f) →
       IfSome told (λ whole. f.given ≡ take count whole)

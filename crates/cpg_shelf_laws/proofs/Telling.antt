@@ -71,10 +71,12 @@ AreTold stands g (f ∷ fs) [] = ⊥
 AreTold stands g (f ∷ fs) (v ∷ vs) = (bytes : Text) × (stands f.name ≡ Some bytes) × (length bytes ≤ limit_of f.kind) ×
     Tells g f.kind bytes v × AreTold stands (graph_after g v) fs vs
 
+-- what holds of what the shelf reports holds of the bytes
 known : (o : Option Text) (bytes : Text) (P : Text → Type 0) → o ≡ Some bytes → IfSome o P → P bytes
 known o bytes P e p = subst (λ o. IfSome o P) e p
 
 module _ (old new : ShelfState) (k : KeepsShelf old new) where
+  -- a whole file was given as the shelf reports it
   given_is : (f : File) (fetch : Fetch) (bytes : Text) → old.stands f.name ≡ Some bytes → IsWhole f fetch →
       Agrees old.stands fetch →
       bytes ≡ fetch.given

@@ -24,12 +24,14 @@ source_shows : (source : Source) (columns : List Column) → ShowsSource source 
 source_shows (Listed listed) columns is = is
 source_shows (Kept tree) columns is = is
 
+-- one more row adds its text
 pushed : (labels : Labels) (rows : List SheetPart) (part : SheetPart) →
     flat_map (part_text labels) (rows ++ part ∷ []) ≡ flat_map (part_text labels) rows ++ part_text labels part
 pushed labels rows part = flat_map-append (part_text labels) rows (part ∷ [])
     ∙ ap (λ t. flat_map (part_text labels) rows ++ t) (append-nil (part_text labels part))
 
 module _ (g : Graph) (made : List Row) (labels : Labels) (n : ℕ) (rows : List SheetPart) where
+  -- the lines of the rows up to the next number
   next : flat_map (lines_of_row g made) (numbers_below (n + 1)) ≡ flat_map (lines_of_row g made) (numbers_below n)
       ++ lines_of_row g made n
   next = ap (flat_map (lines_of_row g made)) (below_push n)

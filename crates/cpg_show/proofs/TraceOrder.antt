@@ -27,6 +27,7 @@ then_weaker Less p q h k = k
 then_weaker Equal p q h k = h k
 then_weaker Greater p q h k = k
 
+-- comparing further by what is equal changes nothing
 then_equal : (o : Ordering) → is_lt o ≡ false → is_lt (ordering_then o Equal) ≡ false
 then_equal Less h = h
 then_equal Equal h = h
@@ -44,6 +45,7 @@ kind_order (Start p) (End q g w) h = refl
 kind_order (Start p) (Send y) h = refl
 kind_order (Start p) (Start q) h = then_equal (nat_cmp p q) h
 
+-- an event that the derived order doesn't put first has no lower key
 event_order : (a b : TraceEvent) → is_lt ((event_ord.ghosts).cmp a b) ≡ false →
     is_below (event_key a) (event_key b) ≡ false
 event_order a b h = then_weaker (nat_cmp a.time b.time) _ _
@@ -54,6 +56,7 @@ event_order a b h = then_weaker (nat_cmp a.time b.time) _ _
 abbrev is_event_below : TraceEvent → TraceEvent → Bool
 is_event_below a b = is_below (event_key a) (event_key b)
 
+-- the order by keys is a strict weak order
 is_total : IsStrictWeakOrder is_event_below
 is_total = ranks_by nat_list_cmp_total event_key
 
@@ -69,22 +72,26 @@ in_order events up i j d h l = sorted_far is_event_below is_total events
 abbrev is_tied : TraceEvent → TraceEvent → Bool
 is_tied a b = not (is_event_below a b) && not (is_event_below b a)
 
+-- neither of two, in either order
 and_flips : (x y : Bool) → (not x && not y) ≡ (not y && not x)
 and_flips true true = refl
 and_flips true false = refl
 and_flips false true = refl
 and_flips false false = refl
 
+-- if not both are false, not both tests say no
 not_both : (x y : Bool) → (x ≡ false → y ≡ false → ⊥) → (not x && not y) ≡ false
 not_both true y h = refl
 not_both false true h = refl
 not_both false false h = absurd (h refl refl)
 
+-- if not both say no and one does, the other says yes
 before_from : (x y : Bool) → (not x && not y) ≡ false → y ≡ false → x ≡ true
 before_from true y h k = refl
 before_from false true h k = absurd (true≢false k)
 before_from false false h k = absurd (true≢false h)
 
+-- events in order whose keys differ rise
 rises : (xs ys : List TraceEvent) → AllPairs (λ a b. event_key a ≢ event_key b) xs → IsPermutation xs ys →
     AllPairs (λ a b. is_below (event_key b) (event_key a) ≡ false) ys →
     AllPairs (λ a b. is_event_below a b ≡ true) ys
@@ -98,6 +105,7 @@ rises xs ys apart p up i j d h l =
     h l)
     (up i j d h l)
 
+-- there is one order of all events
 one_events : (g : Graph) (acts : List (List Act)) (ends : List (List (ℕ × Ended))) (xs ys : List TraceEvent) →
     AllPairs (λ a b. event_key a ≢ event_key b) (all_events g acts ends) →
     AreToldInOrder g acts ends xs → AreToldInOrder g acts ends ys → xs ≡ ys

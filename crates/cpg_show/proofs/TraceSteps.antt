@@ -26,6 +26,7 @@ module _ (g : Graph) (acts : List (List Act)) (ends : List (List (ℕ × Ended))
       (a ∙ ap (λ xs. xs ++ map (event_of_end i) (get_or ends i [])) m
       ∙ append_assoc before (map (event_of_act g i) (get_or acts i [])) (map (event_of_end i) (get_or ends i []))))
 
+  -- the kind of an act on an item of the graph is within the graph
   kind_within : (x : ℕ) → x < item_count g → IsKindWithin g (kind_of (item_at g x) x)
   kind_within x l = elim (item_cases g x l) [
     | inl c ↦ subst (λ (i : Item). IsKindWithin g (kind_of i x)) (sym c.1) c.0
@@ -33,6 +34,7 @@ module _ (g : Graph) (acts : List (List Act)) (ends : List (List (ℕ × Ended))
     | inr (inr c) ↦ subst (λ (i : Item). IsKindWithin g (kind_of i x)) (sym c.3) l
   ]
 
+  -- the kinds of all events of a node are within the graph
   node_within : (i : ℕ) → All (IsActWithin g) (get_or acts i []) → All (IsEndWithin g) (get_or ends i []) →
       All (λ e. IsKindWithin g e.kind) (node_events g acts ends i)
   node_within i a h = All-append (λ (e : TraceEvent). IsKindWithin g e.kind) (map (event_of_act g i) (get_or acts i []))

@@ -25,9 +25,11 @@ fault_within g s law p = elim (cases_lt p (length s.faults)) [
 ]
 
 module _ (p : Playing) (is : IsPlaying p) where
+  -- what is known of a play of these tables
   k : Played p.graph p.tables p.world
   k = played_of p.graph p.tables is.formed is.shape is.valid p.world is.world
 
+  -- the acts of a node are on items of the graph
   acts_within : (node : ℕ) → node < length p.graph.nodes → All (IsActWithin p.graph) (get_or p.cluster.acts node [])
   acts_within node l =
       let acts : List Act = get_or p.cluster.acts node [] in
@@ -35,6 +37,7 @@ module _ (p : Playing) (is : IsPlaying p) where
       All-weaker (Contains acts) (IsActWithin p.graph) (λ a h. (done.only a h).0.row.within) acts
       (All-contains_itself acts)
 
+  -- its ends are of processes of the graph, with no more faults than it has
   ends_within : (node : ℕ) → node < length p.graph.nodes → All (IsEndWithin p.graph) (get_or p.cluster.ends node [])
   ends_within node l =
       let g = p.graph in

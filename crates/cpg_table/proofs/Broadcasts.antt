@@ -5,6 +5,7 @@ use Rattle.std.proofs.Common.{add-one, drop-cons}
 use Rattle.cpg_head.specs.declared.head_parts.HeadProcess.{HeadProcess}
 use Rattle.cpg_table.specs.Items.{numbers_where}
 
+-- whether a process has a condition
 abbrev has_condition : HeadProcess → Bool
 has_condition p = p.condition
 
@@ -23,6 +24,7 @@ either true false i front more = ap (λ (t : List ℕ). t ++ more (i + 1)) (appe
 either false b i front more = ap (λ (t : List ℕ). t ++ more i) (append-nil front)
 
 module _ (test : HeadProcess → Bool) where
+  -- the numbers, from i on, of the condition processes that pass the test
   abbrev numbers : ℕ → List HeadProcess → List ℕ
   numbers i ps = numbers_where test i (filter has_condition ps)
 
@@ -33,6 +35,7 @@ module _ (test : HeadProcess → Bool) where
   opened i x rest true = refl
   opened i x rest false = refl
 
+  -- the processes from a place on are the one there and those behind
   drop_is : (ps : List HeadProcess) (k : ℕ) (x : HeadProcess) → k < length ps →
       drop k ps ≡ get_or ps k x ∷ drop (k + 1) ps
   drop_is ps k x h = rw (add-one, drop-cons ps k x) refl

@@ -50,6 +50,7 @@ range-append a (suc m) n =
     ∙ ap (λ xs. a ∷ xs) (range-append (a + 1) m n
     ∙ ap (λ b. range_with_len (a + 1) m ++ range_with_len b n) (let e : a + 1 + m ≡ a + suc m = omega arith in e))
 
+-- testing what is mapped is mapping what passes
 filter-map : {X Y : Type 0} (p : Y → Bool) (f : X → Y) (xs : List X) →
     filter p (map f xs) ≡ map f (filter (λ x. p (f x)) xs)
 filter-map p f [] = refl
@@ -61,6 +62,7 @@ filter-map p f (x ∷ xs) = step (p (f x)) (filter-map p f xs)
     step true e = ap (λ ys. f x ∷ ys) e
     step false e = e
 
+-- mapping twice is mapping once by both
 map-map : {X Y Z : Type 0} (g : Y → Z) (f : X → Y) (xs : List X) → map g (map f xs) ≡ map (λ x. g (f x)) xs
 map-map g f [] = refl
 map-map g f (x ∷ xs) = ap (λ ys. g (f x) ∷ ys) (map-map g f xs)
@@ -71,30 +73,38 @@ by_place xs d = fill_by_all (λ k. get_or xs k d) xs (length xs) d refl (λ k l.
 
 -- ---- tests
 
+-- an edge leaves a node: it goes to another one and comes from this one
 leaves_is : (a b n : ℕ) → (not (a == b) && (a == n)) ≡ ((a == n) && not (b == n))
 leaves_is a b n = grind (arith, nat_tests)
 
+-- an edge enters a node: it comes from another one and goes to this one
 enters_is : (a b n : ℕ) → (not (a == b) && (b == n)) ≡ (not (a == n) && (b == n))
 enters_is a b n = grind (arith, nat_tests)
 
+-- an edge between two nodes needs more than one node
 one_node : (a b n : ℕ) → a < n → b < n → not (a == b) ≡ (ltb 1 n && not (a == b))
 one_node a b n h k = grind (arith, nat_tests)
 
+-- a test of all is a part of the test of each
 cond-filter : (b : Bool) (p : ℕ → Bool) (xs : List ℕ) → cond b (filter p xs) [] ≡ filter (λ x. b && p x) xs
 cond-filter true p xs = refl
 cond-filter false p [] = refl
 cond-filter false p (x ∷ xs) = cond-filter false p xs
 
 module _ (g : Graph) (w : IsWithinLimits g) where
+  -- the head has as many processes as the graph
   process_number : length (head_of g).processes ≡ process_count g
   process_number = length-map-range_with_len (head_process g) 0 (process_count g)
 
+  -- the node of a process under the head is that of the graph
   node_there : (p : ℕ) → p < process_count g → head_node_of (head_of g) p ≡ node_of g p
   node_there p l = ap (λ (q : HeadProcess). q.node) (get_or-map-below (head_process g) (process_count g) p _ l)
 
+  -- each edge is between processes of the graph
   edge_within : (e : ℕ) → e < edge_count g → IsEdgeWithin (process_count g) (edge_at g e)
   edge_within e l = All-get_or (IsEdgeWithin (process_count g)) g.edges e _ l w.edges
 
+  -- the edges of the head are those of the graph, by number
   edges_are : (head_of g).edges ≡ map (λ e. (source g e, target g e)) (numbers_below (edge_count g))
   edges_are = ap (map (λ (e : Edge). (e.from, e.to))) (by_place g.edges _)
       ∙ map-map (λ (e : Edge). (e.from, e.to)) (edge_at g) (numbers_below (edge_count g))

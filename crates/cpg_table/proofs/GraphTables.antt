@@ -73,6 +73,7 @@ module _ (g : Graph) (w : IsWithinLimits g) where
       omega (arith, ap length all, length-append (filter (is_disjunction g) (numbers_below p)) (p ∷ rest)) in
       ap (condition_of g) (sym here) ∙ condition_of_process_of g c within
 
+  -- a process that is no disjunction has no condition
   condition_none : (p : ℕ) → p < process_count g → is_disjunction g p ≡ false → condition_of g p ≡ None
   condition_none p l t = none_of (condition_of g p) (has_condition g p l ∙ t)
     where

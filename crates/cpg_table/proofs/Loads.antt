@@ -47,15 +47,19 @@ abbrev is_heard_at : Graph → ℕ → ℕ → Bool
 is_heard_at g node x = is_heard_by g node (item_at g x)
 
 module _ (g : Graph) (node : ℕ) where
+  -- no node sends a start
   start_sent : (p : ℕ) → p < process_count g → is_sent_from g node p ≡ false
   start_sent p l = ap (λ b. b && (home g p == node)) (start_not_sent g p l)
 
+  -- no node hears a start
   start_heard : (p : ℕ) → p < process_count g → is_heard_at g node p ≡ false
   start_heard p l = ap (is_heard_by g node) (item_at-start g p l)
 
+  -- what isn't a process isn't started
   late_start : (x : ℕ) → process_count g ≤ x → is_started_on g node x ≡ false
   late_start x l = ap (λ b. b && (node_of g x == node)) (le-ltb x (process_count g) l)
 
+  -- a message isn't started
   message_started : (e : ℕ) → is_started_on g node (message_item g e) ≡ false
   message_started e = late_start (message_item g e) (omega arith)
 
@@ -69,6 +73,7 @@ module _ (g : Graph) (node : ℕ) where
       is_heard_at g node (message_item g e) ≡ (is_message g e && (node_of g (target g e) == node))
   message_heard e l = ap (is_heard_by g node) (item_at-message g e l)
 
+  -- a broadcast isn't started
   broadcast_started : (c : ℕ) → is_started_on g node (broadcast_item g c) ≡ false
   broadcast_started c = late_start (broadcast_item g c) (omega arith)
 
@@ -108,6 +113,7 @@ swapped f (x ∷ xs) ys = sum_by-cons (λ z. sum_by (f z) ys) x xs ∙ ap (λ n.
     ∙ same_sum_by (λ y. f x y + sum_by (λ z. f z y) xs) (λ y. sum_by (λ z. f z y) (x ∷ xs)) ys
     (λ y c. sym (sum_by-cons (λ z. f z y) x xs))
 
+-- how many columns rows have, if it is known of each item
 count_rows : (row : ℕ → Row) (columns : ℕ → ℕ) (xs : List ℕ) → ((x : ℕ) → length (row x).columns ≡ columns x) →
     column_count (map row xs) ≡ sum_by columns xs
 count_rows row columns xs each = sum_by-map (λ (r : Row). length r.columns) row xs
@@ -163,10 +169,12 @@ module _ (g : Graph) (within : IsWithinLimits g) (rows : List Row) where
 
   -- ---- an item at all nodes
 
+  -- the counts of three tests, which are as others say
   three : (a b d : Bool) (x y z : Bool) (n : ℕ) → a ≡ x → b ≡ y → d ≡ z →
       cond a n 0 + (cond b n 0 + cond d n 0) ≡ cond x n 0 + (cond y n 0 + cond z n 0)
   three a b d x y z n p q r = cc
 
+  -- the numbers of the nodes
   abbrev nodes : List ℕ
   nodes = numbers_below (length g.nodes)
 
@@ -212,6 +220,7 @@ module _ (g : Graph) (within : IsWithinLimits g) (rows : List Row) where
             (message_heard g node e l ∙ ap (λ b. b && (node_of g (target g e) == node)) m)),
       )
 
+  -- an item counts once, by one test or by its opposite
   either : (b : Bool) (n : ℕ) → 0 + (cond b n 0 + cond (not b) n 0) ≡ n
   either true n = omega arith
   either false n = omega arith

@@ -28,6 +28,7 @@ use Rattle.cpg_table.proofs.GraphItems.{starts_are, sends_are, hears_are}
 use Rattle.cpg_head.proofs.HeadWithin.{conditions_counted}
 use Rattle.cpg_table.specs.Writing.{row_for, heard_row, rows_of_items, IsWritable, AreWritable}
 
+-- a row for places behind the list
 abbrev pub no_row : Row
 no_row = record { item = 0; columns = [] }
 
@@ -126,6 +127,7 @@ module _ (g : Graph) (within : IsWithinLimits g) where
   lawful_literals c w = λ i d h.
       lawful_literal (get_or c.cube i d) (w.cube.known i d h) (w.some i d h) (w.within i d h) (w.not_whole i d h)
 
+  -- a column that can be written is lawful under the head
   lawful_column : (c : Column) → IsWritable g c → IsLawfulColumn (space_of (head_of g)) c
   lawful_column c w = record { time = omega (arith, w.time); literals = lawful_literals c w; rising = w.cube.rising }
 
@@ -168,6 +170,7 @@ module _ (g : Graph) (within : IsWithinLimits g) where
         (All-weaker (Contains xs) (λ x. IsLawfulRow (space_of (head_of g)) (row x)) (λ x c. each x (below x c)) xs
         (All-contains_itself xs))
 
+    -- rows that are made for items are of these items
     items_are : (row : ℕ → Row) → (xs : List ℕ) → ((x : ℕ) → Contains xs x → (row x).item ≡ x) →
         items_of (map row xs) ≡ xs
     items_are row [] each = refl
@@ -175,15 +178,19 @@ module _ (g : Graph) (within : IsWithinLimits g) where
         ap₂ (λ y ys. y ∷ ys) (each x (Contains-first x xs)) (items_are row xs (λ y c. each y (Contains-rest x xs y c)))
 
     module _ (node : ℕ) (l : node < length g.nodes) where
+      -- the items that the node starts
       abbrev started : List ℕ
       started = starts_of (head_of g) node
 
+      -- the items that the node sends
       abbrev sent : List ℕ
       sent = sends_of (head_of g) node
 
+      -- the items that it hears
       abbrev heard : List ℕ
       heard = hears_of (head_of g) node
 
+      -- the rows of the node are of what it starts, sends and hears
       node_items : items_of (rows_of_items g rows (lists_of (head_of g) node)) ≡ started ++ (sent ++ heard)
       node_items =
           map-append (λ (row : Row). row.item) (map (row_for rows) started)

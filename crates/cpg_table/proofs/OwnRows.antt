@@ -23,10 +23,12 @@ use Rattle.cpg_table.proofs.NodeRows.{no_row, long, item_is}
 
 -- ---- tests
 
+-- what is of the first kind is of one of both
 first_kind : (b t s : Bool) → t ≡ true → (b && (t || s)) ≡ b
 first_kind true t s e = ap (λ u. u || s) e
 first_kind false t s e = refl
 
+-- what isn't of the first kind has to be of the other
 later_kind : (b t s : Bool) → t ≡ false → (b && (t || s)) ≡ (s && b)
 later_kind true true s e = absurd (true≢false e)
 later_kind true false true e = refl
@@ -44,6 +46,7 @@ one_home h m n s apart e = elim (cases_eq h n) [
 -- ---- lists
 
 module _ {X : Type 0} (p q : X → Bool) (none : (x : X) → q x ≡ false → p x ≡ false) where
+  -- what passes the stronger test passes both
   passes_both : (xs : List X) → filter p (filter q xs) ≡ filter p xs
   passes_both [] = refl
   passes_both (x ∷ xs) = elim (cases_Bool (q x)) [
@@ -116,13 +119,16 @@ still_known g node rows h =
     All-filter (λ (row : Row). not (has_own g node row.item)) (λ (row : Row). row.item < item_count g) rows h
 
 module _ (g : Graph) (within : IsWithinLimits g) (node : ℕ) where
+  -- whether the node sends an item
   abbrev is_sent_here : ℕ → Bool
   is_sent_here x = is_sent g x && (home g x == node)
 
+  -- a process is a node's own exactly if it is on the node
   own_start : (x : ℕ) → x < process_count g → has_own g node x ≡ (node_of g x == node)
   own_start x l = first_kind (home g x == node) (ltb x (process_count g)) (is_sent g x) (lt-ltb x (process_count g) l)
       ∙ ap (λ i. node_of g (producer_of_item g i) == node) (item_at-start g x l)
 
+  -- another item is a node's own exactly if the node sends it
   own_later : (x : ℕ) → process_count g ≤ x → has_own g node x ≡ is_sent_here x
   own_later x l = later_kind (home g x == node) (ltb x (process_count g)) (is_sent g x) (le-ltb x (process_count g) l)
 
@@ -144,6 +150,7 @@ module _ (g : Graph) (within : IsWithinLimits g) (node : ℕ) where
       ∙ sym (ap₂ (λ xs ys. xs ++ ys) (sent_messages g within node) (sent_broadcasts g within node)))
 
   module _ (rows : List Row) (w : AreWritable g rows) where
+    -- the rows are those of the items, by number
     by_item : rows ≡ map (row_for rows) (numbers_below (item_count g))
     by_item = by_place rows no_row ∙ ap (λ n. map (row_for rows) (numbers_below n)) (long g rows w)
 

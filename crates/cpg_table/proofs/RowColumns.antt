@@ -85,9 +85,11 @@ module _ (x : ℕ) where
       go true h = omega arith
       go false h = omega arith
 
+-- rows of two lists have the columns of both
 column_count-append : (rows more : List Row) → column_count (rows ++ more) ≡ column_count rows + column_count more
 column_count-append rows more = sum_by-append (λ (row : Row). length row.columns) rows more
 
+-- the rows that nodes start and send have no more columns than all rows
 rows_within : (tables : List NodeTable) →
     column_count (flat_map (λ (t : NodeTable). t.starts ++ t.sends) tables)
     ≤ sum_by (λ t. column_count (rows_of t)) tables

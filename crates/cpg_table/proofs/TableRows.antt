@@ -47,6 +47,7 @@ module _ (rows : List Row) (xs ys zs : List ℕ) (is : items_of rows ≡ xs ++ (
   first_items n e = ap (λ k. items_of (take k rows)) e ∙ sym (take-map (λ (r : Row). r.item) (length xs) rows)
       ∙ ap (take (length xs)) is ∙ take-append_seam xs (ys ++ zs)
 
+  -- the rows behind the first are of the items behind
   rest_items : (n : ℕ) → n ≡ length xs → items_of (drop n rows) ≡ ys ++ zs
   rest_items n e = ap (λ k. items_of (drop k rows)) e ∙ sym (drop-map (λ (r : Row). r.item) (length xs) rows)
       ∙ ap (drop (length xs)) is ∙ drop-append_seam xs (ys ++ zs)

@@ -28,19 +28,24 @@ use Rattle.cpg_table.proofs.Loads.{tables_le}
 
 -- three lists of given lengths, one after another
 module _ {X : Type 0} (a b d x y z : List X) (is : a ++ (b ++ d) ≡ x ++ (y ++ z)) (p : length a ≡ length x) where
+  -- the first lists are equal
   first_of : a ≡ x
   first_of = sym (take-append_seam a (b ++ d)) ∙ ap₂ take p is ∙ take-append_seam x (y ++ z)
 
+  -- behind the first lists, the second and third together are equal
   rest_of : b ++ d ≡ y ++ z
   rest_of = sym (drop-append_seam a (b ++ d)) ∙ ap₂ drop p is ∙ drop-append_seam x (y ++ z)
 
   module _ (q : length b ≡ length y) where
+    -- the second lists are equal
     second_of : b ≡ y
     second_of = sym (take-append_seam b d) ∙ ap₂ take q rest_of ∙ take-append_seam y z
 
+    -- the third lists are equal
     third_of : d ≡ z
     third_of = sym (drop-append_seam b d) ∙ ap₂ drop q rest_of ∙ drop-append_seam y z
 
+-- a list in which nothing is is empty
 nothing : (cs : List Column) → ((c : Column) → Contains cs c → ⊥) → cs ≡ []
 nothing [] h = refl
 nothing (c ∷ cs) h = absurd (h c (Contains-first c cs))
@@ -55,20 +60,25 @@ module _ (g : Graph) (within : IsWithinLimits g) (formed : WellFormed g) (rows :
   lawful =
       record { count = are.long; each = λ node l. (are.each node l).table; few = tables_le g within rows tables are w }
 
+  -- lawful tables have the shape that the graph asks for
   shape : HasShape g tables
   shape = has_shape g within tables lawful
 
+  -- the items of a node
   abbrev items : ℕ → ItemLists
   items node = lists_of (head_of g) node
 
   module _ (node : ℕ) (l : node < length g.nodes) where
+    -- rows of some items are as many as rows made for these items
     count_by_items : (row : ℕ → Row) (rs : List Row) (xs : List ℕ) → items_of rs ≡ xs → length rs ≡ length (map row xs)
     count_by_items row rs xs e = sym (length-map rs (λ (r : Row). r.item)) ∙ ap length e ∙ sym (length-map xs row)
 
+    -- a node has a row for each item that it starts
     start_count : length (table_at tables node).starts ≡ length (map (row_for rows) (items node).starts)
     start_count =
         count_by_items (row_for rows) (table_at tables node).starts (items node).starts (are.each node l).table.starts
 
+    -- a node has a row for each item that it sends
     send_count : length (table_at tables node).sends ≡ length (map (row_for rows) (items node).sends)
     send_count =
         count_by_items (row_for rows) (table_at tables node).sends (items node).sends (are.each node l).table.sends
@@ -101,16 +111,19 @@ module _ (g : Graph) (within : IsWithinLimits g) (formed : WellFormed g) (rows :
         let same : row.item ≡ m.0 = ap (λ (r : Row). r.item) (sym m.2) ∙ item_is g rows w m.0 (below m.0 m.1) in
         ap (λ (r : Row). r.columns) (sym m.2) ∙ ap (λ x. (row_for rows x).columns) (sym same)
 
+    -- each of these rows has the columns of its item's row
     row_is : (row : Row) → Contains (rows_at tables node) row → row.columns ≡ (row_for rows row.item).columns
     row_is row k = elim (Contains-append_cases (table_at tables node).starts (table_at tables node).sends row k) [
       | inl m ↦ from_rows (items node).starts (start_below g within node) (table_at tables node).starts row starts m
       | inr m ↦ from_rows (items node).sends (send_below g within node) (table_at tables node).sends row sends m
     ]
 
+  -- an item that is no process and isn't sent has no row at its node
   neither : (x : ℕ) → process_count g ≤ x → is_sent g x ≡ false → (x < process_count g) ⊎ (is_sent g x ≡ true) → ⊥
   neither x later unsent (inl start) = absurd (omega arith)
   neither x later unsent (inr sent) = true≢false (sym sent ∙ unsent)
 
+  -- an item with a row at its node has the columns of its row
   stands : (x : ℕ) → HasRow g (home g x) x → columns_of tables x ≡ (row_for rows x).columns
   stands x has =
       let l : home g x < length g.nodes = home_within formed shape x has.within in
@@ -118,6 +131,7 @@ module _ (g : Graph) (within : IsWithinLimits g) (formed : WellFormed g) (rows :
       subst (λ y. columns_of tables y ≡ (row_for rows y).columns) r.2
       (row_columns formed shape (home g x) l r.0 r.1 ∙ row_is (home g x) l r.0 r.1)
 
+  -- each item of the graph has those columns
   within_count : (x : ℕ) → x < item_count g → columns_of tables x ≡ (row_for rows x).columns
   within_count x l = elim (cases_lt x (process_count g)) [
     | inl start ↦ stands x (record { within = l; home = refl; kind = inl start })

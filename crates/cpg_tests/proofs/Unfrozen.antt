@@ -15,9 +15,11 @@ use Rattle.cpg_run.specs.Frozen.{nothing_frozen}
 use Rattle.cpg_run.specs.Known.{AreEarly}
 
 module _ (g h : Graph) (frozen : List (Option ℕ)) (is : frozen ≡ nothing_frozen h) (same : h ≡ g) where
+  -- there is a frozen time, or none, for each item
   pub unfrozen_long : length frozen ≡ item_count g
   unfrozen_long = ap length is ∙ length-replicate {A = Option ℕ} (item_count h) None ∙ ap item_count same
 
+  -- without frozen times all of them are early
   pub unfrozen_early : AreEarly frozen
   unfrozen_early x time e = absurd (none-some time (sym none ∙ e))
     where
@@ -28,9 +30,11 @@ module _ (g h : Graph) (frozen : List (Option ℕ)) (is : frozen ≡ nothing_fro
             (omega (arith, length-replicate {A = Option ℕ} (item_count h) None))
       ]
 
+-- a sum of zeros is 0
 sum_of_zeros : (n : ℕ) → sum (replicate n 0) ≡ 0
 sum_of_zeros n = sum_by-replicate (λ (x : ℕ). x) n 0 ∙ omega arith
 
+-- the scenario without faults, in which each value is false, is a scenario of the graph
 zero_lawful : (g : Graph) → IsScenario g (zero_scenario g)
 zero_lawful g = record {
   values = length-replicate (condition_count g) false;
@@ -50,6 +54,7 @@ valued_lawful g h s new c value is same then =
       budget = omega (arith, ap (λ (n : Scenario). sum n.faults) then, lawful.budget);
     }
 
+-- the urgency order of an admitted graph is topological
 pub urgent_topological : (g : Graph) (order urgency : List ℕ) (guards : Guards) → order ≡ urgency →
     IsAdmitted g urgency guards →
     IsTopological g order

@@ -132,6 +132,7 @@ module _ (g : Graph) (o : List Bool) (starts : List (Option ℕ)) (p : ℕ) wher
   FedBy i = (e : ℕ) → Contains (live_of i) e → has_start starts (source g e) ≡ true
 
   module _ (i e d : ℕ) (l : i < length (inputs g p)) (at : get_or (inputs g p) i d ≡ e) where
+    -- the live inputs up to the next one, by whether it is live
     more_by : (b : Bool) → live g o e ≡ b → live_of (i + 1) ≡ live_of i ++ cond b (e ∷ []) []
     more_by b is = next_live i d l ∙ ap (λ x. live_of i ++ filter (live g o) (x ∷ [])) at
         ∙ ap (λ c. live_of i ++ cond c (e ∷ []) []) is
@@ -157,6 +158,7 @@ module _ (g : Graph) (o : List Bool) (starts : List (Option ℕ)) (p : ℕ) wher
           ]
         ]
 
+    -- an edge that isn't live adds no live input
     skipped : live g o e ≡ false → live_of (i + 1) ≡ live_of i
     skipped is = more_by false is ∙ append_none (live_of i)
       where
@@ -186,6 +188,7 @@ module _ (g : Graph) (o : List Bool) (starts : List (Option ℕ)) (p : ℕ) wher
 -- given starts that are no later than a bound
 module _ (g : Graph) (within : IsWithinLimits g) (w : WellFormed g) (o : List Bool) (starts : List (Option ℕ)) (b : ℕ)
     (early : AreBy b starts) (some : 1000000000 ≤ b) where
+  -- no end is later than the bound by more than an execution
   end_by : (p : ℕ) → p < process_count g → longest_end g starts p ≤ b + 600000000000
   end_by p l = omega (arith, early p, duration-le g p g.faults within l within.faults)
 
@@ -197,6 +200,7 @@ module _ (g : Graph) (within : IsWithinLimits g) (w : WellFormed g) (o : List Bo
       go true = omega (arith, end_by (source g e) (live_source g w o p e k).0, round-le g within)
       go false = omega (arith, end_by (source g e) (live_source g w o p e k).0)
 
+  -- a process is ready by the bound and what it waits for
   ready_at_by : (p : ℕ) → p < process_count g → ready_at g o starts p ≤ b + 616000000000
   ready_at_by p l = let at : IsProcessWithin (length g.nodes) (process_at g p) = within.processes p _ l in
       greatest-le ((process_at g p).release ∷ map (input_ready g starts) (filter (live g o) (inputs g p)))
@@ -207,6 +211,7 @@ module _ (g : Graph) (within : IsWithinLimits g) (w : WellFormed g) (o : List Bo
             omega (arith, input_by p r.0 r.1, r.2)
       ])
 
+  -- a node is free by the bound and an execution
   free_by : (node : ℕ) → free_at g starts node ≤ b + 600000000000
   free_by node =
       elim (free_cases g starts node) [ inl e ↦ omega (arith, e) | inr r ↦ omega (arith, r.3, end_by r.0 (r.1).within) ]
@@ -375,9 +380,11 @@ module _ (g : Graph) (within : IsWithinLimits g) (w : WellFormed g) (o : List Bo
       next : List (Option ℕ)
       next = set s p (Some (would_start g o s p))
 
+      -- the longest end of the process that is placed
       end : ℕ
       end = would_start g o s p + duration g p g.faults
 
+      -- there is a time for each node
       long : length free ≡ length g.nodes
       long = ap length k ∙ length-map-range_with_len (free_at g s) 0 (length g.nodes)
 
@@ -432,6 +439,7 @@ module _ (g : Graph) (o : List Bool) where
 
 -- ---- after some number of processes
 
+-- what is known after n processes are placed: the placing, how many are left, when nodes are free, and a bound
 pub record HavePlaced (g : Graph) (o : List Bool) (starts : List (Option ℕ)) (times : List ℕ) (n : ℕ) : Type 0 where
   pub placing : IsPlacing g o starts
   pub left : unplaced_count starts + n ≤ process_count g

@@ -17,6 +17,7 @@ use Rattle.cpg_tracks.proofs.TrackOrders.{ahead_by_key, ahead_by_number}
 pub rest_more : (rests : List ℕ) (p rest : ℕ) → p < length rests → get_or (rests ++ rest ∷ []) p 0 ≡ get_or rests p 0
 rest_more rests p rest l = grind (arith, common_steps)
 
+-- one rest more makes the list one longer
 count_more : (rests : List ℕ) (rest : ℕ) → length (rests ++ rest ∷ []) ≡ length rests + 1
 count_more rests rest = grind (arith, common_steps)
 

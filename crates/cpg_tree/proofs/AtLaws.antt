@@ -26,6 +26,7 @@ module _ {T : Type 0} (items : List (TreeItem T)) (n : TreeNode T) (are : items 
     at_below h e = e ∙ sym (value_below v cut x y s h)
         ∙ ap (λ (m : TreeNode T). value_at m s) (flat-same (Fork v cut x y) n (sym is ∙ are))
 
+    -- a scenario above the cut has the value of the side above
     pub at_above : cut < number_of s v → z ≡ value_at y s → z ≡ value_at n s
     at_above h e = e ∙ sym (value_above v cut x y s h)
         ∙ ap (λ (m : TreeNode T). value_at m s) (flat-same (Fork v cut x y) n (sym is ∙ are))
@@ -46,6 +47,7 @@ length-flat {T} (Fork v cut x y) k cube =
       length-flat y k (narrowed_by (above k v cut) cube),
     )
 
+-- half of an odd number, rounded up: a list of a tree's items has one leaf more than forks
 half : (a b : ℕ) → a + 1 ≡ 2 * b → a - a / 2 ≡ b
 half a b e = omega arith
 

@@ -13,13 +13,16 @@ use Rattle.cpg_tree.specs.Tree.{Path}
 
 -- a fact of all elements of two lists together is one of all elements of each
 module _ {A : Type 0} (P : A → Type 0) (front back : List A) (all : All P (front ++ back)) where
+  -- what holds of the whole list holds of its front
   all_front : All P front
   all_front = subst (All P) (take-append_seam front back) (All-take P (length front) (front ++ back) all)
 
+  -- what holds of the whole list holds of its back
   all_back : All P back
   all_back = subst (All P) (drop-append_seam front back) (All-drop P (length front) (front ++ back) all)
 
 module _ (least : ℕ) where
+  -- a path has a time, and one no earlier than the least
   abbrev pub IsFrom : Path (Option ℕ) → Type 0
   IsFrom p = p.1 ≡ Some (max (time_later 0 p.1) least)
 

@@ -41,6 +41,7 @@ forks_in number (Fork v cut below above) = omega (
   forks_in number above,
 )
 
+-- half of an odd number, rounded down: a list of a tree's items has one leaf more than forks
 half : (items forks : ℕ) → items ≡ 2 * forks + 1 → items / 2 ≡ forks
 half items forks e = omega (arith, e)
 
@@ -54,9 +55,11 @@ module _ {T : Type 0} (number : T → ℕ) (v cut : ℕ) (x y n : TreeNode T) (i
     (is : items ≡ flat (Fork v cut x y)) (are : items ≡ flat n) (first second both : Span)
     (low : first ≡ span_in number x) (high : second ≡ span_in number y)
     (made : both ≡ record { least = min first.least second.least; most = max first.most second.most }) where
+  -- the tree is the fork
   fork_is : Fork v cut x y ≡ n
   fork_is = flat-same (Fork v cut x y) n (sym is ∙ are)
 
+  -- the span of a fork is that of both sides
   of_fork : both ≡ span_in number (Fork v cut x y)
   of_fork = made ∙ ap₂ (λ (p q : Span). record { least = min p.least q.least; most = max p.most q.most }) low high
 
@@ -79,6 +82,7 @@ module _ {T : Type 0} (number : T → ℕ) (v cut : ℕ) (x y n : TreeNode T) (i
 -- given: a leaf, and the list of its item
 module _ {T : Type 0} (number : T → ℕ) (x : T) (n : TreeNode T) (items : List (TreeItem T)) (is : items ≡ flat (Leaf x))
     (are : items ≡ flat n) where
+  -- the tree is the leaf
   leaf_is : Leaf x ≡ n
   leaf_is = flat-same (Leaf x) n (sym is ∙ are)
 
@@ -92,6 +96,7 @@ module _ {T : Type 0} (number : T → ℕ) (x : T) (n : TreeNode T) (items : Lis
 
 -- the last span is that of the tree
 module _ {T : Type 0} (number : T → ℕ) where
+  -- the last of a tree's bounds is the span of the tree
   last_span : (n : TreeNode T) (sides : List Span) (span : Span) → bounds_in number n ≡ sides ++ (span ∷ []) →
       span ≡ span_in number n
   last_span (Leaf x) sides span e = absurd (omega (arith, ap length e, length-append sides (span ∷ [])))
@@ -131,6 +136,7 @@ module _ {T U : Type 0} (number : T → ℕ) (other_number : U → ℕ) (n : Tre
       ap (λ k. take k both) long ∙ ap (take (length first)) two ∙ take-append_seam first (bounds_in other_number m)
       ∙ one ∙ ap (λ (xs : List Span). xs ++ bounds_in number n) empty
 
+  -- behind the bounds of the first tree stand those of the second
   pub second_bounds : drop forks both ≡ bounds_in other_number m
   second_bounds =
       ap (λ k. drop k both) long ∙ ap (drop (length first)) two ∙ drop-append_seam first (bounds_in other_number m)

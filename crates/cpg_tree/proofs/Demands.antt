@@ -23,6 +23,7 @@ without v f u = cond (u == v) 0 (f u)
 pub without_here : (v : ℕ) (f : ℕ → ℕ) → without v f v ≡ 0
 without_here v f = cond-true (v == v) 0 (f v) (eq-eqb v v refl)
 
+-- leaving out a variable leaves the others
 pub without_other : (v u : ℕ) (f : ℕ → ℕ) → u ≢ v → without v f u ≡ f u
 without_other v u f n = cond-false (u == v) 0 (f u) (ne_eqb u v n)
 
@@ -74,6 +75,7 @@ module _ (space : Space) where
       (low_is : low ≡ (get_or ls at d).low - get_or space.low (get_or ls at d).variable 0)
       (more_is : more ≡ faults_of (get_or ls at d).variable low)
       (most : sum_by (asked_beyond space) (drop at ls) ≤ left) where
+    -- what the literal asks for beyond the space
     this_one : more ≡ asked_beyond space (get_or ls at d)
     this_one = more_is ∙ ap (faults_of (get_or ls at d).variable) low_is
 

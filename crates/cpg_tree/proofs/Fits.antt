@@ -35,6 +35,7 @@ higher_set highs others v cut u long h (inl e) =
     by_length (inr past) =
         omega (arith, get_or_past (slice_set highs v cut) v 0 (omega (arith, past, length-set highs v cut)))
 
+-- if fewer faults are left, fewer are left after n are used too
 less_left : (a b n : ℕ) → a ≤ b → a - n ≤ b - n
 less_left a b n l = omega arith
 
@@ -48,6 +49,7 @@ allows_more v cut low a b l h = elim (or_cases (nat_le 128 v) (nat_lt cut (low +
 
 -- given: a space, another whose highs are no lower and that has no fewer faults left, and a cut
 module _ (space other : Space) (h : IsHigher space other) (v cut : ℕ) where
+  -- below a cut one space is still the higher
   higher_below : IsHigher (below_cut space v cut) (below_cut other v cut)
   higher_below = record {
     low = h.low;
@@ -56,6 +58,7 @@ module _ (space other : Space) (h : IsHigher space other) (v cut : ℕ) where
     high = λ u. higher_set space.high other.high v cut u h.long (h.high u) (cases_eq u v);
   }
 
+  -- above a cut one space is still the higher
   higher_above : IsHigher (above_cut space v cut) (above_cut other v cut)
   higher_above = record {
     low = ap (λ (lows : List ℕ). slice_set lows v (cut + 1)) h.low;
@@ -66,9 +69,11 @@ module _ (space other : Space) (h : IsHigher space other) (v cut : ℕ) where
     high = h.high;
   }
 
+  -- a cut that one space has open below is so in the other
   open_below : is_open_below space v cut ≡ true → is_open_below other v cut ≡ true
   open_below o = subst (λ (lows : List ℕ). nat_le (get_or lows v 0) cut ≡ true) h.low o
 
+  -- a cut that one space has open above is open above in the higher one
   open_above : is_open_above space v cut ≡ true → is_open_above other v cut ≡ true
   open_above o =
       let parts = and_parts (nat_lt cut (get_or space.high v 0))
@@ -100,11 +105,13 @@ fits_uncut node space v cut o fit = fits_higher node (below_cut space v cut) spa
     below_high : cut < get_or space.high v 0
     below_high = ltb-true cut (get_or space.high v 0) (and_parts (nat_lt cut (get_or space.high v 0)) _ o).0
 
+    -- setting the high to the cut makes it no higher
     at_cut : (v < length space.high) ⊎ (length space.high ≤ v) →
         get_or (slice_set space.high v cut) v 0 ≤ get_or space.high v 0
     at_cut (inl l) = omega (arith, get_or-set_same space.high v cut 0 l, below_high)
     at_cut (inr past) = absurd (omega (arith, get_or_past space.high v 0 past, below_high))
 
+    -- setting the high to the cut makes no high greater
     lower : (u : ℕ) → get_or (slice_set space.high v cut) u 0 ≤ get_or space.high u 0
     lower u = elim (cases_eq u v) [
       | inr n ↦ omega (arith, get_or-set_other space.high v u cut 0 n)
@@ -149,21 +156,26 @@ twice_left : (low cut far left here : ℕ) → (here ≡ cut + 1) ⊎ ((here ≡
 twice_left low cut far left here (inl e) below less = omega arith
 twice_left low cut far left here (inr e) below less = omega (arith, e.0, e.1)
 
+-- a value takes no faults
 no_faults : (v n : ℕ) → 128 ≤ v → faults_of v n ≡ 0
 no_faults v n l = cond-false (nat_lt v 128) n 0 (le-ltb v 128 l)
 
+-- a count takes as many as it says
 all_faults : (v n : ℕ) → v < 128 → faults_of v n ≡ n
 all_faults v n l = cond-true (nat_lt v 128) n 0 (lt-ltb v 128 l)
 
 -- given: a space, two cuts of one variable, and a number of the space that is not above the lower cut
 module _ (space : Space) (v cut far : ℕ) (less : cut < far) (below : is_open_below space v cut ≡ true) where
+  -- the low isn't above the cut
   low_under : get_or space.low v 0 ≤ cut
   low_under = leb-true (get_or space.low v 0) cut below
 
+  -- the low that was set is the number after the cut, or both are 0 behind the list
   at_low : (get_or (slice_set space.low v (cut + 1)) v 0 ≡ cut + 1) ⊎
       ((get_or (slice_set space.low v (cut + 1)) v 0 ≡ 0) × (get_or space.low v 0 ≡ 0))
   at_low = at_set space.low v (cut + 1)
 
+  -- the farther cut is open below
   joined_open_below : is_open_below space v far ≡ true
   joined_open_below = le-leb (get_or space.low v 0) far (omega (arith, low_under, less))
 
@@ -183,6 +195,7 @@ module _ (space : Space) (v cut far : ℕ) (less : cut < far) (below : is_open_b
         ]
       ])
 
+  -- below the farther cut the space is the higher
   joined_below : IsHigher (below_cut space v cut) (below_cut space v far)
   joined_below = record {
     low = refl;
@@ -207,6 +220,7 @@ module _ (space : Space) (v cut far : ℕ) (less : cut < far) (below : is_open_b
     | inr value ↦ omega (arith, no_faults v (far + 1 - get_or space.low v 0) value)
   ]
 
+  -- above both cuts it is what it is above the farther
   joined_above : IsHigher (above_cut (above_cut space v cut) v far) (above_cut space v far)
   joined_above =
       record { low = set-set space.low v (cut + 1) (far + 1); left = joined_left; long = refl; high = λ u. omega arith }
@@ -232,6 +246,7 @@ fits_joined {T} below near far_above above space v cut next far is same less und
 
 -- a tree that fits one space of all scenarios fits any
 module _ (k : ℕ) (space other : Space) (one : IsWhole k space) (two : IsWhole k other) where
+  -- no high of the first whole space is above that of the second
   whole_high : (v : ℕ) → get_or space.high v 0 ≤ get_or other.high v 0
   whole_high v = elim (cases_lt v 256) [
     | inl there ↦ elim (cases_lt v 128) [
@@ -241,6 +256,7 @@ module _ (k : ℕ) (space other : Space) (one : IsWhole k space) (two : IsWhole 
     | inr past ↦ omega (arith, get_or_past space.high v 0 (omega (arith, past, one.longer)))
   ]
 
+  -- two whole spaces have the same lows
   whole_low : (v : ℕ) → v < length space.low → get_or space.low v 0 ≡ get_or other.low v 0
   whole_low v l = let there : v < 256 = omega (arith, l, one.long) in one.lows v there ∙ sym (two.lows v there)
 

@@ -11,6 +11,7 @@ use Rattle.cpg_tree.specs.Paths.{paths_of}
 
 -- ---- a list gives its tree back
 
+-- reading two lists back is reading the second onto what the first gave
 read_back-append : {T : Type 0} (xs ys : List (TreeItem T)) (stack : List (TreeNode T)) →
     read_back (xs ++ ys) stack ≡ read_back ys (read_back xs stack)
 read_back-append [] ys stack = refl
@@ -25,6 +26,7 @@ read_back-flat {T} (Fork v cut below above) stack =
     ∙ ap (read_back last) (read_back-append (flat below) (flat above) stack
     ∙ ap (read_back (flat above)) (read_back-flat below stack) ∙ read_back-flat above (below ∷ stack))
 
+-- the first of a list, or a default
 first_or : {T : Type 0} → T → List T → T
 first_or x [] = x
 first_or x (y ∷ ys) = y
@@ -53,10 +55,12 @@ all_added {T} old new n none added = added ∙ ap (λ (xs : List (TreeItem T)). 
 -- ---- the last item shows what the tree is
 
 module _ {A : Type 0} where
+  -- the last of a list, or a default
   last_or : A → List A → A
   last_or x [] = x
   last_or x (y ∷ ys) = last_or y ys
 
+  -- the last of a list with one element more is that one
   last-append : (d x : A) (xs : List A) → last_or d (xs ++ (x ∷ [])) ≡ x
   unfolding last_or
   last-append d x [] = refl
@@ -79,6 +83,7 @@ abbrev pub sides_of : {T : Type 0} → TreeNode T → List (TreeItem T)
 sides_of (Leaf x) = []
 sides_of (Fork v cut below above) = flat below ++ flat above
 
+-- the first item of a tree's list
 abbrev pub item_of : {T : Type 0} → TreeNode T → TreeItem T
 item_of (Leaf x) = Value x
 item_of (Fork v cut below above) = Cut v cut (length (flat below))
@@ -94,6 +99,7 @@ module _ {A : Type 0} (front back : List A) (n : ℕ) (long : n ≡ length front
   pub take_front : take n (front ++ back) ≡ front
   take_front = ap (λ m. take m (front ++ back)) long ∙ take-append_seam front back
 
+  -- behind the front stands the back
   pub drop_front : drop n (front ++ back) ≡ back
   drop_front = ap (λ m. drop m (front ++ back)) long ∙ drop-append_seam front back
 
@@ -103,6 +109,7 @@ module _ {A : Type 0} (front back : List A) (n : ℕ) (long : n ≡ length front
 pub value_is_no_cut : {T : Type 0} {x : T} {v cut n : ℕ} → Value x ≡ Cut v cut n → ⊥
 value_is_no_cut e = cc
 
+-- a fork isn't a leaf
 pub cut_is_no_value : {T : Type 0} {x : T} {v cut n : ℕ} → Cut v cut n ≡ Value x → ⊥
 cut_is_no_value e = cc
 

@@ -50,6 +50,7 @@ module _ {T : Type 0} (v cut : ℕ) (below above : TreeNode T) where
   }
 
   module _ (far : ℕ) (less : cut < far) where
+    -- a number up to the cut is up to the farther one
     farther : (s : Scenario) → number_of s v ≤ cut → number_of s v ≤ far
     farther s h = omega (arith, h, less)
 
@@ -94,25 +95,32 @@ met_is {T} (Fork u cut x y) b rest v far e =
 -- given: a list that ends in the lists of two trees, split at `start` and `middle`
 module _ {T : Type 0} (start middle : ℕ) (old before : List (TreeItem T)) (below above : TreeNode T)
     (split : IsSplit start middle old before below above) where
+  -- the tree above stands behind what was before and the tree below
   behind : middle ≡ length (before ++ flat below)
   behind = omega (arith, split.second, length-append before (flat below))
 
+  -- up to the middle stand what was before and the tree below
   front_is : take middle old ≡ before ++ flat below
   front_is = ap (take middle) split.is ∙ take_front (before ++ flat below) (flat above) middle behind
 
+  -- behind it stands the tree above
   above_is : drop middle old ≡ flat above
   above_is = ap (drop middle) split.is ∙ drop_front (before ++ flat below) (flat above) middle behind
 
+  -- between them stands the tree below
   below_is : drop start (take middle old) ≡ flat below
   below_is = ap (drop start) front_is ∙ drop_front before (flat below) start split.first
 
+  -- in front of both trees stands what was before
   before_is : take start old ≡ before
   before_is = ap (take start) (split.is ∙ append_assoc before (flat below) (flat above))
       ∙ take_front before (flat below ++ flat above) start split.first
 
+  -- the tree below is as long as what lies between
   between : middle - start ≡ length (flat below)
   between = omega (arith, split.first, split.second)
 
+  -- from the start on it ends in the middle
   again : start + (middle - start) ≡ middle
   again = omega (arith, split.first, split.second)
 

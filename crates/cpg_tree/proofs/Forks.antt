@@ -18,38 +18,48 @@ module _ {T : Type 0} (v cut : ℕ) (below : TreeNode T) (above : TreeNode T) (s
   -- a scenario whose number is at most the cut finds the value and the ranges of the side below; the variable's own
   -- range ends at the cut
   module _ (h : number_of s v ≤ cut) where
+    -- the scenario goes to the side below
     goes_below : nat_le (number_of s v) cut ≡ true
     goes_below = le-leb (number_of s v) cut h
 
+    -- below the cut a scenario has the value of the side below
     pub value_below : value_at (Fork v cut below above) s ≡ value_at below s
     value_below = cond-true (nat_le (number_of s v) cut) _ _ goes_below
 
+    -- below the cut a scenario has the lows of the side below
     pub low_below : (u : ℕ) → low_at (Fork v cut below above) s u ≡ low_at below s u
     low_below u = cond-true (nat_le (number_of s v) cut) _ _ goes_below
 
+    -- below the cut it has the highs of the side below, at other variables than the fork's
     pub high_below : (k u : ℕ) → u ≢ v → high_at k (Fork v cut below above) s u ≡ high_at k below s u
     high_below k u n =
         cond-true (nat_le (number_of s v) cut) _ _ goes_below ∙ cond-false (v == u) _ _ (ne_eqb v u (λ e. n (sym e)))
 
+    -- at the fork's variable the high is at most the cut
     pub high_here : (k : ℕ) → high_at k (Fork v cut below above) s v ≡ min cut (high_at k below s v)
     high_here k = cond-true (nat_le (number_of s v) cut) _ _ goes_below ∙ cond-true (v == v) _ _ (eq-eqb v v refl)
 
   -- a scenario whose number is above the cut finds those of the side above; the variable's own range begins above the
   -- cut
   module _ (h : cut < number_of s v) where
+    -- the scenario goes to the side above
     goes_above : nat_le (number_of s v) cut ≡ false
     goes_above = lt-leb (number_of s v) cut h
 
+    -- above the cut it has the value of the side above
     pub value_above : value_at (Fork v cut below above) s ≡ value_at above s
     value_above = cond-false (nat_le (number_of s v) cut) _ _ goes_above
 
+    -- above the cut it has the lows of the side above, at other variables than the fork's
     pub low_above : (u : ℕ) → u ≢ v → low_at (Fork v cut below above) s u ≡ low_at above s u
     low_above u n =
         cond-false (nat_le (number_of s v) cut) _ _ goes_above ∙ cond-false (v == u) _ _ (ne_eqb v u (λ e. n (sym e)))
 
+    -- at the fork's variable the low is at least the number after the cut
     pub low_here : low_at (Fork v cut below above) s v ≡ max (cut + 1) (low_at above s v)
     low_here = cond-false (nat_le (number_of s v) cut) _ _ goes_above ∙ cond-true (v == v) _ _ (eq-eqb v v refl)
 
+    -- above the cut it has the highs of the side above
     pub high_above : (k u : ℕ) → high_at k (Fork v cut below above) s u ≡ high_at k above s u
     high_above k u = cond-false (nat_le (number_of s v) cut) _ _ goes_above
 
@@ -193,11 +203,13 @@ pick_whole {T} space chooser on off on_part off_part r same_on same_off made =
     same_value true s d = same_on.value s d
     same_value false s d = same_off.value s d
 
+    -- what is picked of the parts has no greater lows than what is picked of the trees
     same_low : (b : Bool) (s : Scenario) (u : ℕ) → IsInSpace space s →
         low_at (picked b on_part off_part) s u ≤ low_at (picked b on off) s u
     same_low true s u d = same_on.lows s u d
     same_low false s u d = same_off.lows s u d
 
+    -- what is picked of the parts has no lesser highs than what is picked of the trees
     same_high : (b : Bool) (k : ℕ) (s : Scenario) (u : ℕ) → IsInSpace space s →
         high_at k (picked b on off) s u ≤ high_at k (picked b on_part off_part) s u
     same_high true k s u d = same_on.highs k s u d
@@ -206,10 +218,12 @@ pick_whole {T} space chooser on off on_part off_part r same_on same_off made =
 -- ---- of one tree
 
 module _ {T U : Type 0} (fact : Scenario → T → U → Type 0) where
+  -- a tree is made of one tree, in the scenarios of a domain
   abbrev pub IsOne : (Scenario → Type 0) → TreeNode T → TreeNode U → Type 0
   IsOne domain a r = IsResultTree domain (λ s z. fact s (value_at a s) z) (low_at a) (λ k. high_at k a) r
 
   module _ (domain : Scenario → Type 0) (v cut : ℕ) (below : TreeNode T) (above : TreeNode T) (r : TreeNode U) where
+    -- the fork
     abbrev whole : TreeNode T
     whole = Fork v cut below above
 
@@ -266,12 +280,14 @@ module _ {T U : Type 0} (fact : Scenario → T → U → Type 0) where
 
 module _ {T U : Type 0} (fact : Scenario → T → U → Type 0) (more_low : Scenario → T → ℕ → ℕ)
     (more_high : ℕ → Scenario → T → ℕ → ℕ) where
+  -- a tree is made of one tree, with more ranges narrowed, in the scenarios of a domain
   abbrev pub IsTwo : (Scenario → Type 0) → TreeNode T → TreeNode U → Type 0
   IsTwo domain a r =
       IsResultTree domain (λ s z. fact s (value_at a s) z) (λ s u. max (low_at a s u) (more_low s (value_at a s) u))
       (λ k s u. min (high_at k a s u) (more_high k s (value_at a s) u)) r
 
   module _ (domain : Scenario → Type 0) (v cut : ℕ) (below : TreeNode T) (above : TreeNode T) (r : TreeNode U) where
+    -- the fork
     abbrev both : TreeNode T
     both = Fork v cut below above
 
@@ -384,6 +400,7 @@ pub from_false : {P : Type 0} (b : Bool) → b ≡ false → OnFalse b P → P
 from_false true e h = cc
 from_false false e h = h
 
+-- what a true test guarantees
 pub from_true : {P : Type 0} (b : Bool) → b ≡ true → OnTrue b P → P
 from_true true e h = h
 from_true false e h = cc
@@ -392,11 +409,13 @@ from_true false e h = cc
 module _ {T U : Type 0} (fact : Scenario → T → U → Type 0) (domain : Scenario → Type 0) (v cut : ℕ)
     (below above n : TreeNode T) (is : n ≡ Fork v cut below above)
     (r : TreeNode U) where
+  -- what is made of the side below alone is made of the fork if only scenarios below count
   pub one_below_of : IsOne fact domain below r → ((s : Scenario) → domain s → number_of s v ≤ cut) →
       IsOne fact domain n r
   one_below_of made only =
       subst (λ (m : TreeNode T). IsOne fact domain m r) (sym is) (one_below fact domain v cut below above r made only)
 
+  -- what is made of the side above alone is made of the fork if only scenarios above count
   pub one_above_of : IsOne fact domain above r → ((s : Scenario) → domain s → cut < number_of s v) →
       IsOne fact domain n r
   one_above_of made only =
@@ -416,11 +435,13 @@ module _ {T U : Type 0} (fact : Scenario → T → U → Type 0) (domain : Scena
 module _ {T U : Type 0} (fact : Scenario → T → U → Type 0) (more_low : Scenario → T → ℕ → ℕ)
     (more_high : ℕ → Scenario → T → ℕ → ℕ) (domain : Scenario → Type 0) (v cut : ℕ)
     (below above n : TreeNode T) (is : n ≡ Fork v cut below above) (r : TreeNode U) where
+  -- with ranges narrowed further, what is made of the side below is made of the fork if only scenarios below count
   pub two_below_of : IsTwo fact more_low more_high domain below r → ((s : Scenario) → domain s → number_of s v ≤ cut) →
       IsTwo fact more_low more_high domain n r
   two_below_of made only = subst (λ (m : TreeNode T). IsTwo fact more_low more_high domain m r) (sym is)
       (two_below fact more_low more_high domain v cut below above r made only)
 
+  -- with ranges narrowed further, what is made of the side above is made of the fork if only scenarios above count
   pub two_above_of : IsTwo fact more_low more_high domain above r → ((s : Scenario) → domain s → cut < number_of s v) →
       IsTwo fact more_low more_high domain n r
   two_above_of made only = subst (λ (m : TreeNode T). IsTwo fact more_low more_high domain m r) (sym is)
@@ -492,6 +513,7 @@ module _ {T U V : Type 0} (answers : T → U → V → Type 0) (spaces inner : S
       (IsInBothSpaces spaces) v cut below above n is r
       (made_narrower (IsInBothSpaces inner) (IsInBothSpaces spaces) _ _ _ r made way.lies) way.goes)
 
+  -- a join that is made of the side above, in the spaces of both, is made of the fork if only scenarios above count
   pub made_all_above : IsInner spaces (λ s. cut < number_of s v) inner →
       IsJoinIn answers (IsInBothSpaces inner) above part r →
       IsJoinIn answers (IsInBothSpaces spaces) n other r

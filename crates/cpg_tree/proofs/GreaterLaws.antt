@@ -24,6 +24,7 @@ use Rattle.cpg_tree.proofs.JoinLaws.{split_of}
 -- given: a fork, and the list of its items
 module _ {T : Type 0} (v cut : ℕ) (x y n : TreeNode T) (items : List (TreeItem T)) (is : items ≡ flat (Fork v cut x y))
     (are : items ≡ flat n) where
+  -- the tree is the fork
   fork_is : n ≡ Fork v cut x y
   fork_is = flat-same n (Fork v cut x y) (sym are ∙ is)
 
@@ -77,6 +78,7 @@ part_bounded number space items part bounds spans is parts = let p = parts is.0 
 module _ {T U V : Type 0} (number : T → ℕ) (other_number : U → ℕ) (makes : ℕ → V → Type 0) (spaces : SpacePair)
     (n : TreeNode T) (m part : TreeNode U) (is : IsPartInSpace spaces.walked m part)
     (old new : List (TreeItem V)) where
+  -- what is made of the greater number of two leaves
   abbrev answers : T → U → V → Type 0
   answers x y z = makes (max (number x) (other_number y)) z
 
@@ -131,6 +133,7 @@ module _ {T U V : Type 0} (number : T → ℕ) (other_number : U → ℕ) (makes
 module _ {T U V : Type 0} (answers : T → U → V → Type 0) (spaces : SpacePair) (v cut : ℕ) (x y n : TreeNode T)
     (items : List (TreeItem T)) (is : items ≡ flat (Fork v cut x y)) (are : items ≡ flat n)
     (m part : TreeNode U) (part_is : IsPartInSpace spaces.walked m part) (old new : List (TreeItem V)) where
+  -- the tree is the fork
   whole : n ≡ Fork v cut x y
   whole = fork_is v cut x y n items is are
 
@@ -202,6 +205,7 @@ module _ {T U V : Type 0} (answers : T → U → V → Type 0) (spaces : SpacePa
 -- given: two trees, and a function of the greater of their numbers
 module _ {T U V : Type 0} (number : T → ℕ) (other_number : U → ℕ) (makes : ℕ → V → Type 0) (space : Space)
     (n : TreeNode T) (m : TreeNode U) (old new : List (TreeItem V)) where
+  -- what is made of the greater number of two leaves
   abbrev both_answers : T → U → V → Type 0
   both_answers x y z = makes (max (number x) (other_number y)) z
 

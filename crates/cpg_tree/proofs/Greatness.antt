@@ -18,6 +18,7 @@ module _ {T : Type 0} (number : T → ℕ) where
     | inr h ↦ omega (arith, least_under below s, ap number (value_below v cut below above s h))
   ]
 
+  -- no scenario has a greater number than the greatest leaf
   pub most_over : (a : TreeNode T) (s : Scenario) → number (value_at a s) ≤ greatest_leaf number a
   most_over (Leaf x) s = omega arith
   most_over (Fork v cut below above) s = elim (cases_lt cut (number_of s v)) [

@@ -13,6 +13,7 @@ module _ (s : Scenario) (l : Literal) where
   pub below_low : number_of s l.variable < l.low → holds s l ≡ false
   below_low h = ap (λ b. b && nat_le (number_of s l.variable) l.high) (lt-leb l.low (number_of s l.variable) h)
 
+  -- a literal doesn't hold if the number is above its high
   pub above_high : l.high < number_of s l.variable → holds s l ≡ false
   above_high h = ap (λ b. nat_le l.low (number_of s l.variable) && b) (lt-leb (number_of s l.variable) l.high h)
       ∙ and-false (nat_le l.low (number_of s l.variable))
@@ -21,6 +22,7 @@ module _ (s : Scenario) (l : Literal) where
 pub under : (low n : ℕ) → (low ≡ 0 → ⊥) → n ≤ low - 1 → n < low
 under low n some h = elim (cases_lt 0 low) [ inl l ↦ omega (arith, l, h) | inr l ↦ absurd (some (omega (arith, l))) ]
 
+-- a number from a low on is above the low less 1
 pub over : (low n : ℕ) → (low ≡ 0 → ⊥) → low ≤ n → low - 1 < n
 over low n some h = elim (cases_lt 0 low) [ inl l ↦ omega (arith, l, h) | inr l ↦ absurd (some (omega (arith, l))) ]
 

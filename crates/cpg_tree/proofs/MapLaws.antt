@@ -15,6 +15,7 @@ use Rattle.cpg_tree.proofs.Forks.{one_fork_of, passes_parts, fit_parts}
 use Rattle.cpg_tree.proofs.Flats.{flat-same}
 
 module _ {T U : Type 0} (answers : T → U → Type 0) where
+  -- a leaf is mapped to the leaf of its answer
   mapped_leaf : (x : T) (y : U) → answers x y → IsMapped answers (Leaf x) (Leaf y)
   mapped_leaf x y a = record {
     made = record { value = λ s d. a; lows = λ s v d. omega arith; highs = λ k s v d. omega arith };

@@ -7,16 +7,20 @@ use Rattle.std.proofs.Math.Seq.{paste, paste-zero}
 use Rattle.std.proofs.lemmas.List.Edits.{drop-paste, take-paste, paste_more}
 
 module _ {A : Type 0} (old : List A) (from count : ℕ) where
+  -- the list after the items up to a place have been moved
   abbrev pub moved : ℕ → List A
   moved i = paste old from (drop (from + count) old) (i - from)
 
   module _ (j : ℕ) (x : A) (there : from + j + count < length old) where
+    -- the place is within what stands behind the items taken out
     rest_long : j < length (drop (from + count) old)
     rest_long = omega (arith, length-drop (from + count) old, there)
 
+    -- the same place, counted in another order
     same_place : from + j + count ≡ from + count + j
     same_place = omega arith
 
+    -- an item behind those that are taken out is read from its old place
     reads : slice_index_or (paste old from (drop (from + count) old) j) (from + j + count) x
         ≡ get_or (drop (from + count) old) j x
     reads =

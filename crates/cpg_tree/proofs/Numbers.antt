@@ -58,6 +58,7 @@ module _ (space : Space) (p first k : ℕ) (count : p < 128) (leaves : LeavesCou
   pub counts_open_below : is_open_below space p first ≡ true
   counts_open_below = le-leb (get_or space.low p 0) first (omega (arith, leaves.low))
 
+  -- the cut of a count is open above
   pub counts_open_above : is_open_above space p first ≡ true
   counts_open_above = and_from _ _ (lt-ltb first (get_or space.high p 0) (omega (arith, leaves.high, less)))
       (or_right (nat_le 128 p) _
@@ -105,6 +106,7 @@ module _ (k : ℕ) (space : Space) (whole : IsWhole k space) (v : ℕ) (value : 
   pub value_open_below : is_open_below space v 0 ≡ true
   value_open_below = le-leb (get_or space.low v 0) 0 (omega (arith, whole.lows v there))
 
+  -- the cut of a value is open above
   pub value_open_above : is_open_above space v 0 ≡ true
   value_open_above = and_from _ _ (lt-ltb 0 (get_or space.high v 0) (omega (arith, whole.values v value there)))
       (or_left (nat_le 128 v) _ (le-leb 128 v value))
@@ -147,5 +149,6 @@ module _ (k : ℕ) (s : Scenario) (few : HasAtMostFaults k s) (v : ℕ) where
   pub count_at_most : v < 128 → number_of s v ≤ k
   count_at_most l = omega (arith, number_le_top k s few v, cond-true (nat_lt v 128) k 1 (lt-ltb v 128 l))
 
+  -- a value has the number 0 or 1
   pub value_at_most : 128 ≤ v → number_of s v ≤ 1
   value_at_most l = omega (arith, number_le_top k s few v, cond-false (nat_lt v 128) k 1 (le-ltb v 128 l))

@@ -35,6 +35,7 @@ scenario_few g s law = omega (arith, few_sum s.faults 128, law.budget)
 
 -- ---- the path of a scenario
 
+-- a list of one has an element
 first_of_one : {X : Type 0} (xs : List X) → length xs ≡ 1 → (x : X) × Contains xs x
 first_of_one [] e = absurd (omega (arith, e))
 first_of_one (x ∷ xs) e = (x, Contains-first x xs)
@@ -48,12 +49,14 @@ the_path k paths each s few =
     let parts = Contains-filter_parts (is_on s) paths f.0 f.1 in
     (f.0, record { stands = parts.0; matched = parts.1 })
 
+-- what is in a list of one element is that element
 the_only : {X : Type 0} (z x : X) → Contains (z ∷ []) x → z ≡ x
 the_only z x c = elim (Contains-cases z [] x c) [
   | inl same ↦ same
   | inr none ↦ absurd (Contains-nil x none)
 ]
 
+-- any two members of a list of one are equal
 same_of_one : {X : Type 0} (xs : List X) → length xs ≡ 1 → (x y : X) → Contains xs x → Contains xs y → x ≡ y
 same_of_one [] e x y a b = absurd (Contains-nil x a)
 same_of_one (z ∷ []) e x y a b = sym (the_only z x a) ∙ the_only z y b

@@ -31,6 +31,7 @@ pub record CoversSpace (k : ℕ) (space : Space) (cube : List Literal) : Type 0 
   pub high : (v : ℕ) → v < 256 → get_or space.high v 0 ≤ high_in k cube v
   pub within : (v : ℕ) → high_in k cube v ≤ top k v
 
+-- raising a low above a cut asks for no more faults than there are, if what is left covers it
 more_asked : (new old low cut left k : ℕ) → new + low ≡ old + (cut + 1) → old + left ≤ k → low ≤ cut →
     cut < low + left →
     new + (left - (cut + 1 - low)) ≤ k
@@ -43,12 +44,15 @@ module _ (k : ℕ) (space : Space) (is : IsOpenSpace k space) (v cut : ℕ) (the
   pub low_at_most : get_or space.low v 0 ≤ cut
   low_at_most = leb-true (get_or space.low v 0) cut below
 
+  -- the cut is below the high
   pub cut_less : cut < get_or space.high v 0
   cut_less = ltb-true cut (get_or space.high v 0) (and_parts (nat_lt cut (get_or space.high v 0)) _ upper).0
 
+  -- the cut is below the top of its variable
   pub cut_under : cut < top k v
   cut_under = omega (arith, cut_less, is.tops v there)
 
+  -- the high that was set is the cut, and the others are as they were
   set_high : (u : ℕ) → (u ≡ v) ⊎ (u ≢ v) →
       ((u ≡ v) × (get_or (slice_set space.high v cut) u 0 ≡ cut)) ⊎
       (get_or (slice_set space.high v cut) u 0 ≡ get_or space.high u 0)
@@ -86,6 +90,7 @@ module _ (k : ℕ) (space : Space) (is : IsOpenSpace k space) (v cut : ℕ) (the
     budget = is.budget;
   }
 
+  -- the faults that are left suffice for a count above the cut
   allows : v < 128 → cut < get_or space.low v 0 + space.left
   allows l = elim (or_cases (nat_le 128 v) (nat_lt cut (get_or space.low v 0 + space.left))
       (and_parts (nat_lt cut (get_or space.high v 0)) _ upper).1) [

@@ -7,6 +7,7 @@ pub of_true : {P Q : Type 0} (b : Bool) → OnTrue b P → (P → Q) → OnTrue 
 of_true true h f = f h
 of_true false h f = cc
 
+-- what follows from what a false test guarantees is guaranteed too
 pub of_false : {P Q : Type 0} (b : Bool) → OnFalse b P → (P → Q) → OnFalse b Q
 of_false true h f = cc
 of_false false h f = f h

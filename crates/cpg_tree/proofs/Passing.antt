@@ -20,6 +20,7 @@ use Rattle.cpg_tree.specs.Variables.{is_variable}
 
 -- ---- a narrowed cube speaks of the variables of the cube, and of the literal's
 
+-- a cube has a literal on a variable
 abbrev SpeaksOf : List Literal → ℕ → Type 0
 SpeaksOf cube v = (l : Literal) × Contains cube l × (l.variable ≡ v)
 
@@ -65,6 +66,7 @@ speaks_of_old l (m ∷ ms) x c = elim (cases_order l.variable m.variable) [
 
 -- ---- each fork's variable is one of a path
 
+-- some path's cube has one
 abbrev IsSpoken : {T : Type 0} → List (Path T) → ℕ → Type 0
 IsSpoken {T} paths v = (p : Path T) × Contains paths p × SpeaksOf p.0 v
 
@@ -82,6 +84,7 @@ some_path k (Fork u cut below upper) cube v speaks =
     )
 
 module _ (test : ℕ → Bool) where
+  -- the variables of all literals of a cube pass the test
   abbrev Passes : List Literal → Type 0
   Passes cube = (l : Literal) → Contains cube l → test l.variable ≡ true
 
@@ -102,6 +105,7 @@ module _ (test : ℕ → Bool) where
 
   -- ---- each variable of a path is a fork's
 
+  -- if a literal's variable passes, a cube that passes does so narrowed by it
   passes_narrowed : (l : Literal) (cube : List Literal) → test l.variable ≡ true → Passes cube →
       Passes (narrowed_by l cube)
   passes_narrowed l cube on old x c = elim (variables_of_narrowed l cube x c) [
@@ -134,6 +138,7 @@ module _ (test : ℕ → Bool) where
       (λ p c. λ l. All-contains (λ (m : Literal). test m.variable ≡ true) p.0 l
       (All-contains (λ (q : Path T). All (λ (m : Literal). test m.variable ≡ true) q.0) (paths_of k node) p h c))
 
+  -- if the variables of all forks pass, so do those of all paths
   pub paths_of_forks : {T : Type 0} (k : ℕ) (node : TreeNode T) → DoForksPass test node →
       DoPathsPass test (paths_of k node)
   paths_of_forks k node pass i d l j e m =
@@ -152,6 +157,7 @@ variable_from g v h =
           inr (leb-true 128 v parts.0, ltb-true v (value_variable (condition_count g)) parts.1)
     ]
 
+-- a variable of the graph passes the test for one
 variable_passes : (g : Graph) (v : ℕ) → IsVariable g v → is_variable g v ≡ true
 variable_passes g v (inl l) = or_left (nat_lt v (process_count g)) _ (lt-ltb v (process_count g) l)
 variable_passes g v (inr b) = or_right (nat_lt v (process_count g)) _

@@ -29,6 +29,7 @@ use Rattle.cpg_tree.proofs.Spaces.{number_le_top}
 Reaches : ℕ → Space → Type 0
 Reaches k space = (v : ℕ) → v < 256 → get_or space.high v 0 ≤ top k v
 
+-- below a cut no high is above the whole range
 reaches_below : (k : ℕ) (space : Space) (v cut : ℕ) → cut < top k v → Reaches k space →
     Reaches k (below_cut space v cut)
 unfolding Reaches
@@ -44,6 +45,7 @@ reaches_below k space v cut less h u l = by_place (cases_eq u v)
             long_set : (xs : List ℕ) (i y : ℕ) → length (slice_set xs i y) ≡ length xs
             long_set xs i y = search rules
 
+    -- no high is above the top, at the cut's variable or another
     by_place : (u ≡ v) ⊎ (u ≢ v) → get_or (slice_set space.high v cut) u 0 ≤ top k u
     by_place (inr n) = omega (arith, get_or-set_other space.high v u cut 0 n, h u l)
     by_place (inl e) =
@@ -66,6 +68,7 @@ fits_cuts k (Fork v cut below above) space h fit =
       fits_cuts k above (above_cut space v cut) h fit.4,
     )
 
+-- no high of the whole space is above the whole range
 whole_reaches : (k : ℕ) (space : Space) → IsWhole k space → Reaches k space
 unfolding Reaches
 whole_reaches k space whole v l = elim (cases_lt v 128) [
@@ -86,6 +89,7 @@ pub record IsTidy (k : ℕ) (cube : List Literal) : Type 0 where
 
 -- given: a tidy cube, and a cut that leaves numbers above it
 module _ (k : ℕ) (cube : List Literal) (tidy : IsTidy k cube) (v cut : ℕ) (less : cut < top k v) where
+  -- the cube narrowed to the side below is tidy
   tidy_below : IsTidy k (narrowed_by (up_to v cut) cube)
   tidy_below = record {
     rising = rising-narrowed (up_to v cut) cube tidy.rising;
@@ -244,6 +248,7 @@ module _ {T : Type 0} (k : ℕ) (s : Scenario) where
 
 -- ---- of a whole tree
 
+-- the cube without literals is tidy
 no_literals : (k : ℕ) → IsTidy k []
 no_literals k = record { rising = λ i j d l m. absurd (omega (arith, m)); within = λ v. omega arith }
 

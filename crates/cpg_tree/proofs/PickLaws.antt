@@ -15,6 +15,7 @@ use Rattle.cpg_tree.proofs.JoinLaws.{fork_is, split_of}
 module _ {T : Type 0} (space : Space) (on off : TreeNode T) (old new : List (TreeItem T)) where
   module _ (v cut : ℕ) (x y n : TreeNode Bool) (items : List (TreeItem Bool)) (is : items ≡ flat (Fork v cut x y))
       (are : items ≡ flat n) where
+    -- the tree is the fork
     whole : n ≡ Fork v cut x y
     whole = fork_is space v cut x y n items is are
 

@@ -37,6 +37,7 @@ module _ {T : Type 0} (k : ℕ) (items shown : List (TreeItem T)) (same : shown 
     good_shown = subst (λ (u : TreeState T). IsGood u.faults n) seen
         (subst (IsGood k) (flat-same good.0 n (sym good.1 ∙ sym same ∙ are)) good.2)
 
+    -- the paths that callers see are those of the tree
     pub paths_shown : t.paths ≡ paths_of t.faults n
     paths_shown =
         subst (λ (u : TreeState T). u.paths ≡ paths_of u.faults n) seen (paths_in-flat k items n (sym same ∙ are))
@@ -112,12 +113,14 @@ module _ (k : ℕ) (space : Space) (all : (s : Scenario) → HasAtMostFaults k s
       picked_value true s x h = (found k on good_on s x h).value
       picked_value false s x h = (found k off good_off s x h).value
 
+      -- the path of the chosen tree has the lows of what is picked
       picked_low : (b : Bool) (s : Scenario) (x : Path T) → IsOnPath (if b then paths_of k on else paths_of k off) s x →
           (v : ℕ) →
           low_in x.0 v ≡ low_at (picked b on off) s v
       picked_low true s x h v = (found k on good_on s x h).low v
       picked_low false s x h v = (found k off good_off s x h).low v
 
+      -- the path of the chosen tree has the highs of what is picked
       picked_high : (b : Bool) (s : Scenario) (x : Path T) →
           IsOnPath (if b then paths_of k on else paths_of k off) s x → (v : ℕ) →
           high_in k x.0 v ≡ min (top k v) (high_at k (picked b on off) s v)

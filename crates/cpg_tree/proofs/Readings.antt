@@ -22,6 +22,7 @@ use Rattle.cpg_tree.specs.Tree.{Path, TreeState, is_on, IsOnPath, IsMap, IsAsWid
 use Rattle.cpg_tree.proofs.OnePath.{same_path}
 use Rattle.cpg_tree.proofs.Publics.{state}
 
+-- reading the chosen of two leaves is choosing between what they are read as
 either : {T : Type 0} (number : T → ℕ) (b : Bool) (x y : T) (m n : ℕ) → m ≡ number x → n ≡ number y →
     (if b then m else n) ≡ number (if b then x else y)
 either number true x y m n e f = e
@@ -43,6 +44,7 @@ module _ {T : Type 0} (number : T → ℕ) where
       ap₂ (λ x y. if nat_le (number_of s v) cut then x else if v == u then max (cut + 1) y else y) (low_read below s u)
       (low_read above s u)
 
+  -- reading the leaves changes no highs
   pub high_read : (k : ℕ) (a : TreeNode T) (s : Scenario) (u : ℕ) → high_at k (read_by number a) s u ≡ high_at k a s u
   high_read k (Leaf x) s u = refl
   high_read k (Fork v cut below above) s u =
@@ -54,6 +56,7 @@ module _ {T : Type 0} (number : T → ℕ) where
   pass_read test (Leaf x) pass = tt
   pass_read test (Fork v cut below above) pass = (pass.0, pass_read test below pass.1, pass_read test above pass.2)
 
+  -- a tree that fits a space fits it if its leaves are read
   fit_read : (space : Space) (a : TreeNode T) → IsFit space a → IsFit space (read_by number a)
   fit_read space (Leaf x) fit = tt
   fit_read space (Fork v cut below above) fit =
@@ -63,6 +66,7 @@ module _ {T : Type 0} (number : T → ℕ) where
   pub good_read : (k : ℕ) (a : TreeNode T) → IsGood k a → IsGood k (read_by number a)
   good_read k a good = (good.0, good.1, fit_read good.0 a good.2)
 
+  -- its paths are those of the tree, with their values read
   paths_read : (k : ℕ) (cube : List Literal) (a : TreeNode T) →
       paths_from k cube (read_by number a) ≡ map (λ (p : Path T). (p.0, number p.1)) (paths_from k cube a)
   paths_read k cube (Leaf x) = refl

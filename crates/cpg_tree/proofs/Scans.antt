@@ -14,6 +14,7 @@ use Rattle.cpg_tree.proofs.Greatness.{least_under, most_over}
 
 -- ---- the greatest number
 
+-- taking in the greatest number of one side and then of the other is taking in the greater
 most_of_sides : (a b m : ℕ) → max b (max a m) ≡ max (max a b) m
 most_of_sides a b m = omega arith
 
@@ -40,6 +41,7 @@ most_is number items n are =
 
 -- ---- whether each number is at least another
 
+-- both sides are at least a number exactly if the lesser one is
 from_sides : (l a b : ℕ) (r : Bool) → (nat_le l a && (nat_le l b && r)) ≡ (nat_le l (min a b) && r)
 from_sides l a b r = grind (arith, nat_tests)
 

@@ -35,6 +35,7 @@ module _ (space : Space) (s : Scenario) (lies : IsInSpace space s) (v cut : ℕ)
   pub none_by_range : nat_lt cut (get_or space.high v 0) ≡ false → number_of s v ≤ cut
   none_by_range h = omega (arith, lies.high v there, not_less cut (get_or space.high v 0) h)
 
+  -- if the faults don't suffice for a number above the cut, there is none
   pub none_by_faults : (nat_le 128 v || nat_lt cut (get_or space.low v 0 + space.left)) ≡ false → number_of s v ≤ cut
   none_by_faults h =
       let parts = or_parts (nat_le 128 v) (nat_lt cut (get_or space.low v 0 + space.left)) h in
@@ -60,6 +61,7 @@ module _ (xs : List ℕ) (v y u : ℕ) where
   pub set_same : v < length xs → u ≡ v → get_or (slice_set xs v y) u 0 ≡ y
   set_same l e = subst (λ w. get_or (slice_set xs v y) w 0 ≡ y) (sym e) (get_or-set_same xs v y 0 l)
 
+-- what is at most what is left is so if nothing is taken
 none_less : (n left : ℕ) → n ≤ left → n ≤ left - 0
 none_less n left l = omega arith
 
@@ -124,6 +126,7 @@ above_reopened space shut inner opened upper v high cut back same reopened close
 -- ---- all scenarios of at most k faults
 
 module _ (k : ℕ) (s : Scenario) (few : HasAtMostFaults k s) where
+  -- no process has more faults than there are
   count_few : (p : ℕ) → p < 128 → fault_of s p ≤ k
   count_few p l = omega (arith, le-sum_by (fault_of s) (numbers_below 128) p (Contains-numbers 128 p l), few)
 

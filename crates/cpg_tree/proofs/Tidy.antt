@@ -107,5 +107,6 @@ module _ (k : ℕ) (cube : List Literal) (tidy : IsPathAround k cube) where
           | inr high ↦ omega (arith, high, range.1, eqb-true l.high (top k l.variable) parts.1)
         ])
 
+    -- the high of the literal is within the top
     pub within : l.high ≤ top k l.variable
     within = omega (arith, range.1, tidy.covers.within l.variable)

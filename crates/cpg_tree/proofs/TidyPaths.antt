@@ -23,24 +23,29 @@ use Rattle.cpg_tree.proofs.Tidy.{IsPathAround, tidy_of, not_whole, within}
 
 -- ---- the scenario of a space's lows
 
+-- the scenario that has the low of each variable
 lowest : Space → Scenario
 lowest space = record {
   values = map (λ c. nat_lt 0 (get_or space.low (128 + c) 0)) (numbers_below 128);
   faults = map (λ p. get_or space.low p 0) (numbers_below 128);
 }
 
+-- a number that is at most 1 is that of a value
 bit : (n : ℕ) → n ≤ 1 → number_of_value (nat_lt 0 n) ≡ n
 bit zero h = refl
 bit (suc zero) h = refl
 bit (suc (suc n)) h = absurd (omega (arith, h))
 
+-- the variable of a value, from its condition's number
 back : (v : ℕ) → 128 ≤ v → 128 + (v - 128) ≡ v
 back v m = omega (arith, m)
 
+-- its counts are the lows
 lowest_faults : (space : Space) (p : ℕ) → p < 128 → fault_of (lowest space) p ≡ get_or space.low p 0
 unfolding lowest
 lowest_faults space p l = get_or-map-below (λ p. get_or space.low p 0) 128 p 0 l
 
+-- the values of the lowest scenario are the lows
 lowest_values : (space : Space) (v : ℕ) → 128 ≤ v → v < 256 → get_or space.low v 0 ≤ 1 →
     number_of_value (get_or (lowest space).values (v - 128) false) ≡ get_or space.low v 0
 unfolding lowest
@@ -51,6 +56,7 @@ lowest_values space v m l h =
     ∙ bit (get_or space.low v 0) h
 
 module _ (k : ℕ) (space : Space) (is : IsOpenSpace k space) where
+  -- the number of the lowest scenario at each variable is the low
   lowest_is : (v : ℕ) → v < 256 → number_of (lowest space) v ≡ get_or space.low v 0
   lowest_is v l = elim (cases_lt v 128) [
     | inl m ↦ cond-true (nat_lt v 128) (fault_of (lowest space) v)
@@ -60,6 +66,7 @@ module _ (k : ℕ) (space : Space) (is : IsOpenSpace k space) where
         ∙ lowest_values space v m l (omega (arith, is.opens v l, is.tops v l, top_of_value k v m))
   ]
 
+  -- the lowest scenario has few enough faults
   lowest_few : HasAtMostFaults k (lowest space)
   lowest_few = fewer _ _ space.left (same_sum_by (fault_of (lowest space)) (λ p. get_or space.low p 0)
       (numbers_below 128) (λ p c. lowest_faults space p (omega (arith, numbers-Contains 128 p c))))
@@ -69,6 +76,7 @@ module _ (k : ℕ) (space : Space) (is : IsOpenSpace k space) where
       fewer new old left e h = omega (arith, e, h)
 
 module _ (k : ℕ) (cube : List Literal) (tidy : IsPathAround k cube) where
+  -- each literal of the path's cube holds in the lowest scenario
   held : (l : Literal) → Contains cube l → holds (lowest tidy.space) l ≡ true
   held l c =
       let range = range_of_literal k cube l tidy.covers.rising c in
@@ -77,12 +85,14 @@ module _ (k : ℕ) (cube : List Literal) (tidy : IsPathAround k cube) where
       holds-from (lowest tidy.space) l (omega (arith, is, range.0, tidy.covers.low l.variable there))
       (omega (arith, is, range.1, tidy.is.opens l.variable there, tidy.covers.high l.variable there))
 
+  -- the path's cube matches the lowest scenario
   lowest_matches : matches cube (lowest tidy.space) ≡ true
   lowest_matches = all_from (holds (lowest tidy.space)) cube held
 
 -- ---- of a whole tree
 
 module _ {T : Type 0} (k : ℕ) (node : TreeNode T) (good : IsGood k node) where
+  -- each path of a good tree is tidy
   tidy_path : (x : Path T) → Contains (paths_of k node) x → IsTidyPath k x
   tidy_path x c =
       let covers = tidy_of k node good x c in

@@ -19,12 +19,15 @@ use Rattle.cpg_tree.proofs.Publics.{state, state_seen}
 -- given: two trees, a function of their values, and the value elsewhere
 module _ {T U V : Type 0} (answers : T → U → V → Type 0) (none : V) (spaces : SpacePair) (a : TreeNode T)
     (b : TreeNode U) where
+  -- the answer to both values if the chooser is true, and else the one value
   abbrev fact : Scenario → Bool → V → Type 0
   fact s x z = HoldsIfChosen x (answers (value_at a s) (value_at b s) z) none z
 
+  -- the lows of both trees if the chooser is true, and 0 if not
   abbrev low : Scenario → Bool → ℕ → ℕ
   low s x v = if x then max (low_at a s v) (low_at b s v) else 0
 
+  -- the highs of both trees if the chooser is true, and the top if not
   abbrev high : ℕ → Scenario → Bool → ℕ → ℕ
   high k s x v = if x then min (high_at k a s v) (high_at k b s v) else top k v
 
@@ -133,15 +136,18 @@ module _ {T U V : Type 0} (k : ℕ) (domain : Scenario → Type 0) (all : (s : S
           (if value_at chooser s then max (low_at a s v) (low_at b s v) else 0) ≡ max (low_at a s v) (low_at b s v)
       low_on s e v = cond-true (value_at chooser s) _ _ e
 
+      -- where the chooser is true, the highs are those of both
       high_on : (s : Scenario) → value_at chooser s ≡ true → (v : ℕ) →
           (if value_at chooser s then min (high_at k a s v) (high_at k b s v) else top k v)
           ≡ min (high_at k a s v) (high_at k b s v)
       high_on s e v = cond-true (value_at chooser s) _ _ e
 
+      -- where it is false, the lows are 0
       low_off : (s : Scenario) → value_at chooser s ≡ false → (v : ℕ) →
           (if value_at chooser s then max (low_at a s v) (low_at b s v) else 0) ≡ 0
       low_off s e v = cond-false (value_at chooser s) _ _ e
 
+      -- where the chooser is false, the highs are the tops
       high_off : (s : Scenario) → value_at chooser s ≡ false → (v : ℕ) →
           (if value_at chooser s then min (high_at k a s v) (high_at k b s v) else top k v) ≡ top k v
       high_off s e v = cond-false (value_at chooser s) _ _ e

@@ -48,6 +48,7 @@ module _ {T U V : Type 0} (answers : T → U → V → Type 0) (none : V) (space
 
   -- given: a chooser that is a fork
   module _ (v cut : ℕ) (x y : TreeNode Bool) (is : items ≡ flat (Fork v cut x y)) where
+    -- the chooser is the fork
     fork_is : c ≡ Fork v cut x y
     fork_is = flat-same c (Fork v cut x y) (sym are ∙ is)
 

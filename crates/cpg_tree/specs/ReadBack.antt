@@ -29,6 +29,6 @@ paths_on k (n ∷ stack) = paths_of k n
 abbrev pub paths_in : {T : Type 0} → ℕ → List (TreeItem T) → List (List Literal × T)
 paths_in k items = paths_on k (read_back items [])
 
--- the list of a tree each side of each fork of which is met by some scenario of at most k faults
+-- the list of a tree in which some scenario of at most k faults goes to each side of each fork
 abbrev pub IsGoodList : {T : Type 0} → ℕ → List (TreeItem T) → Type 0
 IsGoodList {T} k items = (n : TreeNode T) × (items ≡ flat n) × IsGood k n

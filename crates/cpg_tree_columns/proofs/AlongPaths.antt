@@ -112,6 +112,7 @@ module _ (places : List ℕ) where
 -- ---- so the first fork that parts two paths decides which stands first
 
 module _ (g : Graph) (order places : List ℕ) (are : ArePlaces (variables_along g order) places) (k : ℕ) where
+  -- a cube's lows along the order aren't after another's
   abbrev Stands : List Literal → List Literal → Type 0
   Stands a b = is_below (lows_along g order (low_in b)) (lows_along g order (low_in a)) ≡ false
 

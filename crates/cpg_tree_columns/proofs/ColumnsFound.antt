@@ -89,6 +89,7 @@ module _ (k : ℕ) (space : Space) (is : IsOpenSpace k space) (v cut : ℕ) (the
 
 -- ---- the columns that are found are those of the paths
 
+-- the columns of two lists of paths are those of both
 flat_both : (xs ys : List (Path (Option ℕ))) → columns_of_paths (xs ++ ys) ≡ columns_of_paths xs ++ columns_of_paths ys
 flat_both xs ys = flat_map-append (λ (p : Path (Option ℕ)). column_of p.0 p.1) xs ys
 

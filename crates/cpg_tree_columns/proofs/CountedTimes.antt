@@ -15,16 +15,20 @@ use Rattle.cpg_tree.specs.Tree.{Path}
 use Rattle.cpg_tree_columns.specs.Columns.{column_of, columns_of_paths}
 use Rattle.cpg_tree_columns.specs.Counted.{is_time}
 
+-- the columns of two lists of paths are those of both
 pub both_columns : (xs ys : List (Path (Option ℕ))) →
     columns_of_paths (xs ++ ys) ≡ columns_of_paths xs ++ columns_of_paths ys
 both_columns xs ys = flat_map-append (λ (p : Path (Option ℕ)). column_of p.0 p.1) xs ys
 
+-- how many items are leaves with a time
 abbrev pub times_in : List (TreeItem (Option ℕ)) → ℕ
 times_in items = length (filter is_time items)
 
+-- those of two lists are those of both
 times-append : (xs ys : List (TreeItem (Option ℕ))) → times_in (xs ++ ys) ≡ times_in xs + times_in ys
 times-append xs ys = ap length (filter-append is_time xs ys) ∙ length-append (filter is_time xs) (filter is_time ys)
 
+-- a tree has as many columns as its list has leaves with a time
 pub times_are : (n : TreeNode (Option ℕ)) (k : ℕ) (cube : List Literal) →
     times_in (flat n) ≡ length (columns_of_paths (paths_from k cube n))
 times_are (Leaf (Some time)) k cube = refl

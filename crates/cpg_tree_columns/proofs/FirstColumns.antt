@@ -47,12 +47,15 @@ on_false true h = tt
 on_false false h = h refl
 
 module _ (wanted : ℕ) where
+  -- the column with the time and a cube
   abbrev With : List Literal → Column
   With cube = record { time = wanted; cube = cube }
 
+  -- if the first column has the time, its cube is found
   at_first : (x : Column) (xs : List Column) → x.time ≡ wanted → first_with wanted (x ∷ xs) ≡ Some x.cube
   at_first x xs same = cond-true (x.time == wanted) (Some x.cube) (first_with wanted xs) (eq-eqb _ _ same)
 
+  -- if it hasn't, the search goes on
   past_first : (x : Column) (xs : List Column) → x.time ≢ wanted → first_with wanted (x ∷ xs) ≡ first_with wanted xs
   past_first x xs differs = cond-false (x.time == wanted) (Some x.cube) (first_with wanted xs) (ne_eqb _ _ differs)
 
@@ -80,6 +83,7 @@ module _ (wanted : ℕ) where
 
   module _ (k : ℕ) (cube : List Literal) (v cut : ℕ) (below upper node : TreeNode (Option ℕ))
       (is : node ≡ Fork v cut below upper) where
+    -- the columns of the side below, if scenarios of the cube go there
     of_below : (low : List Literal) → with_literal (up_to v cut) cube ≡ Some low →
         option_map_or (λ c. columns_from k c below) (with_literal (up_to v cut) cube) [] ≡ columns_from k low below
     of_below low e = ap (λ (o : Option (List Literal)). option_map_or (λ c. columns_from k c below) o []) e
@@ -124,6 +128,7 @@ module _ (wanted : ℕ) where
   -- ---- at a leaf
 
   module _ (k : ℕ) (cube : List Literal) (x : Option ℕ) (node : TreeNode (Option ℕ)) (is : node ≡ Leaf x) where
+    -- the columns of a leaf are those of its value
     leaf_is : first_with wanted (columns_from k cube node) ≡ first_with wanted (column_of cube x)
     leaf_is = ap (λ (n : TreeNode (Option ℕ)). first_with wanted (columns_from k cube n)) is
 
@@ -154,6 +159,7 @@ module _ (wanted : ℕ) where
 
   -- ---- which it is
 
+  -- the cube that is found is that of a column
   is_there : (xs : List Column) (cube : List Literal) → first_with wanted xs ≡ Some cube → Contains xs (With cube)
   is_there [] cube e = absurd (none-some cube e)
   is_there (x ∷ xs) cube e = elim (cases_eq x.time wanted) [
@@ -175,6 +181,7 @@ module _ (wanted : ℕ) where
   ]
 
   module _ (g : Graph) (order : List ℕ) where
+    -- a column's lows along the order aren't after another's
     abbrev Stands : Column → Column → Type 0
     Stands c d = is_below (lows_along g order (low_in d.cube)) (lows_along g order (low_in c.cube)) ≡ false
 
@@ -200,6 +207,7 @@ module _ (wanted : ℕ) where
 -- ---- the scenarios of paths
 
 module _ (g : Graph) (paths : List (Path (Option ℕ))) (wanted : ℕ) where
+  -- if no column with the time is found, no path has it
   no_path : first_with wanted (columns_of_paths paths) ≡ None → (p : Path (Option ℕ)) → Contains paths p →
       p.1 ≢ Some wanted
   no_path none p c e = nowhere wanted (columns_of_paths paths) none (record { time = wanted; cube = p.0 })
@@ -230,6 +238,7 @@ module _ (g : Graph) (few : process_count g ≤ 128) (k : ℕ) (node : TreeNode 
     (paths : List (Path (Option ℕ))) (seen : paths ≡ paths_of k node) (same : k ≡ g.faults)
     (known : All (λ (p : Path (Option ℕ)). IsKnown g p.0) paths)
     (wanted : ℕ) (cube : List Literal) (first : first_with wanted (columns_of_paths paths) ≡ Some cube) where
+  -- the columns of the paths are tidy
   tidy : All (IsTidyColumn g) (columns_of_paths paths)
   tidy =
       let is : paths ≡ paths_of g.faults node = seen ∙ ap (λ (m : ℕ). paths_of m node) same in
@@ -238,9 +247,11 @@ module _ (g : Graph) (few : process_count g ≤ 128) (k : ℕ) (node : TreeNode 
       (subst (All (λ (p : Path (Option ℕ)). IsKnown g p.0)) is known) (columns_of_paths (paths_of g.faults node))
       (IsPermutation-refl (columns_of_paths (paths_of g.faults node))))
 
+  -- each column is tidy
   tidy_at : (d : Column) → Contains (columns_of_paths paths) d → IsTidyColumn g d
   tidy_at d c = All-contains (IsTidyColumn g) (columns_of_paths paths) d tidy c
 
+  -- the column that is found is one of the paths'
   here : Contains (columns_of_paths paths) (record { time = wanted; cube = cube })
   here = is_there wanted (columns_of_paths paths) cube first
 

@@ -28,6 +28,7 @@ least_of_column g few c tidy order = lows-least g few c.cube tidy.cube tidy.met 
 
 -- ---- paths and columns
 
+-- a path with a time has a column
 of_time : (cube : List Literal) (time : ℕ) → Contains (column_of cube (Some time)) (record { time = time; cube = cube })
 of_time cube time = Contains-first (record { time = time; cube = cube }) []
 
@@ -74,9 +75,11 @@ module _ (paths : List (Path (Option ℕ))) (columns : List Column)
       (all : IsPermutation (numbers_below (process_count g)) order) (tidy : All (IsTidyColumn g) columns)
       (at : ℕ) (first : IsFirstByLows (λ (c : Column). c.cube) g order columns at) (c : Column)
       (is : get_or columns at c ≡ c) where
+    -- the column is one of them
     here : Contains columns c
     here = subst (Contains columns) is (Contains-get_or columns at c first.there)
 
+    -- each column is tidy
     tidy_at : (d : Column) → Contains columns d → IsTidyColumn g d
     tidy_at d j = All-contains (IsTidyColumn g) columns d tidy j
 

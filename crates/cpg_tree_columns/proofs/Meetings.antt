@@ -40,20 +40,25 @@ use Rattle.cpg_tree_columns.proofs.TidyColumns.{sum_by_fewer}
 
 -- ---- the scenario of the lows
 
+-- a space that is open for a graph is open for its faults
 as_open : (g : Graph) (space : Space) → IsOpenSpaceOf g space → IsOpenSpace g.faults space
 as_open g space is = record { lows = is.lows; highs = is.highs; opens = is.opens; tops = is.tops; budget = is.budget }
 
 -- given: an open space of a graph
 module _ (g : Graph) (few : process_count g ≤ 128) (space : Space) (is : IsOpenSpaceOf g space) where
+  -- the low of a variable
   abbrev low : ℕ → ℕ
   low v = get_or space.low v 0
 
+  -- the scenario with the lows of the space
   abbrev lowest : Scenario
   lowest = scenario_of g low
 
+  -- it is a scenario of the graph
   lawful : IsScenario g lowest
   lawful = made_lawful g few low (omega (arith, is.budget, sum_by_fewer low (process_count g) 128 few))
 
+  -- its number at a variable of the graph is the low
   known_number : (v : ℕ) → v < 256 → IsVariable g v → number_of lowest v ≡ low v
   known_number v l h = made_number g few low v h (omega (arith, is.opens v l, is.tops v l))
 
@@ -73,12 +78,14 @@ module _ (g : Graph) (few : process_count g ≤ 128) (space : Space) (is : IsOpe
         ]))
   ]
 
+  -- the lowest scenario's number at any variable is the low
   number_is : (v : ℕ) → v < 256 → number_of lowest v ≡ low v
   number_is v l = elim (variable_or_not g v) [
     | inl h ↦ known_number v l h
     | inr none ↦ other_number v none ∙ sym (is.known v none)
   ]
 
+  -- a count that is at its low is beyond it by nothing
   nothing_beyond : (f low number : ℕ) → number ≡ f → number ≡ low → f - low ≡ 0
   nothing_beyond f low number a b = omega (arith, a, b)
 
@@ -165,9 +172,11 @@ module _ (space : Space) (lows : length space.low ≡ 256) (highs : length space
       at : cut < number_of s v
       at = omega (arith, lies.low v there, set_same space.low v (cut + 1) v (omega (arith, lows, there)) refl)
 
+      -- two changes of a sum, of which one is known
       turned : (new old a b c : ℕ) → new + b ≡ old + a → b ≡ c → new + c ≡ old + a
       turned new old a b c e f = omega (arith, e, f)
 
+      -- a sum that stays is still covered by what is left
       as_much : (new old left less : ℕ) → new ≡ old → old ≤ left - less → less ≡ 0 → new ≤ left
       as_much new old left less e h z = omega (arith, e, h, z)
 
@@ -177,9 +186,11 @@ module _ (space : Space) (lows : length space.low ≡ 256) (highs : length space
 module _ (g : Graph) (space : Space) (v cut : ℕ) (there : v < 256) (known : IsVariable g v) (is : IsOpenSpaceOf g space)
     (under : is_open_below space v cut ≡ true)
     (over : is_open_above space v cut ≡ true) where
+  -- the low isn't above the cut
   at_low : get_or space.low v 0 ≤ cut
   at_low = leb-true (get_or space.low v 0) cut under
 
+  -- the faults that are left cover the step above the cut
   allowed : v < 128 → cut + 1 - get_or space.low v 0 ≤ space.left
   allowed l = elim (or_cases (nat_le 128 v) (nat_lt cut (get_or space.low v 0 + space.left))
       (and_parts (nat_lt cut (get_or space.high v 0)) _ over).1) [
@@ -187,6 +198,7 @@ module _ (g : Graph) (space : Space) (v cut : ℕ) (there : v < 256) (known : Is
         | inr h ↦ omega (arith, ltb-true cut (get_or space.low v 0 + space.left) h)
       ]
 
+  -- the space below the cut is open for the graph
   open_of_below : IsOpenSpaceOf g (below_cut space v cut)
   open_of_below =
       let r = opens_below g.faults space (as_open g space is) v cut there under over in
@@ -206,10 +218,12 @@ module _ (g : Graph) (space : Space) (v cut : ℕ) (there : v < 256) (known : Is
             ∙ is.known u none;
       }
 
+  -- a scenario below the cut lies in the space, and its number is at most the cut
   in_below : (s : Scenario) → IsInSpace (below_cut space v cut) s → IsInSpace space s × (number_of s v ≤ cut)
   in_below = lies_in_below space is.lows is.highs v cut there
       (omega (arith, ltb-true cut (get_or space.high v 0) (and_parts (nat_lt cut (get_or space.high v 0)) _ over).0))
 
+  -- one above the cut lies in the space, and its number is greater
   in_above : (s : Scenario) → IsInSpace (above_cut space v cut) s → IsInSpace space s × (cut < number_of s v)
   in_above = lies_in_above space is.lows is.highs v cut there at_low allowed
 
@@ -249,9 +263,11 @@ module _ {T U V W : Type 0} (node : TreeNode T) (other : TreeNode U) (part : Tre
 
 -- ---- whether a tree is true in some scenario
 
+-- a tree of truth values is true in some scenario of a space
 abbrev pub IsTrueIn : Space → TreeNode Bool → Type 0
 IsTrueIn space node = IsMetIn space node node (λ s. value_at node s ≡ true)
 
+-- a tree of truth values is true in no scenario of a space
 abbrev pub IsNeverIn : Space → TreeNode Bool → Type 0
 IsNeverIn space node = (s : Scenario) → IsInSpace space s → value_at node s ≡ false
 
@@ -279,17 +295,21 @@ module _ (space : Space) where
 -- given: a fork of a tree of truth values
 module _ (v cut : ℕ) (there : v < 256) (low high node : TreeNode Bool) (is : node ≡ Fork v cut low high)
     (space : Space) where
+  -- up to the cut the tree has the values of its side below
   low_is : (s : Scenario) → number_of s v ≤ cut → value_at node s ≡ value_at low s
   low_is s h = ap (λ (n : TreeNode Bool). value_at n s) is ∙ value_below v cut low high s h
 
+  -- above the cut the tree has the values of its side above
   high_is : (s : Scenario) → cut < number_of s v → value_at node s ≡ value_at high s
   high_is s h = ap (λ (n : TreeNode Bool). value_at n s) is ∙ value_above v cut low high s h
 
+  -- the forks of the side below are on variables of the graph
   low_parts : (g : Graph) → AreForksOf g node node → IsVariable g v × AreForksOf g low low
   low_parts g forks =
       let r = passes_parts (is_variable g) v cut low high node is forks.first in
       (variable_from g v r.0, record { few = forks.few; first = r.1; second = r.1 })
 
+  -- the forks of the side above are on variables of the graph
   high_parts : (g : Graph) → AreForksOf g node node → IsVariable g v × AreForksOf g high high
   high_parts g forks =
       let r = passes_parts (is_variable g) v cut low high node is forks.first in
@@ -310,6 +330,7 @@ module _ (v cut : ℕ) (there : v < 256) (low high node : TreeNode Bool) (is : n
       IsNeverIn space node
   never_low only none s lies = low_is s (only s lies) ∙ none s lies
 
+  -- if the side above is true in no scenario, and all are above, the tree is in none
   pub never_high : ((s : Scenario) → IsInSpace space s → cut < number_of s v) → IsNeverIn space high →
       IsNeverIn space node
   never_high only none s lies = high_is s (only s lies) ∙ none s lies
@@ -321,6 +342,7 @@ module _ (v cut : ℕ) (there : v < 256) (low high node : TreeNode Bool) (is : n
     true_below = met_below node node low low space v cut there low_parts (λ s. value_at node s ≡ true)
         (λ s. value_at low s ≡ true) under over (λ s h e. low_is s h ∙ e)
 
+    -- if the side above is true in some scenario above, the tree is in some
     pub true_above : IsTrueIn (above_cut space v cut) high → IsTrueIn space node
     true_above = met_above node node high high space v cut there high_parts (λ s. value_at node s ≡ true)
         (λ s. value_at high s ≡ true) under over (λ s h e. high_is s h ∙ e)
@@ -336,6 +358,7 @@ module _ (v cut : ℕ) (there : v < 256) (low high node : TreeNode Bool) (is : n
 
 -- ---- the greatest number of a tree where another one is true
 
+-- nothing is both true and false
 not_both : true ≡ false → ⊥
 not_both e = cc
 
@@ -385,17 +408,21 @@ most_leaf space node wanted (Some number) best is some met = record {
 -- given: a fork, and another tree
 module _ (v cut : ℕ) (there : v < 256) (low high node : TreeNode (Option ℕ)) (is : node ≡ Fork v cut low high)
     (wanted : TreeNode Bool) (space : Space) where
+  -- up to the cut the tree has the values of its side below
   low_value : (s : Scenario) → number_of s v ≤ cut → value_at node s ≡ value_at low s
   low_value s h = ap (λ (n : TreeNode (Option ℕ)). value_at n s) is ∙ value_below v cut low high s h
 
+  -- above the cut the tree has the values of its side above
   high_value : (s : Scenario) → cut < number_of s v → value_at node s ≡ value_at high s
   high_value s h = ap (λ (n : TreeNode (Option ℕ)). value_at n s) is ∙ value_above v cut low high s h
 
+  -- the forks of the side below are on variables of the graph
   low_forks : (g : Graph) → AreForksOf g node wanted → IsVariable g v × AreForksOf g low wanted
   low_forks g forks =
       let r = passes_parts (is_variable g) v cut low high node is forks.first in
       (variable_from g v r.0, record { few = forks.few; first = r.1; second = forks.second })
 
+  -- the forks of the side above are on variables of the graph
   high_forks : (g : Graph) → AreForksOf g node wanted → IsVariable g v × AreForksOf g high wanted
   high_forks g forks =
       let r = passes_parts (is_variable g) v cut low high node is forks.first in
@@ -457,6 +484,7 @@ module _ (v cut : ℕ) (there : v < 256) (low high node : TreeNode (Option ℕ))
       go_low (Some n) f = met_below node wanted low wanted space v cut there low_forks (ComesTo node wanted n)
           (ComesTo low wanted n) under over (λ s h c. (low_value s h ∙ c.0, c.1)) f
 
+      -- what is found above the cut is found in the whole
       go_high : (o : Option ℕ) → IsFoundIn (above_cut space v cut) high wanted o → IsFoundIn space node wanted o
       go_high None f = absurd f
       go_high (Some n) f = met_above node wanted high wanted space v cut there high_forks (ComesTo node wanted n)
@@ -487,18 +515,22 @@ module _ (k : ℕ) (node : TreeNode (Option ℕ)) (wanted : TreeNode Bool) (good
     (good_too : IsGood k wanted) (space : Space) (whole : IsWhole k space)
     (all : (s : Scenario) → HasAtMostFaults k s → IsInSpace space s) (o : Option ℕ)
     (most : IsMostInSpace space node wanted None o) where
+  -- the tree with the numbers, as callers see it
   abbrev tree : TreeState (Option ℕ)
   tree = state k node
 
+  -- the tree that chooses, as callers see it
   abbrev chooser : TreeState Bool
   chooser = state k wanted
 
+  -- a scenario that has the number where the chooser is true comes to it in both trees
   comes : (s : Scenario) (n : ℕ) → HasWhere tree chooser n s → ComesTo node wanted n s
   comes s n w = (
     (value_path k node good s).of_path w.has.0 w.has.1 ∙ w.has.2,
     (value_path k wanted good_too s).of_path w.there.0 w.there.1 ∙ w.there.2,
   )
 
+  -- a scenario of few faults that comes to a number in both trees has it where the chooser is true
   seen : (s : Scenario) (n : ℕ) → HasAtMostFaults k s → ComesTo node wanted n s → HasWhere tree chooser n s
   seen s n few c =
       let x = the_path k (paths_of k node) (one_path k node good) s few in
@@ -549,9 +581,11 @@ module _ (first : TreeState (Option ℕ)) (second : TreeState Bool) (node : Tree
     is_first : state first.faults node ≡ first
     is_first = state_seen first node paths
 
+    -- the chooser is good for the first tree's faults
     good_there : IsGood first.faults wanted
     good_there = subst (λ m. IsGood m wanted) (sym same) good_too
 
+    -- the chooser is the second tree that callers see
     is_there : state first.faults wanted ≡ second
     is_there = ap (λ m. state m wanted) same ∙ state_seen second wanted paths_too
 

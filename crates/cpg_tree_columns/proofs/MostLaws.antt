@@ -32,11 +32,13 @@ abbrev IsUnder : Option ℕ → ℕ → Type 0
 IsUnder None n = ⊥
 IsUnder (Some m) n = n ≤ m
 
+-- what is at most the first of two numbers is at most the greater
 under_left : (a b : Option ℕ) (n : ℕ) → IsUnder a n → IsUnder (greater a b) n
 under_left None b n h = absurd h
 under_left (Some x) None n h = h
 under_left (Some x) (Some y) n h = omega (arith, h)
 
+-- what is at most the second of two numbers is at most the greater
 under_right : (a b : Option ℕ) (n : ℕ) → IsUnder b n → IsUnder (greater a b) n
 under_right None b n h = h
 under_right (Some x) None n h = absurd h
@@ -171,6 +173,7 @@ greatest_of g order k node m most s least =
 
 -- ---- the tree of one number alone
 
+-- the number that is wanted is kept
 if_wanted_same : (m : ℕ) → if_wanted m (Some m) ≡ Some m
 if_wanted_same m = cond-true (m == m) (Some m) None (eq-eqb m m refl)
 
@@ -192,9 +195,11 @@ module _ (g : Graph) (node : TreeNode (Option ℕ)) (good : IsGood g.faults node
       paths = paths_of g.faults node;
     } ≡ all)
     (each : HasOnePathEach g.faults only.paths) (map : IsMap (λ x z. z ≡ if_wanted m x) all only) where
+  -- a scenario of the graph has few enough faults
   few : (s : Scenario) → IsScenario g s → HasAtMostFaults all.faults s
   few s law = subst (λ n. HasAtMostFaults n s) (ap (λ (t : TreeState (Option ℕ)). t.faults) is) (scenario_few g s law)
 
+  -- each scenario of the graph is on a path
   path_of : (s : Scenario) → IsScenario g s → (x : Path (Option ℕ)) × IsOnPath all.paths s x
   path_of s law =
       the_path g.faults all.paths (λ u f. subst (λ (t : TreeState (Option ℕ)). length (filter (is_on u) t.paths) ≡ 1) is

@@ -30,7 +30,7 @@ few_from (m ∷ ms) a n r h =
           (λ l c. (omega (arith, rising_first m l ms r c), (h l (Contains-rest m ms l c)).1)),
     )
 
--- literals with rising variables below a number are no more than the number
+-- rising literals on variables below n are at most n
 pub few_below : (cube : List Literal) (n : ℕ) → IsRising cube → All (λ l. l.variable < n) cube → length cube ≤ n
 few_below cube n r all = omega
     (arith, few_from cube 0 n r (λ l c. (omega arith, All-contains (λ (x : Literal). x.variable < n) cube l all c)))
@@ -61,7 +61,7 @@ module _ (l : Literal) (small : l.variable < 256) where
         ]
   ]
 
-  -- so the narrowed cube is a path
+  -- a path that is narrowed is a path
   pub path_narrowed : (cube : List Literal) → IsPath cube → IsPath (narrowed_by l cube)
   path_narrowed cube is = record {
     rising = rising-narrowed l cube is.rising;
@@ -69,17 +69,17 @@ module _ (l : Literal) (small : l.variable < 256) where
         (get_or (narrowed_by l cube) i d) (Contains-get_or (narrowed_by l cube) i d h);
   }
 
-  -- and has at most 256 literals
+  -- a path that is narrowed has at most 256 literals
   pub few_narrowed : (cube : List Literal) → IsPath cube → length (narrowed_by l cube) ≤ 256
   few_narrowed cube is = let n = path_narrowed cube is in few_below (narrowed_by l cube) 256 n.rising n.small
 
-  -- so there is room for one more
+  -- if no literal is on the variable or above, there is room for one more
   pub room_last : (cube : List Literal) → IsPath cube → position (from_variable l.variable) cube ≡ None →
       length cube < 256
   room_last cube is e =
       omega (arith, few_narrowed cube is, ap length (narrowed-last l cube e), length-append cube (l ∷ []))
 
-  -- the same if it goes before a literal on a higher variable
+  -- if no literal is on the variable, there is room for one
   pub room_in : (cube : List Literal) (i : ℕ) (d : Literal) → IsPath cube → i < length cube →
       IsPlace l.variable cube i → ((slice_index_or cube i d).variable ≡ l.variable → ⊥) →
       length cube < 256

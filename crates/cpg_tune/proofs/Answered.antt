@@ -10,6 +10,7 @@ use Rattle.cpg_tune.specs.declared.judge.Judged.{Judged}
 use Rattle.cpg_tune.specs.declared.judge.Judged.TheVariants.{Wide}
 use Rattle.cpg_tune.specs.Tuned.{AreAnswers, row_at}
 
+-- one more answer, for the next number of faults
 pub answers_push : (answers : Graph → Judged → Type 0) (g : Graph) (count : ℕ) (judged : List Judged) (next : Judged) →
     AreAnswers answers g count judged → answers (with_fault_number g count) next →
     AreAnswers answers g (count + 1) (judged ++ next ∷ [])
@@ -24,13 +25,16 @@ answers_push answers g count judged next are new = record {
     last : answers (with_fault_number g count) (row_at (judged ++ next ∷ []) count)
     last = subst (answers (with_fault_number g count)) (sym (get_or_push judged next (Wide 0) count are.long)) new
 
+    -- the answers before are as they were
     here : (faults : ℕ) → faults < count → row_at (judged ++ next ∷ []) faults ≡ row_at judged faults
     here faults before =
         get_or_append_left judged (next ∷ []) (Wide 0) faults (let long = are.long in omega (arith, before, long))
 
+    -- each answer from before is right
     earlier : (faults : ℕ) → faults < count → answers (with_fault_number g faults) (row_at (judged ++ next ∷ []) faults)
     earlier faults before =
         subst (answers (with_fault_number g faults)) (sym (here faults before)) (are.each faults before)
 
+    -- the new answer is right for its number of faults
     later : (faults : ℕ) → count ≡ faults → answers (with_fault_number g faults) (row_at (judged ++ next ∷ []) faults)
     later faults same = subst (λ k. answers (with_fault_number g k) (row_at (judged ++ next ∷ []) k)) same last

@@ -60,10 +60,12 @@ first_next d n best h = go (nat_lt (d (n + 1)) (d best)) refl
           first = h.first;
         }
 
+-- choosing between equal numbers gives that number
 same_either : (b : Bool) (x : ℕ) → cond b x x ≡ x
 same_either true x = refl
 same_either false x = refl
 
+-- of one number of parts alone, 1 lasts least
 one_first : (d : ℕ → ℕ) → IsFirstLeast d 1 1
 one_first d = record {
   some = omega arith;
@@ -147,9 +149,11 @@ module _ (p : Process) (faults : ℕ) where
 
   -- one more number of parts, which lasts less than the best so far, or doesn't
   module _ (best parts : ℕ) (some : 1 ≤ parts) (is : best ≡ fewest (parts - 1)) where
+    -- the fewest parts up to this number are the shorter of the best before and this one
     next_is : fewest parts ≡ shorter p faults best parts
     next_is = fewest_next (parts - 1) parts (omega (arith, some)) ∙ ap (λ b. shorter p faults b parts) (sym is)
 
+    -- the number before the next is the number
     again : fewest parts ≡ fewest (parts + 1 - 1)
     again = let e : parts ≡ parts + 1 - 1 = omega arith in ap fewest e
 

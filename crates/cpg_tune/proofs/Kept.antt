@@ -51,26 +51,33 @@ alike (p ∷ ps) (n ∷ parts) zero d e = record { node = refl; join = refl }
 alike (p ∷ ps) (n ∷ parts) (suc i) d e = alike ps parts i d (omega (arith, e))
 
 module _ (g : Graph) (parts : List ℕ) (faults : ℕ) (one_each : length parts ≡ process_count g) where
+  -- the retuned graph
   abbrev h : Graph
   h = retuned g parts faults
 
+  -- each process stays on its node
   node_same : (p : ℕ) → node_of h p ≡ node_of g p
   node_same p = (alike g.processes parts p _ one_each).node
 
+  -- each process is a join, or none, as before
   join_same : (p : ℕ) → (process_at h p).join ≡ (process_at g p).join
   join_same p = (alike g.processes parts p _ one_each).join
 
+  -- there are as many processes
   processes_same : process_count h ≡ process_count g
   processes_same = count_same g parts faults one_each
 
+  -- there are as many conditions
   conditions_same : condition_count h ≡ condition_count g
   conditions_same = ap length (disjunctions_same g parts faults one_each)
 
+  -- of the same processes
   process_of_same : (c : ℕ) → process_of h c ≡ process_of g c
   process_of_same c = ap (λ ps. get_or ps c 0) (disjunctions_same g parts faults one_each)
 
   -- ---- activity
 
+  -- the value of a process is the same
   value_same : (values : List Bool) (p : ℕ) → value_of h values p ≡ value_of g values p
   value_same values p = ap (λ ps. get_or values (unwrap_or (position (λ q. q == p) ps) 0) false)
       (disjunctions_same g parts faults one_each)
@@ -86,30 +93,36 @@ module _ (g : Graph) (parts : List ℕ) (faults : ℕ) (one_each : length parts 
       (λ e among. ap₂ (λ a value. is_active a && takes (edge_at g e).when value) (within_same depth values (source g e))
       (value_same values (source g e)))
 
+  -- the activation of a process is the same
   activation_same : (values : List Bool) (p : ℕ) → activation h values p ≡ activation g values p
   activation_same values p =
       ap (λ n. activation_within n h values p) processes_same ∙ within_same (process_count g) values p
 
+  -- the same edges are live
   live_same : (values : List Bool) (e : ℕ) → live h values e ≡ live g values e
   live_same values e = ap₂ (λ a value. is_active a && takes (edge_at g e).when value)
       (activation_same values (source g e)) (value_same values (source g e))
 
   -- ---- tracks and joins
 
+  -- the same processes of conditions are active
   active_same : (o : List Bool) (c : ℕ) → active h o (process_of h c) ≡ active g o (process_of g c)
   active_same o c = ap is_active (activation_same o (process_of h c)) ∙ ap (λ p. active g o p) (process_of_same c)
 
+  -- the same outcomes are tracks
   track_same : (o : List Bool) → is_track h o ≡ is_track g o
   track_same o =
       ap (λ n. list_all (λ c. not (get_or o c false) || active h o (process_of h c)) (numbers_below n)) conditions_same
       ∙ same_all _ _ (numbers_below (condition_count g))
       (λ c among. ap (λ b. not (get_or o c false) || b) (active_same o c))
 
+  -- there are as many tracks
   tracks_same : track_count h ≡ track_count g
   tracks_same =
       ap (λ n. length (filter (is_track h) (outcomes n))) conditions_same
       ∙ ap length (same_filter (is_track h) (is_track g) (outcomes (condition_count g)) (λ o among. track_same o))
 
+  -- single joins stay so
   joins_same : HasSingleJoins g → HasSingleJoins h
   joins_same single p values l join long =
       subst (λ n. n ≤ 1)
@@ -118,23 +131,28 @@ module _ (g : Graph) (parts : List ℕ) (faults : ℕ) (one_each : length parts 
 
   -- ---- slots and sizes
 
+  -- the same edges are messages
   message_same : (e : ℕ) → is_message h e ≡ is_message g e
   message_same e = ap₂ (λ a b. not (a == b)) (node_same (source g e)) (node_same (edge_at g e).to)
 
+  -- the items have the same numbers
   item_same : (x : ℕ) → item_at h x ≡ item_at g x
   item_same x = ap (λ n. if nat_lt x n then Start x else if nat_lt x (n + edge_count g) then Message (x - n)
       else Broadcast (x - n - edge_count g)) processes_same
 
+  -- the same items are sent
   sent_same : (i : Item) → is_sent_item h i ≡ is_sent_item g i
   sent_same (Start p) = refl
   sent_same (Message e) = message_same e
   sent_same (Broadcast c) = refl
 
+  -- by the same processes
   producer_same : (i : Item) → producer_of_item h i ≡ producer_of_item g i
   producer_same (Start p) = refl
   producer_same (Message e) = refl
   producer_same (Broadcast c) = process_of_same c
 
+  -- of the same nodes
   home_same : (x : ℕ) → home h x ≡ home g x
   home_same x =
       node_same (producer h x) ∙ ap (node_of g) (ap (producer_of_item h) (item_same x) ∙ producer_same (item_at g x))
@@ -143,12 +161,14 @@ module _ (g : Graph) (parts : List ℕ) (faults : ℕ) (one_each : length parts 
   pub items_same : item_count h ≡ item_count g
   items_same = ap₂ (λ n c. n + edge_count g + c) processes_same conditions_same
 
+  -- all senders have slots still
   slots_same : HasSenderSlots g → HasSenderSlots h
   slots_same senders x l sent =
       subst (λ n. list_any (λ (s : Slot). s.node == n) g.slots ≡ true) (sym (home_same x))
       (senders x (subst (λ n. x < n) items_same l)
       (sym (ap (is_sent_item h) (item_same x) ∙ sent_same (item_at g x)) ∙ sent))
 
+  -- all frames fit still
   sizes_same : AllFit g → AllFit h
   sizes_same fit e l =
       ap₂ (λ m node. m && nat_lt (slot_bytes g node) (edge_at g e).size) (message_same e) (node_same (source g e))
@@ -166,6 +186,7 @@ module _ (g : Graph) (parts : List ℕ) (faults : ℕ) (one_each : length parts 
     forward = top.forward;
   }
 
+  -- an order that the graph gives stays topological
   given_same : GivesTopological g → GivesTopological h
   given_same = go g.order
     where

@@ -24,12 +24,14 @@ last_from from found (row ∷ rows) =
     none_later h zero a b = absurd (omega (arith, a))
     none_later h (suc m) a b = h m (omega (arith, b))
 
+    -- if no row behind a place is accepted, none is with one more row in front
     none_after : (k : ℕ) → ((m : ℕ) → k < m → m < length rows → is_accepted (row_at rows m) ≡ false) → (m : ℕ) →
         suc k < m → m < suc (length rows) →
         is_accepted (row_at (row ∷ rows) m) ≡ false
     none_after k h zero a b = absurd (omega (arith, a))
     none_after k h (suc m) a b = h m (omega (arith, a)) (omega (arith, b))
 
+    -- if no row is accepted, none is with one more that isn't
     none_here : is_accepted row ≡ false → ((k : ℕ) → k < length rows → is_accepted (row_at rows k) ≡ false) → (m : ℕ) →
         m < suc (length rows) →
         is_accepted (row_at (row ∷ rows) m) ≡ false

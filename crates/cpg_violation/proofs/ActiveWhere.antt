@@ -22,6 +22,7 @@ use Rattle.cpg_violation.proofs.Tests.{with_true}
 
 -- ---- a value's literal
 
+-- a value has the number of another exactly if it is that value
 same_value : (b v : Bool) →
     (nat_le (number_of_value b) (number_of_value v) && nat_le (number_of_value v) (number_of_value b)) ≡ same_bool b v
 same_value true true = refl
@@ -37,6 +38,7 @@ value_holds s c b = ap (λ n. nat_le (number_of_value b) n && nat_le n (number_o
 
 -- ---- the steps
 
+-- one of the two arms of a test has what is wanted exactly if the arm that the value chooses has it
 of_arms : (v m : Bool) (wanted : Bool) (off on : Activation) →
     ((same_bool false v && (m && same_bool wanted (is_active off)))
     || (same_bool true v && (m && same_bool wanted (is_active on)))) ≡
@@ -44,10 +46,12 @@ of_arms : (v m : Bool) (wanted : Bool) (off on : Activation) →
 of_arms true m wanted off on = refl
 of_arms false m wanted off on = or-false (m && same_bool wanted (is_active off))
 
+-- the first part of a conjunction put in front of the others together
 moved : (h m n x : Bool) → (((h && m) && n) && x) ≡ (h && ((m && n) && x))
 moved true m n x = refl
 moved false m n x = refl
 
+-- if two parts don't hold together, nothing holds with them
 never : (h m n x : Bool) → (h && m) ≡ false → (h && ((m && n) && x)) ≡ false
 never true m n x e = ap (λ b. (b && n) && x) e
 never false m n x e = refl

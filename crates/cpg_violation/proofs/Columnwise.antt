@@ -13,6 +13,7 @@ use Rattle.cpg_cube.specs.Cube.{matches}
 use Rattle.cpg_cube.specs.declared.column.Column.{Column}
 use Rattle.cpg_violation.specs.Broken.{is_broken}
 
+-- what is common to both sides of a disjunction may be put in front
 both_or : (m a b : Bool) → ((m && a) || (m && b)) ≡ (m && (a || b))
 both_or true a b = refl
 both_or false a b = refl

@@ -46,6 +46,7 @@ same_whole xs ys i h k t = sym (take_all i xs h) ∙ t ∙ take_all i ys k
 -- the elements at one place of two lists, the second of which is mapped
 module _ {X Y : Type 0} (f : Y → X) (xs : List X) (ys : List Y) (i : ℕ) (x : X) (y : Y) (h : i < length xs)
     (k : i < length ys) (is : x ≡ get_or xs i x) (at : y ≡ get_or ys i y) where
+  -- the mapped element at the place
   mapped : get_or (map f ys) i (f y) ≡ f y
   mapped = get_or-map f ys i y (f y) k ∙ ap f (sym at)
 
@@ -54,6 +55,6 @@ module _ {X Y : Type 0} (f : Y → X) (xs : List X) (ys : List Y) (i : ℕ) (x :
   same_more_mapped e t =
       same_more xs (map f ys) i x (f y) h (omega (arith, length-map ys f)) (sym is ∙ e ∙ sym mapped) t
 
-  -- and they differ at the place if the next ones differ
+  -- a list and a mapped one differ at a place if their elements there differ
   pub differ_mapped : x ≢ f y → slice_get xs i ≢ slice_get (map f ys) i
   differ_mapped n = differ_here xs (map f ys) i x (f y) h (omega (arith, length-map ys f)) (λ e. n (is ∙ e ∙ mapped))

@@ -22,6 +22,7 @@ use Rattle.cpg_violation.proofs.ActiveWhere.{value_holds}
 
 -- a test doesn't come to what is wanted if the arms that may be taken don't
 module _ (wanted : Bool) (c : ℕ) (off on : Guard) (s : Scenario) where
+  -- if the arm that the value chooses doesn't come to what is wanted, the test doesn't
   arms : (v : Bool) → get_or s.values c false ≡ v → (v ≡ false → comes_to off wanted s ≡ false) →
       (v ≡ true → comes_to on wanted s ≡ false) →
       comes_to (Test c off on) wanted s ≡ false
@@ -73,13 +74,16 @@ module _ (wanted : Bool) (tree : Guard) (c : ℕ) (off on : Guard) (is : tree �
 -- a process by its tree
 module _ {g : Graph} {order : List ℕ} {guards : Guards} (admitted : IsAdmitted g order guards) (p : ℕ)
     (l : p < process_count g) (s : Scenario) (law : IsScenario g s) where
+  -- the tree of a process says whether it is active
   by_tree : is_active (outcome_at (tree_of guards p) s.values) ≡ active g s.values p
   by_tree = ap is_active ((admitted.guards.trees p l).is s.values law.values)
 
+  -- the same as true is what is true
   same_true : (b : Bool) → same_bool true b ≡ b
   same_true true = refl
   same_true false = refl
 
+  -- what isn't the same as false is true
   same_false : (b : Bool) → same_bool false b ≡ false → b ≡ true
   same_false true e = refl
   same_false false e = sym e
@@ -95,6 +99,7 @@ module _ {g : Graph} {order : List ℕ} {guards : Guards} (admitted : IsAdmitted
 -- the value that an edge asks for
 module _ (g : Graph) (s : Scenario) (p c : ℕ) (when : Option Bool) (value : Bool) (is : condition_of g p ≡ Some c)
     (asks : when ≡ Some value) where
+  -- the value is what the edge asks for if it is the one in the test
   taken_as : takes when (value_of g s.values p) ≡ same_bool value (get_or s.values c false)
   taken_as = ap (λ w. takes w (value_of g s.values p)) asks
       ∙ ap (λ o. same_bool value (get_or s.values (unwrap_or o 0) false)) is
@@ -103,6 +108,7 @@ module _ (g : Graph) (s : Scenario) (p c : ℕ) (when : Option Bool) (value : Bo
   pub taken_of : holds s (value_literal c value) ≡ true → takes when (value_of g s.values p) ≡ true
   taken_of h = taken_as ∙ sym (value_holds s c value) ∙ h
 
+  -- what is the same as one value isn't the same as the other
   other : (v b : Bool) → same_bool (not v) b ≡ true → same_bool v b ≡ false
   other true true e = sym e
   other true false e = refl

@@ -43,6 +43,7 @@ pub hears_of_graph : (g : Graph) (h : Head) → IsHeadFor g h → IsWithinLimits
 hears_of_graph g h k within node l =
     ap (λ (head : Head). hears_of head node) (same_but_extras g h k) ∙ hears_are g within node l
 
+-- the additions of version 2, if a head has them, are those of the processes
 own_extras : (ps : List Process) (plain : Bool) →
     IfSome (cond plain None (Some (map extra_of ps))) (λ extras. extras ≡ map extra_of ps)
 own_extras ps true = tt

@@ -8,6 +8,7 @@ use Rattle.cpg_order.proofs.Acyclic.{source_in_order}
 use Rattle.cpg_rules.specs.Guards.{Guards, AreGuardsOf, is_passed, test_of, active_by, edge_guard, edge_guard_of}
 use Rattle.cpg_rules.proofs.EdgeGuards.{active_by-is, live_by-is}
 
+-- the guard of an edge is the one that the graph gives it
 guard_at : (g : Graph) (order : List ℕ) (guards : Guards) → AreGuardsOf g order guards → (e : ℕ) → e < edge_count g →
     edge_guard guards e ≡ edge_guard_of g e
 guard_at g order guards are e l = ap (λ xs. get_or xs e (record { source = 0; test = None })) are.edges

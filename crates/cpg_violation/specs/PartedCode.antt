@@ -21,6 +21,7 @@ parted_from (inl places ∷ rest) ts = parted_from rest (Leaf places ∷ ts)
 parted_from (inr (v ∷ most ∷ ns) ∷ rest) (above ∷ below ∷ ts) = parted_from rest (Cut v most below above ∷ ts)
 parted_from (inr ns ∷ rest) ts = Leaf []
 
+-- the pieces of a tree are read as the tree
 pub parted_from-pieces : (t : Parted) (rest : List Piece) (ts : List Parted) →
     parted_from (pieces_of t rest) ts ≡ parted_from rest (t ∷ ts)
 parted_from-pieces (Leaf places) rest ts = refl

@@ -24,6 +24,7 @@ pub data Look (w : Text) : Type 0 where
   short : (flags : Text) (c : ℕ) → is_option w ≡ true → bytes_eq w (codes "--") ≡ false → is_turns w ≡ false
       → long_of w ≡ None → short_of w ≡ Some flags → slice_get (chars flags) 0 ≡ Some c → Look w
 
+-- how a word of one byte looks to both
 look_one : (x : ℕ) (b : Bool) → (x == 45) ≡ b → Look (x ∷ [])
 look_one x true e = plain refl (rw e refl) (rw e refl) (rw e refl)
 look_one x false e = plain refl (rw e refl) (rw e refl) (rw e refl)
@@ -38,27 +39,35 @@ first_flag y rest [] e text =
     cc
 first_flag y rest (c ∷ cs) e text = (c, refl)
 
+-- one byte, and then n more
 take_one : (n x : ℕ) (xs : Text) → take (1 + n) (x ∷ xs) ≡ x ∷ take n xs
 take_one n x xs = let e : 1 + n ≡ suc n = omega arith in rw e refl
 
+-- leaving out a byte and then n + 1 more is leaving out n + 1 behind it
 drop_one : (n x : ℕ) (xs : Text) → drop (1 + n + 1) (x ∷ xs) ≡ drop (n + 1) xs
 drop_one n x xs = let e : 1 + n + 1 ≡ suc (n + 1) = omega arith in rw e refl
 
+-- what is before an equals sign, behind a minus
 before_minus : (w : Text) → before_first is_equals (45 ∷ w) ≡ 45 ∷ before_first is_equals w
 before_minus w = take_one (prefix_len (λ x. not (is_equals x)) w) 45 w
 
+-- what is after an equals sign, behind a minus
 after_minus : (w : Text) → after_first is_equals (45 ∷ w) ≡ after_first is_equals w
 after_minus w = drop_one (prefix_len (λ x. not (is_equals x)) w) 45 w
 
+-- a word with two minuses names the turns if what is before its equals sign does
 turns_long : (w : Text) → is_turns (45 ∷ 45 ∷ w) ≡ bytes_eq (codes "turns") (before_first is_equals w)
 turns_long w = rw (before_minus (45 ∷ w), before_minus w) refl
 
+-- what is after the equals sign of a word with two minuses is the value
 value_long : (w : Text) → value_in (45 ∷ 45 ∷ w) ≡ (name_and_value w).1
 value_long w = rw (after_minus (45 ∷ w), after_minus w) refl
 
+-- a byte that isn't a minus, asked the other way around
 not_minus : (y : ℕ) → (y == 45) ≡ false → (45 == y) ≡ false
 not_minus y h = grind (arith, nat_tests)
 
+-- a second byte that isn't a minus makes the word no name of the turns
 other_second : (y : ℕ) (rest : Text) (b : Bool) → (y == 61) ≡ b → (45 == y) ≡ false →
     bytes_eq (codes "-turns") (before_first is_equals (y ∷ rest)) ≡ false
 other_second y rest true e h = rw e refl

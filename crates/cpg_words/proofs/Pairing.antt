@@ -7,6 +7,7 @@ use Rattle.cpg_words.specs.Number.{number}
 use Rattle.cpg_words.specs.Parts.{Text, texts}
 use Rattle.cpg_words.specs.Forms.{pairs_of, with_pair}
 
+-- pairs in front of others, if there are others at all
 abbrev pub joined : List Pair → Option (List Pair) → Option (List Pair)
 joined ps None = None
 joined ps (Some qs) = Some (ps ++ qs)
@@ -24,6 +25,7 @@ joined-more ps n graph (Some qs) = ap Some (append_assoc ps (record { period = n
 
 -- ---- over borrowed texts
 
+-- a rest behind two words is all that is left
 rest_is : (rest : List (Bor Text)) → take (suc (suc (length rest)) - 2) rest ≡ rest
 rest_is rest = let e : suc (suc (length rest)) - 2 ≡ length rest = omega arith in rw e (take-length rest)
 

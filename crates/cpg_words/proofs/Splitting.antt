@@ -25,14 +25,17 @@ abbrev pub is_refused : Option Parts → Bool
 is_refused None = true
 is_refused (Some p) = list_any (λ v. not (is_some (number v))) p.turns
 
+-- what is refused is so with one word more
 refused_positional : (w : Text) (o : Option Parts) → is_refused o ≡ true → is_refused (with_positional w o) ≡ true
 refused_positional w None h = refl
 refused_positional w (Some p) h = h
 
+-- what is refused is so with a number of turns more
 refused_turns : (v : Text) (o : Option Parts) → is_refused o ≡ true → is_refused (with_turns v o) ≡ true
 refused_turns v None h = refl
 refused_turns v (Some p) h = rw h (or-true (not (is_some (number v))))
 
+-- turns that are no number are refused
 refused_value : (v : Text) (o : Option Parts) → number v ≡ None → is_refused (with_turns v o) ≡ true
 refused_value v None e = refl
 refused_value v (Some p) e = rw e refl
@@ -50,9 +53,11 @@ pub record Refused (fault : Kinds) (parts : Option Parts) : Type 0 where
   pub fails : Walking.Fails fault
   pub refused : is_refused parts ≡ true
 
+-- `clap` takes the words as the rule does, or both refuse them
 abbrev pub Verdict : Kinds → List Row → List Row → Option Parts → Type 0
 Verdict fault rows start parts = Taken fault rows start parts ⊎ Refused fault parts
 
+-- equal faults fail alike
 fails_as : (a b : Kinds) → a ≡ b → Walking.Fails b → Walking.Fails a
 fails_as a b e f = subst Walking.Fails (sym e) f
 
@@ -145,10 +150,12 @@ same_verdict fault now rows rows_now start parts parts_now f r p (inr t) =
 
 -- ---- all words
 
+-- whatever was read last, `clap` and the rule agree on the words that are left
 abbrev Reads : List Text → Type 0
 Reads ws = (last : Walking.Last) (rows : List Row) → Verdict (Walking.fault_from (Walking.at false last rows) ws)
     (Walking.rows_from (Walking.at false last rows) ws) (Walking.rows_with last rows) (parts_from false ws)
 
+-- if a value is awaited first, `clap` and the rule agree on the words that are left
 abbrev ReadsValue : List Text → Type 0
 ReadsValue ws = (rows : List Row) → Verdict (Walking.fault_from (Walking.awaiting rows) ws)
     (Walking.rows_from (Walking.awaiting rows) ws) rows (parts_from true ws)
@@ -164,6 +171,7 @@ read_none last rows = inl (record {
   turns = ap (values_in (codes "turns")) (Walking.settled_is last rows) ∙ sym (append-nil _);
 })
 
+-- if no word is left where a value is awaited, both refuse
 read_no_value : ReadsValue []
 unfolding walk_fault
 read_no_value rows = inr (record { fails = tt; refused = refl })

@@ -18,6 +18,7 @@ use Rattle.cpg_words.specs.Line.{sub_app, top_app}
 abbrev pub level : Text → Shape
 level name = built_leaf (inherited (with_leaf_noted (marked_built top_app.top)) (sub_app name).top)
 
+-- the rules of a command, as `clap` has them
 abbrev pub level_rules : List Rule
 level_rules = (level []).rules
 
@@ -27,24 +28,29 @@ pub data Last : Type 0 where
   after_word : Text → Last
   after_turn : Text → Last
 
+-- one more value of an argument, as a row of `clap`'s
 abbrev pub add : Text → Text → List Row → List Row
 add id v = with_values id (reading_of vp.String) CommandLine (v ∷ [])
 
+-- the rows, with what is pending put in
 abbrev pub rows_with : Last → List Row → List Row
 rows_with clear rows = rows
 rows_with (after_word w) rows = add (codes "words") w rows
 rows_with (after_turn v) rows = add (codes "turns") v rows
 
+-- what is pending: the last word or the last number of turns
 abbrev pub pending_of : Last → Option (Text × List Text)
 pending_of clear = None
 pending_of (after_word w) = Some (codes "words", w ∷ [])
 pending_of (after_turn v) = Some (codes "turns", v ∷ [])
 
+-- what the walk waits for: more words, or nothing
 abbrev pub waiting_of : Last → Waiting
 waiting_of clear = idle
 waiting_of (after_word w) = positional
 waiting_of (after_turn v) = idle
 
+-- what the walk holds between two words
 abbrev pub held_of : Last → List Row → Held
 held_of last rows = record { rows = rows; pending = pending_of last; skip = 0 }
 
@@ -63,9 +69,11 @@ awaiting rows = record {
   stopped = None;
 }
 
+-- the walk after one word more
 abbrev pub step_of : Walk → Text → Walk
 step_of w word = walked level_rules [] w word
 
+-- the fault that a word makes
 abbrev pub fault_at : Walk → Text → Kinds
 fault_at w word = turn_fault (level []) [] w word
 

@@ -25,6 +25,7 @@ use Rattle.cpg_words.proofs.Splitting.{AllTexts, reads, is_refused}
 use Rattle.cpg_words.specs.Matches.{values_in}
 use Rattle.cpg_words.proofs.Walking
 
+-- the names of the forms
 abbrev pub form_names : List Form → List Text
 form_names fs = map (λ f. f.0) fs
 
@@ -32,6 +33,7 @@ form_names fs = map (λ f. f.0) fs
 abbrev pub built_top : Shape
 built_top = (built (line_app_of [])).top
 
+-- the program as `clap` has it: a level for each form
 abbrev pub line : List Form → App
 line fs = record { top = record built_top { is_leaf = false }; subs = map Walking.level (form_names fs) }
 
@@ -41,16 +43,19 @@ line_is = refl
 
 -- ---- a command's own level
 
+-- the name of a level makes no difference to what is a fault
 same_walk_fault : (n : Text) (w : Walk) (ws : List Text) →
     walk_fault (Walking.level n) [] w ws ≡ walk_fault (Walking.level []) [] w ws
 unfolding walk_fault
 same_walk_fault n w [] = refl
 same_walk_fault n w (x ∷ xs) = ap (or_else (Walking.fault_at w x)) (same_walk_fault n (Walking.step_of w x) xs)
 
+-- defaults are no fault
 no_default_fault : (rows : List Row) → defaults_fault rows Walking.level_rules ≡ []
 unfolding defaults_fault
 no_default_fault rows = simp or-true refl
 
+-- no fault adds nothing to a fault
 or_else_none : (a : Kinds) → or_else a [] ≡ a
 or_else_none [] = refl
 or_else_none (k ∷ ks) = refl
@@ -70,6 +75,7 @@ level_fault_is n ws =
     (no_default_fault (settled Walking.level_rules end).rows)
     ∙ ap (or_else walk_here) (or_else_none at_end)
 
+-- whether an argument has a row or not, no default adds one
 no_default : (id : Text) (rows : List Row) (b : Bool) → has_row id rows ≡ b → cond (has_row id rows) rows rows ≡ rows
 no_default id rows true e = rw e refl
 no_default id rows false e = rw e refl
@@ -85,9 +91,11 @@ finished_is ws =
 
 -- ---- the command's name
 
+-- the names that `clap` knows
 abbrev pub names_in : List Form → Names
 names_in fs = names_of (line fs)
 
+-- the level that a word names
 abbrev pub level_at : List Form → Text → Option Shape
 level_at fs w = find (λ s. answers_to w (label_of s)) (map Walking.level (form_names fs))
 
@@ -98,6 +106,7 @@ pub record Named (fs : List Form) (w : Text) : Type 0 where
   pub in_names : find (answers_to w) (names_in fs) ≡ Some (w, [])
   pub in_line : level_at fs w ≡ Some (Walking.level w)
 
+-- a word names neither a form nor a level
 pub record Unnamed (fs : List Form) (w : Text) : Type 0 where
   pub in_forms : find (λ f. bytes_eq f.0 w) fs ≡ None
   pub in_names : find (answers_to w) (names_in fs) ≡ None
@@ -119,13 +128,16 @@ named (f ∷ fs) w = name_here f fs w (bytes_eq f.0 w) refl (named fs w)
 
 -- ---- the first word
 
+-- nothing is true together with false
 and_false : (b : Bool) → (b && false) ≡ false
 and_false true = refl
 and_false false = refl
 
+-- the walk before the first word
 abbrev start : Walk
 start = walk_from nothing_held
 
+-- the walk that has come to the name of a level, with the words behind it
 abbrev entering : Text → List Text → Walk
 entering w ws = record start { stopped = Some (w, ws) }
 
@@ -154,6 +166,7 @@ entered_fault_is fs w ws e = ap₂ (λ (k : Kinds) (v : Walk). or_else k (walk_f
     (first_fault fs w e) (first_walked fs w e)
     ∙ stopped_fault (line fs).top (names_in fs) start (w, []) ws
 
+-- the faults at the end of the line, after those before
 abbrev line_end : List Form → Walk → Kinds → Kinds
 line_end fs end before =
     or_else before (or_else (entered_fault (line fs) end.stopped) (or_else (settle_fault [] false end.held)
@@ -245,6 +258,7 @@ no_form : (fs : List Form) (w : Text) (o : Option Parts) → find (λ f. bytes_e
 no_form fs w None e = refl
 no_form fs w (Some p) e = rw e refl
 
+-- the words are a name of a form and words that it takes
 pub record Accepted (fs : List Form) (words : List Text) : Type 0 where
   pub name : Text
   pub rest : List Text
@@ -258,6 +272,7 @@ pub record Accepted (fs : List Form) (words : List Text) : Type 0 where
   pub call : command_in fs words ≡ command_named fs name
       (record { positionals = values_in (codes "words") rows; turns = values_in (codes "turns") rows })
 
+-- `clap` fails on the words, and the rule refuses them
 pub record Rejected (fs : List Form) (words : List Text) : Type 0 where
   pub fails : Walking.Fails (built_fault (line fs) nothing_held words)
   pub refused : command_in fs words ≡ None
@@ -295,6 +310,7 @@ line_reads fs each (w ∷ ws) text = elim (named fs w) [
 
 -- ---- the forms
 
+-- a number that isn't there
 not_number : (o : Option ℕ) → (not (is_some o) || false) ≡ true → o ≡ None
 not_number None e = refl
 not_number (Some n) e = cc
@@ -308,6 +324,7 @@ one_word_refuses f [] (t ∷ ts) h = refl
 one_word_refuses f (a ∷ []) (t ∷ ts) h = refl
 one_word_refuses f (a ∷ b ∷ ps) (t ∷ ts) h = refl
 
+-- a form of two words refuses what is refused
 two_words_refuses : (f : Text → Text → Command) (ps ts : List Text) →
     is_refused (Some (record { positionals = ps; turns = ts })) ≡ true →
     two_words f ps ts ≡ None
@@ -339,6 +356,7 @@ play_refuses (a ∷ b ∷ c ∷ []) [] h = refl
 play_refuses (a ∷ b ∷ c ∷ []) (t ∷ u ∷ ts) h = refl
 play_refuses (a ∷ b ∷ c ∷ []) (t ∷ []) h = rw (not_number (number t) h) refl
 
+-- `trial` refuses what is refused
 trial_refuses : (ps ts : List Text) → is_refused (Some (record { positionals = ps; turns = ts })) ≡ true →
     trial_of ps ts ≡ None
 trial_refuses ps [] h = cc
@@ -346,6 +364,7 @@ trial_refuses [] (t ∷ ts) h = refl
 trial_refuses (a ∷ []) (t ∷ ts) h = refl
 trial_refuses (a ∷ b ∷ ps) (t ∷ ts) h = refl
 
+-- `hyper` refuses what is refused
 hyper_refuses : (ps ts : List Text) → is_refused (Some (record { positionals = ps; turns = ts })) ≡ true →
     hyper_of ps ts ≡ None
 hyper_refuses ps [] h = cc
@@ -375,10 +394,12 @@ forms_refuse = (
 
 -- ---- a name that is none of theirs
 
+-- a word names none of the forms
 abbrev pub NotAmong : List Form → Text → Type 0
 NotAmong [] w = Unit {0}
 NotAmong (f ∷ fs) w = (w ≡ f.0 → ⊥) × NotAmong fs w
 
+-- a form of another name leaves the search to the others
 other_name : (f : Form) (fs : List Form) (w : Text) (p : Parts) (b : Bool) → bytes_eq f.0 w ≡ b → (w ≡ f.0 → ⊥) →
     command_named fs w p ≡ None →
     command_named (f ∷ fs) w p ≡ None

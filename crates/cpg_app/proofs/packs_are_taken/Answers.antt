@@ -1,3 +1,5 @@
+-- Proof of `packs_are_taken`: if memory suffices, the other commands accept the pack that `compile` wrote for a
+-- graph.
 use Rattle.cpg_app.proofs.Joined.{packs_are_taken}
 use Rattle.cpg_app.proofs.packs_are_taken.Goals as goal
 

@@ -1,3 +1,4 @@
+-- Proof of `least_cycles_are_least`: the least time after which tables may be used again is the defined one.
 use Rattle.cpg_cluster.proofs.Cycles.{least_cycles as law}
 use Rattle.cpg_cluster.proofs.least_cycles_are_least.Goals as goal
 

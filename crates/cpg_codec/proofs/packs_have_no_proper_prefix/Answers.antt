@@ -1,3 +1,4 @@
+-- Proof of `packs_have_no_proper_prefix`: no pack is a proper prefix of another.
 use Rattle.cpg_codec.proofs.Theorems.{no_proper_prefix}
 use Rattle.cpg_codec.proofs.packs_have_no_proper_prefix.Goals as goal
 

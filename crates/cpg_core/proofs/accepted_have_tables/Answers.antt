@@ -1,5 +1,8 @@
+-- Proof of `accepted_have_tables`: an accepted graph in which no item is too wide by its views under the first order
+-- has tables with its greatest finish.
 use Rattle.cpg_core.proofs.AcceptedTables.{accepted_have_tables as law}
 use Rattle.cpg_core.proofs.accepted_have_tables.Goals as goal
 
+-- `accepted_have_tables` of `AcceptedTables` says just this
 pub returns : goal.returns
 returns c = law

@@ -1,5 +1,8 @@
+-- Proof of `streams_give_what_is_due`: at the close of the stream, a node that is done in the play has done what is
+-- due.
 use Rattle.cpg_follow_laws.proofs.Follow.{streams_give as law}
 use Rattle.cpg_follow_laws.proofs.streams_give_what_is_due.Goals as goal
 
+-- `streams_give` of `Follow` says just this
 pub returns : goal.returns
 returns c = law

@@ -1,5 +1,8 @@
+-- Proof of `generated_edges_rise`: in the graph of every number edges lead to greater processes alone, so there is no
+-- cycle.
 use Rattle.cpg_gen.proofs.Limits.{edges_rise}
 use Rattle.cpg_gen.proofs.generated_edges_rise.Goals as goal
 
+-- `edges_rise` of `Limits` says just this
 pub returns : goal.returns
 returns c = edges_rise

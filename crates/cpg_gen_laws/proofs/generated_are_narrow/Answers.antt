@@ -1,3 +1,4 @@
+-- Proof of `generated_are_narrow`: nothing is too wide under any order.
 use Rattle.cpg_gen_laws.proofs.Narrow.{narrow}
 use Rattle.cpg_gen_laws.proofs.generated_are_narrow.Goals as goal
 

@@ -1,3 +1,4 @@
+-- Proof of `generated_end_early`: under a topological order no process ends later than 19,720.
 use Rattle.cpg_gen_laws.proofs.Timely.{ends_early}
 use Rattle.cpg_gen_laws.proofs.generated_end_early.Goals as goal
 

@@ -1,3 +1,5 @@
+-- Proof of `generated_have_few_scenarios`: the graph of every number has at most 7,564 scenarios, and no item more
+-- views.
 use Rattle.cpg_gen_laws.proofs.Narrow.{few_scenarios, few_views}
 use Rattle.cpg_gen_laws.proofs.generated_have_few_scenarios.Goals as goal
 

@@ -1,3 +1,4 @@
+-- Proof of `generated_have_no_cycle`: the graph of no number has a cycle.
 use Rattle.cpg_gen_laws.proofs.Kept.{no_cycle}
 use Rattle.cpg_gen_laws.proofs.generated_have_no_cycle.Goals as goal
 

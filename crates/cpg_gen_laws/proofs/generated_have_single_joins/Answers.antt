@@ -1,3 +1,4 @@
+-- Proof of `generated_have_single_joins`: no outcome makes two inputs of the join live.
 use Rattle.cpg_gen_laws.proofs.Kept.{single_joins}
 use Rattle.cpg_gen_laws.proofs.generated_have_single_joins.Goals as goal
 

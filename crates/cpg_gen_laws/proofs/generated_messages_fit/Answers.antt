@@ -1,3 +1,4 @@
+-- Proof of `generated_messages_fit`: each message fits into its sender's slot.
 use Rattle.cpg_gen_laws.proofs.Kept.{all_fit}
 use Rattle.cpg_gen_laws.proofs.generated_messages_fit.Goals as goal
 

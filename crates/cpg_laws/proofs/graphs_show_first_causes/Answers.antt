@@ -1,3 +1,4 @@
+-- Proof of `graphs_show_first_causes`: a graph is refused for its first cause.
 use Rattle.cpg_laws.proofs.Graphs.{graphs_show_first_causes as law}
 use Rattle.cpg_laws.proofs.graphs_show_first_causes.Goals as goal
 

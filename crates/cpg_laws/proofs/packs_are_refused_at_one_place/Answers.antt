@@ -1,3 +1,5 @@
+-- Proof of `packs_are_refused_at_one_place`: bytes are a pack, or are no pack from one place on, at which they are
+-- refused.
 use Rattle.cpg_laws.proofs.Packs.{packs_are_refused_at_one_place as law}
 use Rattle.cpg_laws.proofs.packs_are_refused_at_one_place.Goals as goal
 

@@ -1,3 +1,5 @@
+-- Proof of `runs_keep_what_was_told`: a lawful run that keeps its shelf also keeps the contract over what the shelf
+-- reports.
 use Rattle.cpg_shelf_laws.proofs.Kept.{kept}
 use Rattle.cpg_shelf_laws.proofs.runs_keep_what_was_told.Goals as goal
 

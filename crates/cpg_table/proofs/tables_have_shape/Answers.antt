@@ -1,3 +1,5 @@
+-- Proof of `tables_have_shape`: tables under the head for a graph have a row for each item that a node starts or
+-- sends, and use variables that there are.
 use Rattle.cpg_table.proofs.GraphTables.{has_shape}
 use Rattle.cpg_table.proofs.tables_have_shape.Goals as goal
 

@@ -1,3 +1,4 @@
+-- Loops of `active_faults`: the active numbers of the processes.
 use Rattle.std.proofs.Common.{◌≡◌, map}
 use Rattle.cpg_base.specs.Numbers.{numbers_below}
 use Rattle.cpg_all_runs.specs.Active.{active_fault}

@@ -1,3 +1,5 @@
+-- Loops of `add_faults`: adds the scenario with each count of a process that the graph allows together with the other
+-- counts.
 use Rattle.std.proofs.Common.{◌≡◌, ◌++◌, map}
 use Rattle.cpg_base.specs.Numbers.{numbers_below}
 use Rattle.cpg_all_runs.specs.Listing.{with_fault}

@@ -1,3 +1,4 @@
+-- Proof of `scenarios`: the scenarios of a graph that has at most 16,384 of them, each once.
 use Rattle.std.proofs.Common.{◌∙◌, ap, sym, subst, All, arith}
 use Rattle.cpg_all_runs.specs.Listing.{HasValue, AreScenarios, with_values_below}
 use Rattle.cpg_all_runs.proofs.Listed.{values_first, values_more, all_within, are_scenarios}

@@ -1,3 +1,4 @@
+-- Loops of `scenarios`: the scenarios of a graph that has at most 16,384 of them, each once.
 use Rattle.std.proofs.Common.{◌≡◌}
 use Rattle.cpg_all_runs.specs.Listing.{with_values_below}
 use Rattle.cpg_all_runs.proofs.enumeration.scenarios.Given as goal

@@ -1,3 +1,4 @@
+-- Loops of `spread_values`: each scenario with both values of a condition.
 use Rattle.std.proofs.Common.{◌≡◌, take}
 use Rattle.std.specs.List.{flat_map}
 use Rattle.cpg_all_runs.specs.Listing.{with_both}

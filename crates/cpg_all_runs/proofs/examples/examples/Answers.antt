@@ -1,3 +1,5 @@
+-- Proof of `examples`: the first scenario with each list of active numbers, given the result of `first_alike` for all
+-- scenarios.
 use Rattle.std.proofs.Common.{◌∙◌, List, ◌++◌, ◌∷◌, [], sym, ap, arith}
 use Rattle.std.proofs.lemmas.List.{get_or_default}
 use Rattle.cpg_base.specs.Scenario.{Scenario, zero_scenario}
@@ -13,6 +15,7 @@ loop-at-preserved c g all alike =
     let within = c.loop-at-test.true in
     let shown = c.loop-at.invariant g all alike in
     elim c.if-firsts-at.branch [
+      -- it is the first with its active numbers, and is added
       | then-firsts-at+in_ok-copy+in_ok-push w ↦
           let s = w.index-scenarios-at.result in
           rw w.list-is
@@ -20,6 +23,7 @@ loop-at-preserved c g all alike =
           (w.index-scenarios-at.is ∙ get_or_default list at s (zero_scenario g) within)
           (all.lawful s (at, within, sym w.index-scenarios-at.is)) (◌∙◌ {A = List Scenario} w.in_ok-push.ensures.items
           (ap (λ (r : Scenario). c.loop-at.list.items ++ r ∷ []) w.in_ok-copy.ensures)))
+      -- an earlier one has them, and shows it
       | else-firsts-at w ↦ rw w.list-is
           (examples_kept g at list c.loop-at.list.items shown within c.args.firsts.now alike w.if-firsts-at.false)
     ]

@@ -1,3 +1,5 @@
+-- Loops of `examples`: the first scenario with each list of active numbers, given the result of `first_alike` for all
+-- scenarios.
 use Rattle.cpg_base.specs.Graph.{Graph}
 use Rattle.cpg_all_runs.specs.FirstAlike.{AreFirstAlike}
 use Rattle.cpg_all_runs.specs.Listing.{AreScenarios}

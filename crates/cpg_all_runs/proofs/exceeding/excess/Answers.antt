@@ -1,3 +1,5 @@
+-- Proof of `excess`: the greatest excess over all scenarios of a graph, given all of them and the run of each: how far
+-- an end is past its due at most.
 use Rattle.std.proofs.Common.{◌∙◌, map, length, sym, ap, subst, arith}
 use Rattle.std.proofs.lemmas.List.{get_or_default, length-map}
 use Rattle.cpg_base.specs.Graph.{process_count}
@@ -29,15 +31,18 @@ returns c = λ order frozen topological are.
     let list = c.args.scenarios.now in
     let runs = c.args.runs.now in
     let numbers = c.in_ok-numbers.numbers.items in
+    -- the place as the search found it, said of the graph, its urgency order and the list of excesses
     let at = c.first_greatest-at.result in
     let first : IsFirstGreatest g urgency (length list) list numbers at =
     subst (λ ns. IsFirstGreatest g urgency (length list) list ns at) c.as_slice.ensures.value
     (subst (λ u. IsFirstGreatest g u (length list) list c.as_slice.result.now at) c.order.ensures.order
     (subst (λ h. IsFirstGreatest h c.order.result.now (length list) list c.as_slice.result.now at)
     c.problem-2.ensures.problem c.first_greatest-at.ensures)) in
+    -- the run at that place, and the process that exceeds by most in it
     let t = c.index-runs-at.result in
     let by = c.most_exceeding-process.result in
     let read = c.in_ok-numbers.ensures ∙ ap (λ h. map (excess_in_run h) runs) c.problem.ensures.problem in
+    -- the excess at that place is the greatest, its scenario and process the least that have it
     subst (λ n. IsExcess g urgency order frozen n c.in_ok-scenario.scenario by)
     (sym (c.index.ensures ∙ get_or_default numbers at c.index.result.now 0
     (omega (arith, first.there, ap length read, length-map runs (excess_in_run g), c.requires.count))))

@@ -1,3 +1,4 @@
+-- Loops of `excess_in_run`: the greatest excess of a run.
 use Rattle.std.proofs.Common.{◌≡◌, map}
 use Rattle.cpg_base.specs.Numbers.{greatest, numbers_below}
 use Rattle.cpg_run.specs.Finish.{excess_of}

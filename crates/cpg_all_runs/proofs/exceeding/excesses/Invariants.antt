@@ -1,3 +1,4 @@
+-- Loops of `excesses`: the greatest excess of each run.
 use Rattle.std.proofs.Common.{◌≡◌, map, take}
 use Rattle.cpg_run.specs.Finish.{excess_in_run}
 use Rattle.cpg_all_runs.proofs.exceeding.excesses.Given as goal

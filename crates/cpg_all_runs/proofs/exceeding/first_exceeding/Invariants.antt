@@ -1,3 +1,4 @@
+-- Loops of `first_exceeding`: the first process with this excess.
 use Rattle.std.proofs.Common.{ℕ, ◌<◌, ◌≢◌}
 use Rattle.cpg_run.specs.Finish.{excess_of}
 use Rattle.cpg_all_runs.proofs.exceeding.first_exceeding.Given as goal

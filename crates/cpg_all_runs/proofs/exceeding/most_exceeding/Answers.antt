@@ -1,3 +1,4 @@
+-- Proof of `most_exceeding`: the first process with the greatest excess of a run, and `None` if nothing exceeds.
 use Rattle.std.proofs.Common.{◌≢◌, ◌<◌, ℕ, IfSome, IfNone, arith, subst}
 use Rattle.cpg_base.specs.Graph.{process_count}
 use Rattle.cpg_run.specs.Finish.{excess_of}

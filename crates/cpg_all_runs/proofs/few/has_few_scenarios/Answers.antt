@@ -1,3 +1,4 @@
+-- Proof of `has_few_scenarios`: whether a graph has at most 16,384 scenarios.
 use Rattle.std.proofs.Common.{◌≡◌, ◌∙◌, ◌*◌, ◌^◌, sym, ap, ap₂, length, arith}
 use Rattle.std.proofs.lemmas.Bool.{leb-true, le-leb, false≢true}
 use Rattle.cpg_order.specs.Counting.{ways}

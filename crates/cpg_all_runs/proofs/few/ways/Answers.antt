@@ -1,3 +1,4 @@
+-- Proof of `ways`: the number of ways in which `counts` counts of faults add up to at most `faults` faults.
 use Rattle.std.proofs.Common.{◌+◌, ◌*◌, ◌/◌, ◌∙◌, ap, arith}
 use Rattle.cpg_all_runs.proofs.FewWays.{product_fits, next_ways}
 use Rattle.cpg_all_runs.proofs.few.ways.Goals as goal

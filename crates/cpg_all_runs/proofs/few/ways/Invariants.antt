@@ -1,3 +1,4 @@
+-- Loops of `ways`: the number of ways in which `counts` counts of faults add up to at most `faults` faults.
 use Rattle.std.proofs.Common.{◌≡◌}
 use Rattle.cpg_order.specs.Counting.{ways}
 use Rattle.cpg_all_runs.proofs.few.ways.Given as goal

@@ -1,3 +1,4 @@
+-- Proof of `add_frozen_of`: adds the frozen items of a process: its start, and then its messages by number.
 use Rattle.std.proofs.Common.{◌≡◌, ◌∙◌, ℕ, ◌+◌, ◌<◌, Bool, List, ◌∷◌, [], ◌++◌, filter, take, length, get_or, Contains}
 use Rattle.std.proofs.Common.{append_assoc, arith, subst, sym, ap}
 use Rattle.std.proofs.lemmas.List.{take_more}

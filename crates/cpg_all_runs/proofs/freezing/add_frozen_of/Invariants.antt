@@ -1,3 +1,4 @@
+-- Loops of `add_frozen_of`: adds the frozen items of a process: its start, and then its messages by number.
 use Rattle.std.proofs.Common.{◌≡◌, ◌++◌, ◌∷◌, filter, take}
 use Rattle.cpg_base.specs.Graph.{is_frozen}
 use Rattle.cpg_bus.specs.Plan.{queue_of}

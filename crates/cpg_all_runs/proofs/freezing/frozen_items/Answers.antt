@@ -1,3 +1,4 @@
+-- Proof of `frozen_items`: the frozen items along an order.
 use Rattle.cpg_run.proofs.FrozenOrder.{within_order}
 use Rattle.cpg_all_runs.proofs.freezing.frozen_items.Goals as goal
 

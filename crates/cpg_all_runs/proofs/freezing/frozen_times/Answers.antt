@@ -1,3 +1,5 @@
+-- Proof of `frozen_times`: the times of the frozen items under an order, in time units, given all scenarios and the
+-- result of `first_alike` for them.
 use Rattle.std.proofs.Common.{◌≡◌, ◌∙◌, rules, length, sym, ap}
 use Rattle.cpg_base.specs.Graph.{Graph, process_count}
 use Rattle.cpg_base.proofs.Places.{length_order}

@@ -1,3 +1,5 @@
+-- Proof of `sweep`: the times of the frozen items, as in `frozen_times`, given these items along the order and
+-- scenarios that show what can be active.
 use Rattle.std.proofs.Common.{◌≡◌, ◌∙◌, ◌<◌, Contains, get_or, refl, sym, ap, subst, arith}
 use Rattle.std.proofs.lemmas.List.Elements.{All-weaker, All-contains_itself}
 use Rattle.cpg_base.specs.Scenario.{IsScenario}
@@ -107,9 +109,11 @@ loop-item-preserved c =
     let items = c.args.items.now in
     let n = c.loop-item.item-index in
     let x = get_or items n 0 in
+    -- the item's process stands at the place that has been reached
     let there : place_of_item g order x ≡ c.place-next.result =
     sym (c.place-next.ensures.place ∙ ap (place order) (c.producer.ensures.producer)) in
     let settled = c.loop-item.invariant.settled in
+    -- what is settled, what was found before the place, and which items come no earlier
     record {
       settled = settled_more g order c.requires.setting.topological items n c.loop-item.frozen settled
           c.requires.setting.admitted.1.limits c.loop-item-test.true

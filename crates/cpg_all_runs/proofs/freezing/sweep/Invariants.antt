@@ -1,3 +1,5 @@
+-- Loops of `sweep`: the times of the frozen items, as in `frozen_times`, given these items along the order and
+-- scenarios that show what can be active.
 use Rattle.std.proofs.Common.{ℕ, ◌≤◌, ◌<◌, length, get_or}
 use Rattle.cpg_all_runs.specs.Sweep.{AreAlong, place_of_item}
 use Rattle.cpg_run.proofs.Settled.{AreSettled}

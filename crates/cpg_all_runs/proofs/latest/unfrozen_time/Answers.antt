@@ -1,3 +1,5 @@
+-- Proof of `unfrozen_time`: the greatest time over all scenarios that an item would have if it were not frozen, in time
+-- units, or `None` if it is never active.
 use Rattle.std.proofs.Common.{◌+◌, ◌∙◌, sym, ap, subst, arith}
 use Rattle.cpg_run.proofs.RunExists.{a_run}
 use Rattle.cpg_run.specs.Progress.{IsAlong}

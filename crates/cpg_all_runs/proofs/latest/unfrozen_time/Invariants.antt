@@ -1,3 +1,5 @@
+-- Loops of `unfrozen_time`: the greatest time over all scenarios that an item would have if it were not frozen, in time
+-- units, or `None` if it is never active.
 use Rattle.cpg_all_runs.proofs.Latests.{IsLatest}
 use Rattle.cpg_all_runs.proofs.latest.unfrozen_time.Given as goal
 

@@ -1,3 +1,4 @@
+-- Loops of `finishes`: when each run finishes.
 use Rattle.std.proofs.Common.{◌≡◌, map, take}
 use Rattle.cpg_all_runs.proofs.peaks.finishes.Given as goal
 

@@ -1,3 +1,4 @@
+-- Loops of `first_ending`: the first of this many processes that ends at a time.
 use Rattle.std.proofs.Common.{ℕ, ◌<◌, ◌≢◌, get_or, Some, None}
 use Rattle.cpg_all_runs.proofs.peaks.first_ending.Given as goal
 

@@ -1,3 +1,4 @@
+-- Proof of `worst`: the greatest finish over all scenarios of a graph, given all of them and the run of each.
 use Rattle.std.proofs.Common.{◌≢◌, ◌<◌, ◌∙◌, ℕ, IfSome, IfNone, Some, None, get_or, length, sym, ap, subst, arith}
 use Rattle.std.proofs.lemmas.List.{get_or_default, length-map}
 use Rattle.cpg_base.specs.Graph.{process_count}
@@ -30,14 +31,17 @@ returns c = λ order frozen topological are.
     let runs = c.args.runs.now in
     let numbers = c.in_ok-numbers.numbers.items in
     let at = c.first_greatest-at.result in
+    -- the place as the search found it, said of the graph, its urgency order and the list of finishes
     let first : IsFirstGreatest g urgency (length list) list numbers at =
     subst (λ ns. IsFirstGreatest g urgency (length list) list ns at) c.as_slice.ensures.value
     (subst (λ u. IsFirstGreatest g u (length list) list c.as_slice.result.now at) c.order.ensures.order
     (subst (λ h. IsFirstGreatest h c.order.result.now (length list) list c.as_slice.result.now at)
     c.problem.ensures.problem c.first_greatest-at.ensures)) in
+    -- the run at that place, and the process that ends last in it
     let t = c.index-runs-at.result in
     let by = c.first_ending-process.result in
     let read = c.in_ok-numbers.ensures in
+    -- the finish at that place is the greatest, its scenario and process the least that have it
     subst (λ n. IsWorst g urgency order frozen n c.in_ok-scenario.scenario by)
     (sym (c.index.ensures ∙ get_or_default numbers at c.index.result.now 0
     (omega (arith, first.there, ap length read, length-map runs (λ u. u.finish), c.requires.count))))

@@ -1,3 +1,4 @@
+-- Proof of `first_alike`: for each scenario of a list, the place of the first one with the same active numbers.
 use Rattle.std.proofs.Common.{◌≡◌, ◌∙◌, length, subst, ap, arith}
 use Rattle.std.proofs.lemmas.List.{get_or_default}
 use Rattle.cpg_base.specs.Graph.{Graph}
@@ -16,10 +17,12 @@ loop-at-preserved c =
     let at = c.loop-at.at in
     let s = c.index-scenarios-at.result in
     let numbers = c.in_ok-numbers.numbers in
+    -- the active numbers of the scenario at this place
     let is : numbers.items ≡ numbers_at g list at =
     c.in_ok-numbers.ensures ∙ ap (λ (h : Graph). active_numbers h s) c.problem-problem.ensures.problem
     ∙ ap (active_numbers g)
     (c.index-scenarios-at.is ∙ get_or_default list at s (zero_scenario g) c.loop-at-test.true) in
+    -- the map has the first places of one place more, and so has the list
     record {
       places = places_more (numbers_at g list) at c.loop-at.places.entries c.kept_place.new.places.entries numbers
           c.in_ok-kept_place.field-0 c.loop-at.invariant.places is c.in_ok-kept_place.ensures;

@@ -1,3 +1,4 @@
+-- Loops of `first_alike`: for each scenario of a list, the place of the first one with the same active numbers.
 use Rattle.cpg_all_runs.specs.FirstAlike.{numbers_at, AreFirstPlaces}
 use Rattle.cpg_all_runs.proofs.Placed.{ArePlaced}
 use Rattle.cpg_all_runs.proofs.placing.first_alike.Given as goal

@@ -1,3 +1,4 @@
+-- Proof of `run_at`: the run of the scenario at a place of a list, given the place of one that has the same runs.
 use Rattle.std.proofs.Common.{get_or, sym, subst}
 use Rattle.std.proofs.lemmas.List.{get_or_default}
 use Rattle.cpg_base.specs.Scenario.{zero_scenario}

@@ -1,3 +1,4 @@
+-- Proof of `runs`: the run of each scenario of a list, in its order, given the result of `first_alike` for the list.
 use Rattle.cpg_all_runs.proofs.Measured.{runs_more}
 use Rattle.cpg_all_runs.proofs.running.runs.Goals as goal
 

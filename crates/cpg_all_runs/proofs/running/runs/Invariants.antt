@@ -1,3 +1,4 @@
+-- Loops of `runs`: the run of each scenario of a list, in its order, given the result of `first_alike` for the list.
 use Rattle.cpg_all_runs.specs.Runs.{AreFirstRuns}
 use Rattle.cpg_all_runs.proofs.running.runs.Given as goal
 

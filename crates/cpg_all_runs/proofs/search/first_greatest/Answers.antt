@@ -1,3 +1,4 @@
+-- Proof of `first_greatest`: the place of the greatest of the numbers of scenarios.
 use Rattle.std.proofs.Common.{◌≡◌, ◌∙◌, get_or, sym, ap₂, arith, inl, inr}
 use Rattle.std.proofs.lemmas.Bool.{cases_lt, both_ways}
 use Rattle.std.proofs.lemmas.List.{get_or_default}
@@ -14,6 +15,7 @@ loop-next-init c = starts_it c.args.problem.now c.args.urgency.now c.args.scenar
 pub loop-next-preserved : goal.loop-next-preserved
 loop-next-preserved c =
     let list = c.args.scenarios.now in
+    -- the scenarios at the next place and at the best one so far
     let at_next : (d : Scenario) → get_or list c.loop-next.next d ≡ c.index-scenarios-next.result =
     λ d. get_or_default list c.loop-next.next d c.index-scenarios-next.result c.loop-next-test.true ∙
     sym c.index-scenarios-next.is in
@@ -21,6 +23,7 @@ loop-next-preserved c =
     λ d. get_or_default list c.loop-next.at d c.index-scenarios-at.result
     (omega (arith, c.loop-next.invariant.there, c.loop-next-test.true)) ∙ sym c.index-scenarios-at.is in
     elim c.if-goes_first.branch [
+      -- it goes first: its number isn't less, and if it is the same its scenario comes before
       | then-goes_first w ↦ rw w.at-is
           (takes_it c.args.problem.now c.args.urgency.now c.loop-next.next list c.args.numbers.now c.loop-next.at
           c.loop-next.invariant
@@ -30,6 +33,7 @@ loop-next-preserved c =
           ])
           (λ e d. ap₂ (is_before c.args.problem.now c.args.urgency.now) (at_next d) (at_at d)
           ∙ sym (c.goes_first.ensures.level e) ∙ w.if-goes_first.true))
+      -- it doesn't: its number isn't greater, and if it is the same its scenario doesn't come before
       | else-goes_first w ↦ rw w.at-is
           (skips_it c.args.problem.now c.args.urgency.now c.loop-next.next list c.args.numbers.now c.loop-next.at
           c.loop-next.invariant

@@ -1,3 +1,4 @@
+-- Loops of `first_greatest`: the place of the greatest of the numbers of scenarios.
 use Rattle.cpg_all_runs.specs.Peaks.{IsFirstGreatest}
 use Rattle.cpg_all_runs.proofs.search.first_greatest.Given as goal
 

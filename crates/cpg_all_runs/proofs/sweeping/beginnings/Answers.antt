@@ -1,3 +1,4 @@
+-- Proof of `beginnings`: for each of these scenarios, progress with nothing known of its run.
 use Rattle.cpg_all_runs.proofs.Swept.{beginnings_more}
 use Rattle.cpg_all_runs.proofs.sweeping.beginnings.Goals as goal
 

@@ -1,3 +1,4 @@
+-- Loops of `beginnings`: for each of these scenarios, progress with nothing known of its run.
 use Rattle.cpg_all_runs.proofs.Swept.{AreBeginnings}
 use Rattle.cpg_all_runs.proofs.sweeping.beginnings.Given as goal
 

@@ -1,3 +1,4 @@
+-- Loops of `add_columns`: adds the columns of rows.
 use Rattle.std.proofs.Common.{◌≡◌, ◌+◌, drop}
 use Rattle.cpg_table.specs.Lawful.{column_count}
 use Rattle.cpg_app.proofs.column_counts.add_columns.Given as goal

@@ -1,3 +1,4 @@
+-- Loops of `column_total`: how many columns all tables have.
 use Rattle.std.proofs.Common.{◌≡◌, ◌+◌, drop}
 use Rattle.cpg_app.specs.Trial.{columns_in}
 use Rattle.cpg_app.proofs.column_counts.column_total.Given as goal

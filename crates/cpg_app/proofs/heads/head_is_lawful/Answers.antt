@@ -1,3 +1,5 @@
+-- Proof of `head_is_lawful`: the head of a graph's tables is one that a pack may have: it is within its limits, and
+-- so are its names, which are gone over.
 use Rattle.std.proofs.Common.{All, subst}
 use Rattle.std.proofs.lemmas.List.Elements.{All-get_or, All-map}
 use Rattle.cpg_base.specs.Graph.{process_at, process_count}

@@ -1,3 +1,4 @@
+-- Loops of `nodes_are_named`: for its contract alone: these names are lawful.
 use Rattle.std.proofs.Common.{All, take}
 use Rattle.cpg_base.specs.Name.{IsName}
 use Rattle.cpg_app.proofs.heads.nodes_are_named.Given as goal

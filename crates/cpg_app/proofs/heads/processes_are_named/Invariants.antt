@@ -1,3 +1,4 @@
+-- Loops of `processes_are_named`: processes have names.
 use Rattle.std.proofs.Common.{All, take}
 use Rattle.cpg_base.specs.Name.{IsName}
 use Rattle.cpg_app.proofs.heads.processes_are_named.Given as goal

@@ -31,11 +31,13 @@ follow-requires-clause-opened g c =
     (c.in-Ok-Stream.ensures.output asked.command asked.values asked.are)) in
     is_open live.tables live.name c.in-Ok-Stream.follower live.follower
 
+-- what a halt names is there
 pub stop-requires : goal.stop-requires
 stop-requires g c =
     let asked = c.requires.may in
     halt_named asked.command asked.values c.in-Err.halt (c.in-Err.ensures.halt asked.command asked.values asked.are)
 
+-- the node is one of the tables
 pub put_node_table-requires : goal.put_node_table-requires
 put_node_table-requires g c =
     let asked = c.requires.may in
@@ -159,17 +161,22 @@ returns-in-Err-clause-lawful g c words start at =
     (inr (inr (record { command = at.command; values = at.has.values; has = has; stops = c.in-Err.ensures.halt at.command at.has.values at.has.are })))
     (record { faultless = refl; taken = refl }) c.stop.ensures
 
+-- the work is done, and nothing more is fetched
 pub returns-in-Ok-Lines-clause-keeps : goal.returns-in-Ok-Lines-clause-keeps
 returns-in-Ok-Lines-clause-keeps g c = keeps_same (g.S.Shelf.state c.args.shelf.now)
 
+-- the work is done, and nothing more is fetched
 pub returns-in-Ok-Table-clause-keeps : goal.returns-in-Ok-Table-clause-keeps
 returns-in-Ok-Table-clause-keeps g c = keeps_same (g.S.Shelf.state c.args.shelf.now)
 
+-- the work is done, and nothing more is fetched
 pub returns-in-Ok-NodeTable-clause-keeps : goal.returns-in-Ok-NodeTable-clause-keeps
 returns-in-Ok-NodeTable-clause-keeps g c = keeps_same (g.S.Shelf.state c.args.shelf.now)
 
+-- the work is done, and nothing more is fetched
 pub returns-in-Ok-Pack-clause-keeps : goal.returns-in-Ok-Pack-clause-keeps
 returns-in-Ok-Pack-clause-keeps g c = keeps_same (g.S.Shelf.state c.args.shelf.now)
 
+-- the work has stopped, and nothing more is fetched
 pub returns-in-Err-clause-keeps : goal.returns-in-Err-clause-keeps
 returns-in-Err-clause-keeps g c = keeps_same (g.S.Shelf.state c.args.shelf.now)

@@ -9,6 +9,7 @@ use Rattle.cpg_app.proofs.Finished.{stopped_lawful, wordless_lawful}
 use Rattle.cpg_app.proofs.Named.{files_named}
 use Rattle.cpg_app.proofs.top.run.Goals as goal
 
+-- the files that the words name may be fetched
 pub read_inputs-requires : goal.read_inputs-requires
 read_inputs-requires g c =
     subst (All (g.S.Shelf.may_fetch c.args.shelf.now)) (ap file_words_if c.in-Ok.ensures.command) c.requires
@@ -26,14 +27,17 @@ finish-requires-clause-may g c =
       files = λ i d l. (c.in-Ok-read_inputs.ensures.access _).0 (files i d l);
     }
 
+-- a scenario or a log that was read is of the graph that was read before it
 pub finish-requires-clause-fit : goal.finish-requires-clause-fit
 finish-requires-clause-fit g c =
     inputs_fit c.in-Ok.command _ _ c.in-Ok-read_inputs.inputs c.in-Ok-read_inputs.ensures.inputs
 
+-- what a halt while files are read names is there
 pub stop-requires : goal.stop-requires
 stop-requires g c =
     files_named None (files_of c.in-Ok.command) _ _ c.in-Err-read_inputs.halt c.in-Err-read_inputs.ensures.inputs
 
+-- the run with what was read is lawful
 pub returns-in-Ok-read_inputs-clause-lawful : goal.returns-in-Ok-read_inputs-clause-lawful
 returns-in-Ok-read_inputs-clause-lawful g c =
     c.finish.ensures.lawful (map string_bytes c.args.words.now) (g.S.Shelf.state c.args.shelf.now)
@@ -66,10 +70,12 @@ returns-in-Err-clause-lawful g c =
     wordless_lawful r c.in-Err.fault (λ e. search rules) refl
     (record { faultless = refl; taken = refl }) c.run_without_words.ensures
 
+-- what reading keeps of the shelf, the work keeps too
 pub returns-in-Ok-read_inputs-clause-keeps : goal.returns-in-Ok-read_inputs-clause-keeps
 returns-in-Ok-read_inputs-clause-keeps g c =
     keeps_on (g.S.Shelf.state c.args.shelf.now) (g.S.Shelf.state c.read_inputs.new.shelf)
     (g.S.Shelf.state c.finish.new.shelf) c.in-Ok-read_inputs.ensures.keeps c.finish.ensures.keeps
 
+-- bad words fetch nothing
 pub returns-in-Err-clause-keeps : goal.returns-in-Err-clause-keeps
 returns-in-Err-clause-keeps g c = keeps_same (g.S.Shelf.state c.args.shelf.now)

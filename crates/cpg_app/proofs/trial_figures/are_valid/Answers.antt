@@ -1,3 +1,4 @@
+-- Proof of `are_valid`: whether tables are valid for a graph.
 use Rattle.std.proofs.Common.{Bool, sym, subst}
 use Rattle.std.specs.Prelude.{◌↔◌, IfOk, IsTrue, Result}
 use Rattle.cpg_base.specs.declared.memory.OutOfMemory.{OutOfMemory}

@@ -1,9 +1,11 @@
+-- Proof of `figures_of`: the figures of a generated graph and of its tables, which the check finds valid.
 use Rattle.std.proofs.Common.{length, refl, ap, ◌∙◌}
 use Rattle.std.proofs.lemmas.Bool.{both_ways}
 use Rattle.cpg_base.specs.Graph.{condition_count, edge_count, process_count}
 use Rattle.cpg_app.proofs.Figures.{compiled_valid, reaches_worst}
 use Rattle.cpg_app.proofs.trial_figures.figures_of.Goals as goal
 
+-- the tables are valid, so the check doesn't say no
 pub unreachable-requires : goal.unreachable-requires
 unreachable-requires c = both_ways c.in_ok-are_valid.field-0 c.if-not-branch.true
     (c.in_ok-are_valid.ensures.1

@@ -1,3 +1,4 @@
+-- Proof of `trial`: writes the figures of the trial of a number.
 use Rattle.cpg_app.proofs.Safe.{compilations_are_safe}
 use Rattle.cpg_app.proofs.trials.trial.Goals as goal
 

@@ -1,3 +1,4 @@
+-- Proof of `compile_answers`: the answers for an admitted graph with each fault number from 0 to 8.
 use Rattle.std.proofs.Common.{◌≡◌, ◌+◌, ◌∙◌, sym, ap, subst}
 use Rattle.cpg_base.specs.Graph.{Graph}
 use Rattle.cpg_rules.specs.FaultNumber.{with_fault_number}
@@ -6,6 +7,7 @@ use Rattle.cpg_tune.proofs.Answered.{answers_push}
 use Rattle.cpg_app.specs.Tunes.{IsJudged}
 use Rattle.cpg_app.proofs.tuning.compile_answers.Goals as goal
 
+-- one more number of faults has its answer
 pub loop-faults-preserved : goal.loop-faults-preserved
 loop-faults-preserved c =
     let g : Graph = c.args.admitted.graph in

@@ -1,3 +1,4 @@
+-- Proof of `tuned`: the tuning of an admitted graph by compiles.
 use Rattle.std.proofs.Common.{All, sym, subst}
 use Rattle.std.specs.Prelude.{IfOk}
 use Rattle.cpg_base.specs.Graph.{Graph}
@@ -11,12 +12,14 @@ use Rattle.cpg_app.proofs.Worked.{if_ok}
 use Rattle.cpg_app.proofs.TunedRows.{rows_named}
 use Rattle.cpg_app.proofs.tuning.tuned.Goals as goal
 
+-- the graph may be asked for with each number of faults: none of them shows a fault
 pub tune-requires : goal.tune-requires
 tune-requires c =
     let a = c.args.admitted.now in
     subst (MayAskRows ShowsNoFault) (sym c.problem.ensures.problem)
     (λ faults few. tuned_no_fault a.graph a.order a.guards c.problem.ensures.admitted faults)
 
+-- if a row names an item, the graph has it
 pub returns-clause-named : goal.returns-clause-named
 returns-clause-named c =
     let g : Graph = c.args.admitted.now.graph in

@@ -2,6 +2,7 @@ use Rattle.std.proofs.Common.{rules, ◌≡◌, Some, refl}
 use Rattle.cpg_app.specs.Causes.{first_named}
 use Rattle.cpg_app.proofs.work.opened.Goals as goal
 
+-- the tables have a node of this name, and the follower is opened for it
 pub returns-in-Ok-clause-opens : goal.returns-in-Ok-clause-opens
 returns-in-Ok-clause-opens c =
     let named : first_named c.args.tables.head c.args.name.now ≡ Some c.in-Some.node = search rules in

@@ -6,6 +6,7 @@ use Rattle.cpg_table.specs.Lawful.{AreTablesOf}
 use Rattle.cpg_violation.proofs.HeadLaws.{tables_of_graph}
 use Rattle.cpg_app.proofs.work.play.Goals as goal
 
+-- the tables have the head of the graph
 pub play_text-requires-clause-tables : goal.play_text-requires-clause-tables
 play_text-requires-clause-tables c =
     let t = c.args.tables in

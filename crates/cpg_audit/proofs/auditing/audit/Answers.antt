@@ -1,3 +1,5 @@
+-- Proof of `audit`: the least scenario along the urgency order, of at most the graph's faults, in which the items and
+-- times of what is due on all nodes up to a log's time are those of the log; `None` exactly if no scenario gives it.
 use Rattle.std.proofs.Common.{ℕ, refl, ◌≡◌, ◌++◌, List, [], All, Bor, map, flat_map, sym, subst}
 use Rattle.std.proofs.lemmas.List.Elements.{All-map}
 use Rattle.cpg_base.specs.Numbers.{numbers_below}
@@ -64,16 +66,19 @@ returns-clause-least c =
     let log = c.args.log.now in
     let a = c.order-order.ensures.admitted in
     let are = tables_of_graph g c.args.tables.now.head nodes c.requires.head c.head-head.ensures.lawful in
+    -- in each scenario the tables are valid ones of a well-formed graph
     let setting : (s : Scenario) → IsScenario g s → Setting g nodes s = λ s law. record {
       formed = a.well_formed;
       shape = has_shape g a.limits nodes are;
       valid = c.requires.valid;
       law = law;
     } in
+    -- the columns of idle scenarios, and all excluded cubes with theirs
     let told = rw c.acts.ensures at c.in_ok-idle.ensures.idle in
     let idle = map (λ (d : Column). d.cube) c.in_ok-idle.idle.items in
     let all = flat_map (excluded_of nodes log) (numbers_below (item_count g)) in
     let by = rw c.as_slice.ensures.value at c.in_ok-push_cubes.ensures in
+    -- the kept cubes leave of the space's cube what all of them leave of everything
     let same : (s : Scenario) → IsScenario g s →
     is_left (map seen c.push_cubes.new.by.items) c.in_ok-cube.cube s ≡ is_left (all ++ idle) [] s = λ s law.
     let lies = c.whole-space.ensures.lies s
@@ -81,6 +86,7 @@ returns-clause-least c =
     left_of_whole c.in_ok-by.by.items c.push_cubes.new.by.items idle all c.in_ok-cube.cube s by
     (rw c.problem-problem.ensures.problem at (c.in_ok-by.ensures.same s lies)) (λ off.
     c.in_ok-cube.ensures.matches s (c.in_ok-by.ensures.space s lies off)) in
+    -- the least scenario that the kept cubes leave
     let first = rw (c.problem-problem.ensures.problem, c.order-order.ensures.order, c.as_slice-2.ensures.value) at
     c.in_ok-found.ensures.first in
     least_gives g order nodes setting log c.requires.log c.in_ok-idle.idle.items told
@@ -97,16 +103,19 @@ returns-clause-none c =
     let log = c.args.log.now in
     let a = c.order-order.ensures.admitted in
     let are = tables_of_graph g c.args.tables.now.head nodes c.requires.head c.head-head.ensures.lawful in
+    -- in each scenario the tables are valid ones of a well-formed graph
     let setting : (s : Scenario) → IsScenario g s → Setting g nodes s = λ s law. record {
       formed = a.well_formed;
       shape = has_shape g a.limits nodes are;
       valid = c.requires.valid;
       law = law;
     } in
+    -- the columns of idle scenarios, and all excluded cubes with theirs
     let told = rw c.acts.ensures at c.in_ok-idle.ensures.idle in
     let idle = map (λ (d : Column). d.cube) c.in_ok-idle.idle.items in
     let all = flat_map (excluded_of nodes log) (numbers_below (item_count g)) in
     let by = rw c.as_slice.ensures.value at c.in_ok-push_cubes.ensures in
+    -- the kept cubes leave of the space's cube what all of them leave of everything
     let same : (s : Scenario) → IsScenario g s →
     is_left (map seen c.push_cubes.new.by.items) c.in_ok-cube.cube s ≡ is_left (all ++ idle) [] s = λ s law.
     let lies = c.whole-space.ensures.lies s
@@ -114,6 +123,7 @@ returns-clause-none c =
     left_of_whole c.in_ok-by.by.items c.push_cubes.new.by.items idle all c.in_ok-cube.cube s by
     (rw c.problem-problem.ensures.problem at (c.in_ok-by.ensures.same s lies)) (λ off.
     c.in_ok-cube.ensures.matches s (c.in_ok-by.ensures.space s lies off)) in
+    -- the search found no scenario that the kept cubes leave
     let first = rw (c.problem-problem.ensures.problem, c.order-order.ensures.order, c.as_slice-2.ensures.value) at
     c.in_ok-found.ensures.first in
     none_gives g order nodes setting log c.requires.log c.in_ok-idle.idle.items told

@@ -1,3 +1,5 @@
+-- Proof of `excluded`: the cubes of all columns with times that a log excludes, but for some that match nothing in the
+-- rest of a space, which is narrowed by them item by item.
 use Rattle.std.proofs.Common.{◌≡◌, ◌-◌, ◌∙◌, ◌||◌, ℕ, Bool, List, All, Bor, get_or, length, map, flat_map, take, sym}
 use Rattle.std.proofs.Common.{ap, subst, arith}
 use Rattle.std.specs.List.{list_any}
@@ -16,6 +18,7 @@ use Rattle.cpg_audit.proofs.GivesLaws.{excluded_known}
 use Rattle.cpg_audit.proofs.NarrowingLaws.{any_in_order, any_within, flat_more}
 use Rattle.cpg_audit.proofs.auditing.excluded.Goals as goal
 
+-- the item of a time that is listed
 abbrev item : TimedItem → ℕ
 item t = t.item
 
@@ -36,6 +39,7 @@ loop-timed-preserved c =
     let inv = c.loop-timed.invariant in
     let kept = c.take_off_all.new.kept.items in
     record {
+      -- a scenario matches a kept cube exactly if it matches an excluded one of the items so far
       same = λ s lies.
           let test : List Literal → Bool = λ b. matches b s in
           rw c.as_slice.ensures.value at (c.in_ok-take_off_all.ensures.same s (inv.left s lies))
@@ -44,11 +48,13 @@ loop-timed-preserved c =
           (sym (any_map test (λ (b : Bor (List Literal)). b.now) c.in_ok-by.by.items) ∙ ap (list_any test) one)
           ∙ sym (list_any-append test (flat_map f (map item (take i xs))) (f x.item))
           ∙ sym (ap (list_any test) (flat_more f item xs i blank (omega arith)));
+      -- a scenario that no kept cube matches lies in the narrowed space
       left = λ s lies off.
           let window =
           any_within (λ b. matches b.now s) c.len-first.result (length kept - c.len-first.result) kept off in
           c.narrow.ensures s (rw c.deref.ensures.value window)
           (c.in_ok-take_off_all.ensures.space s (inv.left s lies) off);
+      -- the kept cubes have variables of the graph alone
       known =
           let cubes : All (IsKnown c.args.problem.now) (f x.item) =
           excluded_known c.args.problem.now c.args.tables.now.nodes c.args.log.now x.item (c.requires x.item) in

@@ -1,3 +1,5 @@
+-- Loops of `excluded`: the cubes of all columns with times that a log excludes, but for some that match nothing in the
+-- rest of a space, which is narrowed by them item by item.
 use Rattle.std.proofs.Common.{◌≡◌, All, flat_map, map, take}
 use Rattle.std.specs.List.{list_any}
 use Rattle.cpg_base.specs.Scenario.{Scenario}

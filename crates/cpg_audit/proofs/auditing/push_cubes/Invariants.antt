@@ -1,3 +1,4 @@
+-- Loops of `push_cubes`: adds the cubes of columns.
 use Rattle.std.proofs.Common.{◌≡◌, ◌++◌, map, take}
 use Rattle.cpg_audit.proofs.auditing.push_cubes.Given as goal
 

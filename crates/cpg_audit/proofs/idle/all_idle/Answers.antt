@@ -1,3 +1,4 @@
+-- Proof of `all_idle`: the cubes of the scenarios in which an item of these acts isn't active.
 use Rattle.std.proofs.Common.{All, sym, ap, ◌∙◌, subst}
 use Rattle.std.specs.List.{list_any}
 use Rattle.std.proofs.lemmas.List.Elements.{All-append}

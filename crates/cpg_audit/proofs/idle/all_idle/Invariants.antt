@@ -1,3 +1,4 @@
+-- Loops of `all_idle`: the cubes of the scenarios in which an item of these acts isn't active.
 use Rattle.std.proofs.Common.{◌≡◌, All, take}
 use Rattle.std.specs.List.{list_any}
 use Rattle.cpg_base.specs.Scenario.{Scenario, IsScenario}

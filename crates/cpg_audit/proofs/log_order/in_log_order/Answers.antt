@@ -1,3 +1,5 @@
+-- Proof of `in_log_order`: all items, those that a log names first, by time: a column depends on what was before its
+-- item, which the items before it have shown by then.
 use Rattle.std.proofs.Common.{◌≡◌, ◌++◌, ◌∷◌, ◌∙◌, ℕ, [], map, ap, rules, subst, sym}
 use Rattle.std.specs.Prelude.{IsPermutation}
 use Rattle.std.proofs.lemmas.List.{map-append}
@@ -8,6 +10,7 @@ use Rattle.cpg_base.proofs.Lists.{below_push}
 use Rattle.cpg_audit.specs.declared.log_order.TimedItem.{TimedItem}
 use Rattle.cpg_audit.proofs.log_order.in_log_order.Goals as goal
 
+-- the item of a time that is listed
 abbrev item : TimedItem → ℕ
 item t = t.item
 

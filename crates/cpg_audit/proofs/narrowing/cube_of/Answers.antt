@@ -1,3 +1,4 @@
+-- Proof of `cube_of`: the cube of a space's ranges.
 use Rattle.std.proofs.Common.{◌≤◌, length}
 use Rattle.cpg_audit.proofs.NarrowingLaws.{ranges_weaker, known_ranges, matches_space}
 use Rattle.cpg_audit.proofs.narrowing.cube_of.Goals as goal

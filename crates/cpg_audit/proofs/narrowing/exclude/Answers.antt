@@ -1,3 +1,4 @@
+-- Proof of `exclude`: leaves the scenarios in which a literal doesn't hold, if they have one range of its variable.
 use Rattle.std.proofs.Common.{◌∙◌}
 use Rattle.std.proofs.Math.Bool.{and-true}
 use Rattle.cpg_cube.specs.Cube.{holds}

@@ -1,3 +1,4 @@
+-- Proof of `extent_of`: which scenarios of a space literals match.
 use Rattle.std.proofs.Common.{rules, ◌≡◌, arith, subst, None, List, get_or, true}
 use Rattle.std.proofs.lemmas.List.{take_all}
 use Rattle.cpg_base.specs.Scenario.{Scenario}
@@ -18,6 +19,7 @@ pub loop-literal-preserved : goal.loop-literal-preserved
 loop-literal-preserved c =
     let inv = c.loop-literal.invariant in
     elim c.if-not-implies.branch [
+      -- the literal may fail somewhere in the space, and is the first such
       | then-not-implies+else-is_apart+else-is_some w ↦
           let none : c.loop-literal.open ≡ None = search rules in
           rw w.open-is (record {
@@ -25,6 +27,7 @@ loop-literal-preserved c =
             some = first_open c.args.space.now c.args.literals.now c.loop-literal.literal-index blank
                 (omega arith) c.loop-literal.open none inv.none;
           })
+      -- the literal holds in the whole space
       | else-not-implies w ↦
           let told : (s : Scenario) → IsInSpace c.args.space.now s →
           holds s (get_or c.args.literals.now c.loop-literal.literal-index blank) ≡ true = search rules in

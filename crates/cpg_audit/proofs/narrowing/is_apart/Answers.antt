@@ -1,3 +1,4 @@
+-- Proof of `is_apart`: whether a literal holds nowhere in a space.
 use Rattle.std.proofs.Common.{arith}
 use Rattle.std.specs.Prelude.{nat_lt}
 use Rattle.std.proofs.lemmas.Bool.{OnTrue_from, ltb-true}

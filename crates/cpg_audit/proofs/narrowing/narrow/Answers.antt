@@ -1,3 +1,4 @@
+-- Proof of `narrow`: leaves the scenarios that no cube matches, as far as each cube depends on one variable.
 use Rattle.std.proofs.Common.{◌≡◌, ◌∙◌, ap, sym, drop, arith}
 use Rattle.std.specs.List.{list_any}
 use Rattle.cpg_cube.specs.Cube.{matches}

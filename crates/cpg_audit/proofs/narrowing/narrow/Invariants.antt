@@ -1,3 +1,4 @@
+-- Loops of `narrow`: leaves the scenarios that no cube matches, as far as each cube depends on one variable.
 use Rattle.std.proofs.Common.{◌≡◌, ◌≤◌, false, drop, length}
 use Rattle.std.specs.List.{list_any}
 use Rattle.cpg_base.specs.Scenario.{Scenario}

@@ -1,3 +1,5 @@
+-- Proof of `push_ranges`: adds the ranges of the variables from one up to the one before another, except ranges that
+-- all scenarios are in.
 use Rattle.std.proofs.Common.{◌+◌, arith}
 use Rattle.std.proofs.lemmas.List.Elements.{All-push}
 use Rattle.cpg_audit.specs.Narrowing.{IsRange}

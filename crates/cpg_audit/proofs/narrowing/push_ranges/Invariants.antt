@@ -1,3 +1,5 @@
+-- Loops of `push_ranges`: adds the ranges of the variables from one up to the one before another, except ranges that
+-- all scenarios are in.
 use Rattle.std.proofs.Common.{All}
 use Rattle.cpg_audit.specs.Narrowing.{IsRange}
 use Rattle.cpg_audit.proofs.narrowing.push_ranges.Given as goal

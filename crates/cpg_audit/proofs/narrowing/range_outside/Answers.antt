@@ -1,3 +1,5 @@
+-- Proof of `range_outside`: the range that a variable is in if a literal on it doesn't hold; `None` if that isn't one
+-- range of the space.
 use Rattle.std.proofs.Common.{arith}
 use Rattle.cpg_audit.proofs.NarrowingLaws.{above_range, below_range}
 use Rattle.cpg_audit.proofs.narrowing.range_outside.Goals as goal

@@ -1,3 +1,5 @@
+-- Proof of `take_off_all`: leaves the scenarios that no cube matches, as far as each cube depends on one variable, and
+-- keeps the cubes except those that are known to match nothing of what is left at their turn.
 use Rattle.std.proofs.Common.{rules, ◌≡◌, ◌-◌, ◌∙◌, ◌||◌, ap, drop, arith, Bor, List, subst, sym}
 use Rattle.std.specs.List.{list_any}
 use Rattle.cpg_cube.specs.Cube.{matches}
@@ -13,12 +15,14 @@ loop-place-preserved c =
     let by = c.args.by.now in
     record {
       within = omega (arith, inv.within);
+      -- the kept cubes match where they did before or the cube taken off does
       same = λ s leaves.
           let held = list_any (λ b. matches b.now s) c.args.kept.now.items in
           c.in_ok-take_off.ensures.same s (inv.left s leaves)
           ∙ ap (λ b. b || matches c.index-by-place.result.now s) (inv.same s leaves)
           ∙ before_place (λ b. matches b.now s) by c.loop-place.place c.index-by-place.result held
           c.loop-place-test.true inv.within c.index-by-place.is;
+      -- what they leave lies in the space
       left = λ s leaves. c.in_ok-take_off.ensures.space s (inv.left s leaves);
       grows = search rules;
       known = λ g all first. c.in_ok-take_off.ensures.known g

@@ -1,3 +1,5 @@
+-- Loops of `take_off_all`: leaves the scenarios that no cube matches, as far as each cube depends on one variable, and
+-- keeps the cubes except those that are known to match nothing of what is left at their turn.
 use Rattle.std.proofs.Common.{◌≡◌, ◌≤◌, ◌||◌, All, drop, length}
 use Rattle.std.specs.List.{list_any}
 use Rattle.cpg_base.specs.Graph.{Graph}

@@ -1,3 +1,5 @@
+-- Proof of `is_before`: whether the first scenario comes before the second: at the first process in the order at which
+-- they differ it has fewer faults, or as many and its condition is false.
 use Rattle.std.proofs.Common.{◌<◌, get_or, length}
 use Rattle.std.proofs.lemmas.List.Elements.{Contains-get_or}
 use Rattle.cpg_base.proofs.Places.{from_order}

@@ -1,3 +1,5 @@
+-- Loops of `is_before`: whether the first scenario comes before the second: at the first process in the order at which
+-- they differ it has fewer faults, or as many and its condition is false.
 use Rattle.std.proofs.Common.{◌≡◌, drop}
 use Rattle.cpg_base.specs.Scenario.{is_before}
 use Rattle.cpg_base.proofs.before.is_before.Given as goal

@@ -1,3 +1,4 @@
+-- Proof of `disjunctions`: for each process number, whether the process has a conditional output.
 use Rattle.std.proofs.Common.{◌∙◌, rules, sym, ap, false, true, None, length, arith}
 use Rattle.std.proofs.Math.ListN.{length-set}
 use Rattle.cpg_base.specs.Graph.{Edge}
@@ -5,6 +6,7 @@ use Rattle.cpg_base.proofs.Marks.{no_marks, marks_set, marks_keep}
 use Rattle.cpg_base.proofs.conditions.disjunctions.Goals as goal
 use Rattle.cpg_base.proofs.conditions.disjunctions.Goals.{then-is_some, else-is_some}
 
+-- what stands where there is no edge
 abbrev none : Edge
 none = record { from = 0; to = 0; size = 0; when = None; frozen = false }
 
@@ -15,6 +17,7 @@ loop-edge-init c = record { marks = no_marks; long = search rules }
 -- a conditional edge marks its source, and a simple edge marks nothing
 pub loop-edge-preserved : goal.loop-edge-preserved
 loop-edge-preserved c = elim c.if-is_some.branch [
+  -- a conditional edge
   | then-is_some w ↦
       let source = c.requires c.loop-edge.edge-index none c.loop-edge-test.true in record {
         marks = rw w.found-is (marks_set c.args.edges.now c.loop-edge.edge-index none c.loop-edge-test.true
@@ -22,6 +25,7 @@ loop-edge-preserved c = elim c.if-is_some.branch [
             (sym c.is_some.ensures ∙ w.if-is_some.true) (omega arith));
         long = ap length w.found-is ∙ length-set c.loop-edge.found _ true ∙ c.loop-edge.invariant.long;
       }
+  -- a simple edge
   | else-is_some w ↦ record {
     marks = rw w.found-is (marks_keep c.args.edges.now c.loop-edge.edge-index none c.loop-edge-test.true
         c.loop-edge.found c.loop-edge.invariant.marks

@@ -1,3 +1,4 @@
+-- Loops of `disjunctions`: for each process number, whether the process has a conditional output.
 use Rattle.std.proofs.Common.{◌≡◌, length, take}
 use Rattle.cpg_base.proofs.Marks.{AreMarks}
 use Rattle.cpg_base.proofs.conditions.disjunctions.Given as goal

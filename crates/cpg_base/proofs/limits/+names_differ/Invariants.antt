@@ -1,3 +1,4 @@
+-- Loops of `names_differ`: whether no two of these names are equal.
 use Rattle.std.proofs.Common.{length}
 use Rattle.cpg_base.proofs.limits.+names_differ.Given as goal
 

@@ -1,3 +1,4 @@
+-- Loops of `processes_differ`: whether no two of these processes have the same name.
 use Rattle.std.proofs.Common.{length}
 use Rattle.cpg_base.proofs.limits.+processes_differ.Given as goal
 

@@ -1,3 +1,4 @@
+-- Loops of `slots_differ`: whether no two of these slots belong to the same node.
 use Rattle.std.proofs.Common.{length}
 use Rattle.cpg_base.proofs.limits.+slots_differ.Given as goal
 

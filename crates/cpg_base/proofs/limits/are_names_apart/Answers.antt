@@ -1,3 +1,4 @@
+-- Proof of `are_names_apart`: whether no two names are equal.
 use Rattle.std.proofs.Common.{sym}
 use Rattle.cpg_base.proofs.Apart.{names_apart}
 use Rattle.cpg_base.proofs.limits.are_names_apart.Goals as goal

@@ -1,3 +1,4 @@
+-- Proof of `are_processes_apart`: whether no two processes have one name.
 use Rattle.std.proofs.Common.{sym}
 use Rattle.cpg_base.proofs.Apart.{processes_apart}
 use Rattle.cpg_base.proofs.limits.are_processes_apart.Goals as goal

@@ -1,3 +1,4 @@
+-- Proof of `are_slots_apart`: whether no two slots belong to one node.
 use Rattle.std.proofs.Common.{sym}
 use Rattle.cpg_base.proofs.Apart.{slots_apart}
 use Rattle.cpg_base.proofs.limits.are_slots_apart.Goals as goal

@@ -1,3 +1,4 @@
+-- Proof of `are_same_names`: whether two lists of names are equal.
 use Rattle.std.proofs.Common.{sym, ◌∙◌}
 use Rattle.std.specs.Cmp.Lexicographic.{bytes_decides, pointwise_decides}
 use Rattle.cpg_base.proofs.name.are_same_names.Goals as goal

@@ -1,3 +1,4 @@
+-- Proof of `places_of`: for each process number, the place of the process.
 use Rattle.std.proofs.Common.{◌≡◌, ap, length, arith, subst}
 use Rattle.cpg_base.proofs.Standing.{AreWritten, process_within, written_more, all_written}
 use Rattle.cpg_base.proofs.order.places_of.Goals as goal

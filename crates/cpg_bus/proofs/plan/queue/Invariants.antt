@@ -1,3 +1,4 @@
+-- Loops of `queue`: the items that a process sends.
 use Rattle.std.proofs.Common.{◌≡◌, ◌++◌, map, filter, take}
 use Rattle.cpg_base.specs.Graph.{outputs, is_message, message_item, condition_of}
 use Rattle.cpg_bus.specs.Plan.{broadcasts_of}

@@ -1,3 +1,4 @@
+-- Proof of `queues`: the items that each process sends.
 use Rattle.cpg_base.proofs.Lists.{map_below_push}
 use Rattle.cpg_bus.specs.Plan.{queue_of}
 use Rattle.cpg_bus.proofs.plan.queues.Goals as goal

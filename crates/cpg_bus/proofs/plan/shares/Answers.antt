@@ -1,3 +1,4 @@
+-- Proof of `shares`: the shares of the nodes.
 use Rattle.cpg_base.proofs.Lists.{map_below_push}
 use Rattle.cpg_bus.specs.Plan.{share_if}
 use Rattle.cpg_bus.proofs.plan.shares.Goals as goal

@@ -1,3 +1,4 @@
+-- Loops of `shares`: the shares of the nodes.
 use Rattle.std.proofs.Common.{◌≡◌, map}
 use Rattle.cpg_base.specs.Numbers.{numbers_below}
 use Rattle.cpg_bus.specs.Plan.{share_if}

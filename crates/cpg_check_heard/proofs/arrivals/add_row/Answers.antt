@@ -1,3 +1,5 @@
+-- Proof of `add_row`: adds the columns of a row whose frames may have come by a time, as far as they may match together
+-- with a cube.
 use Rattle.std.proofs.Common.{◌||◌, Contains, sym, ap, ◌∙◌, subst}
 use Rattle.std.specs.List.{list_any}
 use Rattle.std.proofs.Math.Bool.{or-false}
@@ -36,6 +38,7 @@ returns-clause-told c = λ g b s m.
     (λ j l at.
     subst (λ xs. Contains xs j) (sym c.as_slice-place-items.ensures.value) (c.in_ok-places.ensures s j l at m)))
 
+-- even the row's first column comes too late, so the row tells nothing
 pub returns-then-not-may_have_come-clause-told : goal.returns-then-not-may_have_come-clause-told
 returns-then-not-may_have_come-clause-told c = λ g b s m.
     let t = c.args.row.now in

@@ -1,3 +1,5 @@
+-- Loops of `add_row`: adds the columns of a row whose frames may have come by a time, as far as they may match together
+-- with a cube.
 use Rattle.std.proofs.Common.{◌≡◌, ◌||◌, All, take}
 use Rattle.std.specs.List.{list_any}
 use Rattle.cpg_base.specs.Graph.{Graph}

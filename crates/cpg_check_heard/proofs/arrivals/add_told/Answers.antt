@@ -1,3 +1,4 @@
+-- Proof of `add_told`: adds the parts of these columns' cubes in which they tell a bound by a time.
 use Rattle.std.proofs.Common.{◌||◌, ◌∙◌, ap, sym, subst}
 use Rattle.std.specs.List.{list_any}
 use Rattle.cpg_cube.specs.Cube.{matches}
@@ -7,12 +8,14 @@ use Rattle.cpg_check_heard.specs.TellingRows.{is_telling}
 use Rattle.cpg_check_heard.proofs.PartLaws.{told_add, known_add, row_more}
 use Rattle.cpg_check_heard.proofs.arrivals.add_told.Goals as goal
 
+-- the next column may tell the bound
 pub part_of-requires-clause-can : goal.part_of-requires-clause-can
 part_of-requires-clause-can c =
     let is = subst (IsArrival c.args.problem.now) (sym c.arrival-item.is)
     (c.requires.arrivals c.loop-arrival.arrival-index c.arrival-item.result c.loop-arrival-test.true) in
     is.can c.args.bound
 
+-- its cube has variables of the graph alone
 pub part_of-requires-clause-cube : goal.part_of-requires-clause-cube
 part_of-requires-clause-cube c =
     let is = subst (IsArrival c.args.problem.now) (sym c.arrival-item.is)
@@ -27,6 +30,7 @@ loop-arrival-preserved c =
     record {
       known = rw c.in_ok-add.ensures (known_add g c.loop-arrival.told.items c.in_ok-part.part
           c.loop-arrival.invariant.known c.in_ok-part.ensures.known);
+      -- the cubes match where one of the columns so far, or this one, tells the bound
       told = λ s i. row_more (λ (a : Arrival). is_telling g a.means c.args.time c.args.bound s a.column.now)
           c.args.arrivals.now c.loop-arrival.arrival-index d c.loop-arrival-test.true
           (list_any (λ b. matches b s) c.args.told.now.items) (list_any (λ b. matches b s) c.loop-arrival.told.items)

@@ -1,3 +1,4 @@
+-- Loops of `add_told`: adds the parts of these columns' cubes in which they tell a bound by a time.
 use Rattle.std.proofs.Common.{◌≡◌, ◌||◌, All, take}
 use Rattle.std.specs.List.{list_any}
 use Rattle.cpg_base.specs.Scenario.{Scenario, IsScenario}

@@ -1,3 +1,4 @@
+-- Loops of `sift_by`: sifts the rows of those of some items that have a column by a time.
 use Rattle.std.proofs.Common.{ℕ}
 use Rattle.cpg_violation.specs.Lines.{AreLines}
 use Rattle.cpg_check_heard.proofs.asked.sift_by.Given as goal

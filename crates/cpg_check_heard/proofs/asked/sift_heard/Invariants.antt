@@ -1,3 +1,4 @@
+-- Loops of `sift_heard`: sifts the rows that V4 may ask, of items at which it isn't marked.
 use Rattle.std.proofs.Common.{ℕ}
 use Rattle.cpg_violation.specs.Lines.{AreLines}
 use Rattle.cpg_check_heard.proofs.asked.sift_heard.Given as goal

@@ -1,3 +1,4 @@
+-- Proof of `left_open`: those of some bounds that these columns may leave open somewhere that a column matches.
 use Rattle.std.proofs.Common.{All, sym, subst}
 use Rattle.std.proofs.lemmas.List.Elements.{All-push}
 use Rattle.cpg_base.specs.Graph.{IsVariable}

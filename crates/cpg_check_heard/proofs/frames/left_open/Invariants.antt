@@ -1,3 +1,4 @@
+-- Loops of `left_open`: those of some bounds that these columns may leave open somewhere that a column matches.
 use Rattle.std.proofs.Common.{◌≡◌, Bool, true, false, All, take}
 use Rattle.std.specs.List.{list_any}
 use Rattle.cpg_base.specs.Graph.{IsVariable}

@@ -1,3 +1,5 @@
+-- Proof of `check_heard`: the first violation of V4, by item and column, with the least scenario in the urgency order
+-- in which it stands: the column matches, and one of its literals isn't heard at the item's node by the column's time.
 use Rattle.cpg_violation.proofs.HeadLaws.{tables_of_graph}
 use Rattle.std.proofs.Common.{◌≡◌, ◌<◌, ap, false, ℕ, Contains, arith, refl, sym}
 use Rattle.std.proofs.lemmas.List.Elements.{All-weaker, All-contains_itself}
@@ -55,6 +57,7 @@ first_unheard-requires-clause-columns c =
     rw c.columns_of-columns.ensures.columns
     (columns_known c.problem-problem.ensures.admitted c.args.tables.now.nodes are c.loop-item.item)
 
+-- the row has at most as many columns as a row may have
 pub first_unheard-requires-clause-few : goal.first_unheard-requires-clause-few
 first_unheard-requires-clause-few c = rw c.columns_of-columns.ensures.columns
     (columns_few c.args.tables.now.head c.args.tables.now.nodes c.columns_of-columns.ensures.lawful c.loop-item.item)

@@ -1,3 +1,5 @@
+-- Loops of `check_heard`: the first violation of V4, by item and column, with the least scenario in the urgency order
+-- in which it stands: the column matches, and one of its literals isn't heard at the item's node by the column's time.
 use Rattle.std.proofs.Common.{ℕ, ◌≡◌, ◌<◌, false, Option}
 use Rattle.cpg_base.specs.Scenario.{Scenario, IsScenario}
 use Rattle.cpg_table.specs.Valid.{breaks}

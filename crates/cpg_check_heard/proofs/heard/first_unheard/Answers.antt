@@ -1,3 +1,5 @@
+-- Proof of `first_unheard`: the first column of an item's row that matches in a scenario in which the item's node
+-- hasn't heard one of its literals by its time; and the least such scenario.
 use Rattle.std.proofs.Common.{◌≡◌, ◌<◌, ◌&&◌, ◌∙◌, false, Some, None, All, Contains, length, ap, sym, subst, arith, inl}
 use Rattle.std.proofs.Common.{inr}
 use Rattle.std.proofs.lemmas.Bool.{cases_lt}
@@ -66,6 +68,7 @@ loop-place-preserved c =
     let order = c.args.hearing.now.admitted.now.order in
     let tables = c.args.hearing.now.tables.now.nodes in
     let d = c.index-columns-place.result in
+    -- the node of the item, and the answer for its column at this place: nothing is unheard
     let node : c.home-node.result ≡ home g c.args.item =
     c.home-node.ensures.home ∙ ap (λ h. home h c.args.item) c.problem-problem.ensures.problem in
     let found =
@@ -73,10 +76,12 @@ loop-place-preserved c =
     c.index-columns-place.is
     (subst (λ n. IsFirst g order (λ s. matches d.cube s && is_column_unheard g tables n s d) None) node
     (rw c.in_default.is at c.in_ok-unheard.ensures)) in
+    -- so the column at this place never breaks V4
     let none : (s : Scenario) → IsScenario g s →
     is_unheard g tables c.args.item c.args.columns.now c.loop-place.place s ≡ false =
     broken_place (λ s e. breaks_heard g tables s c.args.item e) c.args.columns.now c.loop-place.place g order d
     c.loop-place-test.true None found in
+    -- an earlier place is right already, and this one is the next
     λ i s l law. elim (cases_lt i c.loop-place.place) [
       | inl lt ↦ c.loop-place.invariant i s lt law
       | inr ge ↦ let same : c.loop-place.place ≡ i = omega arith in

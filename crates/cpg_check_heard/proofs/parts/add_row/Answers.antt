@@ -1,3 +1,5 @@
+-- Proof of `add_row`: adds the parts of a row's cubes in which it tells a bound by a time, as far as they match
+-- together with a cube.
 use Rattle.std.proofs.Common.{◌||◌, Contains, get_or, sym, ap, ◌∙◌, subst}
 use Rattle.std.specs.List.{list_any}
 use Rattle.std.proofs.Math.Bool.{or-false}
@@ -16,6 +18,7 @@ loop-place-preserved c =
     record {
       known = rw c.in_ok-add.ensures (known_add g c.loop-place.told.items c.in_ok-part.part c.loop-place.invariant.known
           c.in_ok-part.ensures.known);
+      -- the cubes match where one of the places so far, or this one, tells the bound
       told = λ s i. row_more (is_telling_at g c.args.row.now.means c.args.time c.args.bound
           c.args.row.now.line.now.columns.now s) places c.loop-place.place-index 0 c.loop-place-test.true
           (list_any (λ b. matches b s) c.args.told.now.items) (list_any (λ b. matches b s) c.loop-place.told.items)

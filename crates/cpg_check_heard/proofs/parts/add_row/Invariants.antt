@@ -1,3 +1,5 @@
+-- Loops of `add_row`: adds the parts of a row's cubes in which it tells a bound by a time, as far as they match
+-- together with a cube.
 use Rattle.std.proofs.Common.{◌≡◌, ◌||◌, All, take}
 use Rattle.std.specs.List.{list_any}
 use Rattle.cpg_base.specs.Scenario.{Scenario, IsScenario}

@@ -1,3 +1,4 @@
+-- Loops of `counts_by`: how many of the fault counts, from 0 on, let an execution that starts at a time end by another.
 use Rattle.std.proofs.Common.{ℕ, ◌<◌, ◌≤◌}
 use Rattle.cpg_base.specs.Duration.{duration}
 use Rattle.cpg_check_heard.proofs.parts.counts_by.Given as goal

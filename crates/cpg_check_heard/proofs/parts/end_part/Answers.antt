@@ -1,3 +1,5 @@
+-- Proof of `end_part`: the part of a column's cube in which the process has ended by a time, and its count or value is
+-- within a bound.
 use Rattle.std.proofs.Common.{◌≡◌, ◌-◌, ◌&&◌, ◌∙◌, ap, arith, Some, subst, inl}
 use Rattle.cpg_base.specs.Graph.{IsVariable}
 use Rattle.cpg_cube.specs.Narrow.{with_literal}
@@ -8,15 +10,18 @@ use Rattle.cpg_check_heard.specs.TellingRows.{IsPart}
 use Rattle.cpg_check_heard.proofs.PartLaws.{end_none, end_apart, end_told, part_with, known_with, range_variable}
 use Rattle.cpg_check_heard.proofs.parts.end_part.Goals as goal
 
+-- with no count the execution has ended by the time, so there is no part
 pub returns-then-counts-eq0-clause-part : goal.returns-then-counts-eq0-clause-part
 returns-then-counts-eq0-clause-part c = end_none c.args.problem.now c.counts_by-counts.ensures.limits.few_processes
     c.args.process c.args.column.now c.args.time c.args.bound c.requires.can
     c.requires.variable
     c.counts_by-counts.result c.counts_by-counts.ensures.counts c.if-counts-eq0.true
 
+-- the number of a process fits in a byte
 pub overflow_cast-come : goal.overflow_cast-come
 overflow_cast-come c = omega (arith, c.requires.can.0, c.counts_by-counts.ensures.limits.few_processes)
 
+-- the column never matches with such a count, so there is no part
 pub returns-in_default-clause-part : goal.returns-in_default-clause-part
 returns-in_default-clause-part c = end_apart c.args.problem.now c.counts_by-counts.ensures.limits.few_processes
     c.args.process c.args.column.now c.args.time c.args.bound c.requires.can

@@ -1,3 +1,5 @@
+-- Proof of `frame_part`: the part of a column's cube in which its frame has come by a time and tells a bound, if there
+-- is one.
 use Rattle.std.proofs.Common.{◌≡◌, ◌+◌, ◌&&◌, true, false, subst, sym, ◌∙◌, ap}
 use Rattle.std.specs.Prelude.{nat_le}
 use Rattle.std.specs.List.{list_any}
@@ -12,12 +14,14 @@ use Rattle.cpg_check_heard.proofs.parts.frame_part.Goals as goal
 pub returns-clause-part : goal.returns-clause-part
 returns-clause-part c =
     let g = c.args.problem.now in
+    -- the part in which the value is within the bound
     let told : IsPart g
     (λ s. holds s (range_of g.faults c.args.bound) && matches c.args.column.now.cube s) c.in_ok-told.told =
     subst (λ l. IsPart g (λ s. holds s l && matches c.args.column.now.cube s) c.in_ok-told.told)
     (c.range.ensures ∙ ap (λ k. range_of k c.args.bound) c.faults.ensures.faults)
     (part_with g c.range.result c.args.column.now.cube c.in_ok-told.told c.in_ok-told.ensures.both
     c.in_ok-told.ensures.none) in
+    -- the frame has come, no literal of its column tells the bound, and it carries the variable's value
     let come : nat_le (c.args.column.now.time + c.args.delay) c.args.time ≡ true =
     sym c.has_come.ensures.is ∙ c.if-not-has_come.false in
     let off : list_any (tells c.args.bound) c.args.column.now.cube ≡ false =
@@ -28,6 +32,7 @@ returns-clause-part c =
     frame_value g c.faults.ensures.within.few_processes c.args.delay c.args.condition c.args.column.now c.args.time
     c.args.bound c.requires.variable come off value c.in_ok-told.told told
 
+-- the part has variables of the graph alone
 pub returns-clause-known : goal.returns-clause-known
 returns-clause-known c =
     let variable : IsVariable c.args.problem.now c.range.result.variable =

@@ -1,3 +1,4 @@
+-- Loops of `telling_rows`: the rows of all items, by number, and by what means they tell.
 use Rattle.std.proofs.Common.{List}
 use Rattle.cpg_base.specs.Graph.{item_count}
 use Rattle.cpg_table.specs.Table.{NodeTable}

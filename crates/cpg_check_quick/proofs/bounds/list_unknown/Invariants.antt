@@ -1,3 +1,5 @@
+-- Loops of `list_unknown`: lists the bounds of the literals on variables that aren't marked, in scenarios of at most
+-- `k` faults, in place of what the list held.
 use Rattle.std.proofs.Common.{◌≡◌, ◌++◌, drop, flat_map}
 use Rattle.cpg_check_quick.specs.Bounds.{unknown_bounds}
 use Rattle.cpg_check_quick.proofs.bounds.list_unknown.Given as goal

@@ -1,3 +1,5 @@
+-- Proof of `heard_marks`: the items each of whose literals is heard by the time of its column, wherever that matches,
+-- by what is known of executions and frames, and of the sends that keep V5.
 use Rattle.std.proofs.Common.{◌<◌, ap, ◌∙◌, sym, arith}
 use Rattle.cpg_base.specs.Graph.{item_count}
 use Rattle.cpg_table.specs.declared.rule.Rule.{Rule}

@@ -1,3 +1,5 @@
+-- Loops of `heard_marks`: the items each of whose literals is heard by the time of its column, wherever that matches,
+-- by what is known of executions and frames, and of the sends that keep V5.
 use Rattle.cpg_table.specs.declared.rule.Rule.{Rule}
 use Rattle.cpg_violation.proofs.SureLaws.{AreSoFar}
 use Rattle.cpg_check_quick.proofs.heard.heard_marks.Given as goal

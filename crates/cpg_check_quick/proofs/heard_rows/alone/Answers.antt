@@ -1,3 +1,4 @@
+-- Proof of `alone`: the column at the only place, if there is one.
 use Rattle.std.proofs.Common.{◌≡◌, refl}
 use Rattle.cpg_cube.specs.declared.column.Column.{Column}
 use Rattle.cpg_check_quick.proofs.OrderLaws.{told_at}

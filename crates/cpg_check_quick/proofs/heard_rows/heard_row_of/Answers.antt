@@ -1,3 +1,4 @@
+-- Proof of `heard_row_of`: an item as a node hears it, if it does and its row has a tree.
 use Rattle.std.proofs.Common.{IfSome, ap, ◌∙◌, sym, subst, arith}
 use Rattle.cpg_base.specs.Bus.{slot_length}
 use Rattle.cpg_table.specs.Table.{columns_of}

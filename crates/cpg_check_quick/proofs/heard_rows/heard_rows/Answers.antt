@@ -1,3 +1,4 @@
+-- Proof of `heard_rows`: those of these items that a node hears and whose rows have trees.
 use Rattle.std.proofs.lemmas.List.Elements.{All-push}
 use Rattle.cpg_check_quick.specs.HeardRows.{IsHeardRow}
 use Rattle.cpg_check_quick.proofs.heard_rows.heard_rows.Goals as goal

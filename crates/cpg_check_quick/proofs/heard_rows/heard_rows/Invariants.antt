@@ -1,3 +1,4 @@
+-- Loops of `heard_rows`: those of these items that a node hears and whose rows have trees.
 use Rattle.std.proofs.Common.{List, All}
 use Rattle.cpg_table.specs.Table.{NodeTable}
 use Rattle.cpg_check_quick.specs.SpannedRows.{AreSpannedRows}

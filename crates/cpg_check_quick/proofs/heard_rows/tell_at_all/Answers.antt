@@ -1,3 +1,5 @@
+-- Proof of `tell_at_all`: whether the column at each of these places has a literal that bounds the variable of a wanted
+-- one at least as closely.
 use Rattle.std.proofs.lemmas.Bool.{OnTrue_at}
 use Rattle.std.proofs.lemmas.List.Elements.{All-more}
 use Rattle.cpg_cube.specs.Column.{column_at}

@@ -1,3 +1,4 @@
+-- Proof of `inputs_marks`: the items that have no column too early for what it waits for.
 use Rattle.cpg_table.specs.declared.rule.Rule.{Rule}
 use Rattle.cpg_tree.proofs.Passes.{of_true}
 use Rattle.cpg_violation.proofs.SureLaws.{one_more}

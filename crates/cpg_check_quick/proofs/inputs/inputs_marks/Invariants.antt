@@ -1,3 +1,4 @@
+-- Loops of `inputs_marks`: the items that have no column too early for what it waits for.
 use Rattle.cpg_table.specs.declared.rule.Rule.{Rule}
 use Rattle.cpg_violation.proofs.SureLaws.{AreSoFar}
 use Rattle.cpg_check_quick.proofs.inputs.inputs_marks.Given as goal

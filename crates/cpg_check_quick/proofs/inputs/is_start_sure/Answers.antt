@@ -1,3 +1,4 @@
+-- Proof of `is_start_sure`: whether the columns of a start are no earlier than its release and its live inputs.
 use Rattle.std.proofs.Common.{◌≡◌, ◌<◌, All, Contains, ap, sym, ◌∙◌, subst}
 use Rattle.cpg_base.specs.Graph.{edge_count, inputs, process_at}
 use Rattle.cpg_tree.proofs.Passes.{of_true}

@@ -1,3 +1,4 @@
+-- Proof of `is_sure`: whether a row keeps the rule.
 use Rattle.std.proofs.Common.{◌≤◌, ap, arith, length}
 use Rattle.cpg_base.specs.Graph.{process_count}
 use Rattle.cpg_tree.proofs.Passes.{of_true}

@@ -1,3 +1,4 @@
+-- Proof of `are_all_known`: whether all literals of all these columns are on known variables.
 use Rattle.std.proofs.Common.{◌≡◌, All, get_or, true, false}
 use Rattle.std.proofs.lemmas.Bool.{OnTrue_at}
 use Rattle.cpg_cube.specs.declared.literal.Literal.{Literal}

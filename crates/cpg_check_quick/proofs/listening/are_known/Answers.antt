@@ -1,3 +1,4 @@
+-- Proof of `are_known`: whether all literals are on marked variables.
 use Rattle.std.proofs.Common.{◌≡◌, get_or, true, false}
 use Rattle.std.proofs.lemmas.Bool.{OnTrue_from, and_parts}
 use Rattle.std.proofs.lemmas.List.Elements.{All-more}

@@ -1,3 +1,5 @@
+-- Proof of `has_ended`: whether a process on an item's node has always ended by the item's columns: before it in
+-- sequence, or by the end of the producer of a send that keeps V5.
 use Rattle.std.proofs.Common.{◌≡◌, ◌≤◌, ap, length, sym, ◌∙◌, subst, arith}
 use Rattle.cpg_base.specs.Graph.{process_count, producer}
 use Rattle.cpg_tree.proofs.Passes.{of_true}

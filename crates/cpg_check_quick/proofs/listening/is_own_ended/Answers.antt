@@ -1,3 +1,5 @@
+-- Proof of `is_own_ended`: whether a variable's process is on an item's node and has always ended by the item's
+-- columns.
 use Rattle.std.proofs.Common.{ap, sym, ◌∙◌}
 use Rattle.cpg_base.specs.Graph.{home, node_of}
 use Rattle.cpg_tree.proofs.Passes.{of_true}

@@ -1,3 +1,4 @@
+-- Loops of `marked_from_start`: how many variables from the first on are marked without a gap.
 use Rattle.std.proofs.Common.{ℕ, ◌<◌, ◌≡◌, get_or, true, false}
 use Rattle.cpg_check_quick.proofs.listening.marked_from_start.Given as goal
 

@@ -1,3 +1,5 @@
+-- Proof of `own_ended`: marks of the variables whose process is on an item's node and has always ended by the item's
+-- columns, by number.
 use Rattle.std.proofs.Common.{◌∙◌, arith, refl}
 use Rattle.std.proofs.lemmas.List.{length-set}
 use Rattle.cpg_tree.proofs.Passes.{of_true}

@@ -1,3 +1,5 @@
+-- Loops of `own_ended`: marks of the variables whose process is on an item's node and has always ended by the item's
+-- columns, by number.
 use Rattle.std.proofs.Common.{◌≡◌, List, length, true}
 use Rattle.cpg_table.specs.Table.{NodeTable}
 use Rattle.cpg_table.specs.declared.rule.Rule.{Rule}

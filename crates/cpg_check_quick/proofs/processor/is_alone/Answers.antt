@@ -1,3 +1,4 @@
+-- Proof of `is_alone`: whether the executions of an item are known to overlap with none of a process of a lower number.
 use Rattle.std.proofs.Common.{◌∙◌, ap, arith, length}
 use Rattle.cpg_tree.proofs.Passes.{of_true}
 use Rattle.cpg_check_quick.specs.Order.{execution}

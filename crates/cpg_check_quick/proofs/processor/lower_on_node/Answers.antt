@@ -1,3 +1,4 @@
+-- Proof of `lower_on_node`: the processes of a process's node that have lower numbers.
 use Rattle.std.proofs.Common.{◌==◌, ◌∙◌, ap, eq-eqb, sym}
 use Rattle.std.proofs.lemmas.Bool.{ne_eqb}
 use Rattle.cpg_base.specs.Graph.{node_of}
@@ -10,12 +11,14 @@ pub loop-other-preserved : goal.loop-other-preserved
 loop-other-preserved c =
     let g = c.args.problem.now in
     elim c.if-node_of-node.branch [
+      -- it is on the node
       | then-node_of-node+in_ok-push w ↦ filter_below_takes (λ q. node_of g q == node_of g c.args.process)
           c.loop-other.lower.items c.if-node_of-node.lower.items c.loop-other.other
           c.loop-other.invariant
           (eq-eqb (node_of g c.loop-other.other) (node_of g c.args.process)
           (sym c.node_of.ensures.node ∙ w.if-node_of-node.true ∙ c.node_of-node.ensures.node))
           (ap (λ v. v.items) w.lower-is ∙ w.in_ok-push.ensures.items)
+      -- it isn't
       | else-node_of-node w ↦ ap (λ v. v.items) w.lower-is
           ∙ filter_below_skips (λ q. node_of g q == node_of g c.args.process) c.loop-other.lower.items
           c.loop-other.other c.loop-other.invariant

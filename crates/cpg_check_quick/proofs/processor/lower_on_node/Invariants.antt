@@ -1,3 +1,4 @@
+-- Loops of `lower_on_node`: the processes of a process's node that have lower numbers.
 use Rattle.std.proofs.Common.{◌≡◌, ◌==◌, filter}
 use Rattle.cpg_base.specs.Graph.{node_of}
 use Rattle.cpg_base.specs.Numbers.{numbers_below}

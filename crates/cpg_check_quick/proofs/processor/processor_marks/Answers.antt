@@ -1,3 +1,5 @@
+-- Proof of `processor_marks`: the items whose executions overlap with none of a process of a lower number, by the
+-- executions of each node in sequence.
 use Rattle.std.proofs.Common.{◌∷◌, [], arith}
 use Rattle.std.proofs.lemmas.List.{length-append}
 use Rattle.cpg_table.specs.declared.rule.Rule.{Rule}

@@ -1,3 +1,5 @@
+-- Loops of `processor_marks`: the items whose executions overlap with none of a process of a lower number, by the
+-- executions of each node in sequence.
 use Rattle.std.proofs.Common.{◌≡◌, List, length}
 use Rattle.cpg_table.specs.Table.{NodeTable}
 use Rattle.cpg_table.specs.declared.rule.Rule.{Rule}

@@ -1,3 +1,5 @@
+-- Proof of `execution_sequences`: the rows of all processes' starts, and for each node the order in which its
+-- executions follow one another, if one is known.
 use Rattle.cpg_check_quick.specs.Order.{execution}
 use Rattle.cpg_check_quick.proofs.sequences.execution_sequences.Goals as goal
 

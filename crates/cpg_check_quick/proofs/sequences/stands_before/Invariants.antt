@@ -1,3 +1,4 @@
+-- Loops of `stands_before`: whether one item stands before another in an order.
 use Rattle.std.proofs.Common.{ℕ, ◌<◌, ◌≡◌, get_or}
 use Rattle.std.specs.Bool.{OnTrue}
 use Rattle.cpg_check_quick.proofs.sequences.stands_before.Given as goal

@@ -1,3 +1,4 @@
+-- Proof of `are_in_slots`: whether a node's slot starts at the time of each of these columns, if the column matches.
 use Rattle.std.proofs.Common.{◌≡◌, true}
 use Rattle.std.proofs.lemmas.Bool.{OnTrue_at}
 use Rattle.cpg_base.specs.Bus.{next_slot}

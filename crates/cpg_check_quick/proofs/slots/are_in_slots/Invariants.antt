@@ -1,3 +1,4 @@
+-- Loops of `are_in_slots`: whether a node's slot starts at the time of each of these columns, if the column matches.
 use Rattle.std.proofs.Common.{◌≡◌, All, take, true}
 use Rattle.cpg_base.specs.Bus.{next_slot}
 use Rattle.cpg_base.specs.Scenario.{Scenario, IsScenario}

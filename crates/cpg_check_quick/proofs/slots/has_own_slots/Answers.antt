@@ -1,3 +1,4 @@
+-- Proof of `has_own_slots`: whether an item is known to have slots of its own.
 use Rattle.std.proofs.Common.{◌≡◌, ◌∙◌, All, true}
 use Rattle.std.proofs.lemmas.Bool.{OnTrue_at}
 use Rattle.cpg_base.specs.Bus.{next_slot}

@@ -1,3 +1,4 @@
+-- Proof of `is_in_slot`: whether a node's slot starts at the time of a column, if the column matches.
 use Rattle.cpg_violation.proofs.SpaceLaws.{not_none}
 use Rattle.cpg_check_quick.proofs.slots.is_in_slot.Goals as goal
 

@@ -1,3 +1,4 @@
+-- Proof of `lower_sent`: the items with lower numbers that the home of an item sends.
 use Rattle.std.proofs.Common.{◌≡◌, ◌==◌, ◌&&◌, ◌∙◌, ap, sym}
 use Rattle.cpg_base.specs.Graph.{home, is_sent}
 use Rattle.cpg_base.proofs.Lists.{filter_below_skips, filter_below_takes}
@@ -13,10 +14,12 @@ loop-other-preserved c =
     ap (λ h. is_sent g c.loop-other.other && (home g c.loop-other.other == h)) (sym c.home-node.ensures.home)
     ∙ sym c.is_sent_from.ensures in
     elim c.if-is_sent_from.branch [
+      -- the node sends it
       | then-is_sent_from+in_ok-push w ↦ filter_below_takes (λ y. is_sent g y && (home g y == home g c.args.item))
           c.loop-other.lower.items c.if-is_sent_from.lower.items c.loop-other.other
           c.loop-other.invariant
           (same ∙ w.if-is_sent_from.true) (ap (λ v. v.items) w.lower-is ∙ w.in_ok-push.ensures.items)
+      -- it doesn't
       | else-is_sent_from w ↦ ap (λ v. v.items) w.lower-is ∙ filter_below_skips
           (λ y. is_sent g y && (home g y == home g c.args.item)) c.loop-other.lower.items c.loop-other.other
           c.loop-other.invariant

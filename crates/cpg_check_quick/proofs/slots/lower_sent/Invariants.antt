@@ -1,3 +1,4 @@
+-- Loops of `lower_sent`: the items with lower numbers that the home of an item sends.
 use Rattle.std.proofs.Common.{◌≡◌, ◌==◌, ◌&&◌, filter}
 use Rattle.cpg_base.specs.Graph.{home, is_sent}
 use Rattle.cpg_base.specs.Numbers.{numbers_below}

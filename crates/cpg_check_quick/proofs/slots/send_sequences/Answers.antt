@@ -1,3 +1,4 @@
+-- Proof of `send_sequences`: the sends of all items, with those of each node in sequence.
 use Rattle.cpg_check_quick.specs.Order.{sending}
 use Rattle.cpg_check_quick.proofs.slots.send_sequences.Goals as goal
 

@@ -1,3 +1,4 @@
+-- Proof of `slot_marks`: the items whose sends are at the start of a slot, and in none of an item of a lower number.
 use Rattle.cpg_table.specs.declared.rule.Rule.{Rule}
 use Rattle.cpg_violation.proofs.SureLaws.{one_more}
 use Rattle.cpg_check_quick.proofs.slots.slot_marks.Goals as goal

@@ -1,3 +1,4 @@
+-- Proof of `executions`: the rows of all processes, with how long they execute.
 use Rattle.std.proofs.Common.{◌≡◌, ◌∙◌, ap}
 use Rattle.cpg_base.specs.Graph.{Graph}
 use Rattle.cpg_violation.proofs.SpaceLaws.{few_of}

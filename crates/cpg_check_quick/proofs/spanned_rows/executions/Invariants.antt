@@ -1,3 +1,4 @@
+-- Loops of `executions`: the rows of all processes, with how long they execute.
 use Rattle.cpg_check_quick.specs.Order.{execution}
 use Rattle.cpg_check_quick.proofs.OrderLaws.{AreSoFar}
 use Rattle.cpg_check_quick.proofs.spanned_rows.executions.Given as goal

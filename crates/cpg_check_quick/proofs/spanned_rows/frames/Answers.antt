@@ -1,3 +1,4 @@
+-- Proof of `frames`: the rows of all items, with how long their frames take.
 use Rattle.std.proofs.Common.{◌≡◌, ◌∙◌, ap, subst}
 use Rattle.cpg_base.specs.Bus.{slot_length}
 use Rattle.cpg_base.specs.Graph.{Graph, home}

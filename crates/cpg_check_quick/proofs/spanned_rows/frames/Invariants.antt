@@ -1,3 +1,4 @@
+-- Loops of `frames`: the rows of all items, with how long their frames take.
 use Rattle.cpg_check_quick.specs.Order.{frame}
 use Rattle.cpg_check_quick.proofs.OrderLaws.{AreSoFar}
 use Rattle.cpg_check_quick.proofs.spanned_rows.frames.Given as goal

@@ -1,3 +1,4 @@
+-- Proof of `sends`: the rows of all items, each for one time unit.
 use Rattle.std.proofs.Common.{◌≡◌, ◌∙◌, ap}
 use Rattle.cpg_base.specs.Graph.{Graph}
 use Rattle.cpg_violation.proofs.SpaceLaws.{few_of}

@@ -1,3 +1,4 @@
+-- Loops of `sends`: the rows of all items, each for one time unit.
 use Rattle.cpg_check_quick.specs.Order.{sending}
 use Rattle.cpg_check_quick.proofs.OrderLaws.{AreSoFar}
 use Rattle.cpg_check_quick.proofs.spanned_rows.sends.Given as goal

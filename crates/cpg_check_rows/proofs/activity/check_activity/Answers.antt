@@ -1,3 +1,6 @@
+-- Proof of `check_activity`: the first violation of V1, by item and column, with the least scenario in the urgency
+-- order in which it stands: the column matches, and the item or the process of one of the column's literals isn't
+-- active.
 use Rattle.std.proofs.Common.{◌≡◌, ap, false, ℕ, arith, refl, ◌<◌, sym}
 use Rattle.cpg_base.specs.Graph.{item_count}
 use Rattle.cpg_base.specs.Scenario.{Scenario, IsScenario}
@@ -22,6 +25,7 @@ first_idle-requires-clause-columns c =
     rw c.columns_of-columns.ensures.columns
     (columns_known c.problem.ensures.admitted c.args.tables.now.nodes are c.loop-item.item)
 
+-- the row has at most as many columns as a row may have
 pub first_idle-requires-clause-few : goal.first_idle-requires-clause-few
 first_idle-requires-clause-few c = rw c.columns_of-columns.ensures.columns
     (columns_few c.args.tables.now.head c.args.tables.now.nodes c.columns_of-columns.ensures.lawful c.loop-item.item)

@@ -1,3 +1,6 @@
+-- Loops of `check_activity`: the first violation of V1, by item and column, with the least scenario in the urgency
+-- order in which it stands: the column matches, and the item or the process of one of the column's literals isn't
+-- active.
 use Rattle.std.proofs.Common.{ℕ, ◌≡◌, ◌<◌, false, Option}
 use Rattle.cpg_base.specs.Scenario.{Scenario, IsScenario}
 use Rattle.cpg_table.specs.Valid.{breaks}

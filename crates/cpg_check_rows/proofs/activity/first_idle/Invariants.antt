@@ -1,3 +1,5 @@
+-- Loops of `first_idle`: the first column of an item's row that matches in a scenario in which the item, or the process
+-- of one of its literals, isn't active; and the least such scenario.
 use Rattle.std.proofs.Common.{ℕ, ◌≡◌, ◌<◌, false}
 use Rattle.cpg_base.specs.Scenario.{Scenario, IsScenario}
 use Rattle.cpg_check_rows.specs.Active.{is_idle}

@@ -1,3 +1,4 @@
+-- Proof of `least_idle`: the least scenario that a cube matches and in which a process isn't active, if there is one.
 use Rattle.std.proofs.Common.{◌≡◌, ◌&&◌, ◌∙◌, [], false, ap}
 use Rattle.cpg_base.specs.First.{IsFirst}
 use Rattle.cpg_cover.specs.Cover.{is_left}

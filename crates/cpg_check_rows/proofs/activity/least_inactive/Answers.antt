@@ -1,3 +1,4 @@
+-- Proof of `least_inactive`: the least scenario that a cube matches and in which an item isn't active, if there is one.
 use Rattle.cpg_violation.specs.declared.sources.ItemSource.{ItemSource}
 use Rattle.cpg_violation.proofs.GuardLaws.{as_source}
 use Rattle.cpg_check_rows.proofs.ActivityLaws.{inactive_as, inactive_never}

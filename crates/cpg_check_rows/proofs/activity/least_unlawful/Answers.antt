@@ -1,3 +1,5 @@
+-- Proof of `least_unlawful`: the least scenario that a column matches and in which its item, or the process of one of
+-- its literals, isn't active; if there is one.
 use Rattle.std.proofs.Common.{not}
 use Rattle.std.specs.List.{list_any}
 use Rattle.cpg_base.specs.Activity.{active, item_active}
@@ -7,6 +9,7 @@ use Rattle.cpg_violation.proofs.Columnwise.{first_either}
 use Rattle.cpg_violation.proofs.Violations.{long_order}
 use Rattle.cpg_check_rows.proofs.activity.least_unlawful.Goals as goal
 
+-- the urgency order has each process
 pub earlier-requires-clause-order : goal.earlier-requires-clause-order
 earlier-requires-clause-order c =
     rw (c.order.ensures.order, c.problem.ensures.problem) (long_order c.order.ensures.admitted)

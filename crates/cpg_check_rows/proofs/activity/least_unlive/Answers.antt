@@ -1,3 +1,5 @@
+-- Proof of `least_unlive`: the least scenario that a cube matches and in which an edge isn't live, if there is one: its
+-- source isn't active, or has the other value.
 use Rattle.std.proofs.Common.{◌≡◌, ◌&&◌, ◌∙◌, not, ap, subst}
 use Rattle.cpg_base.specs.Activity.{active, live}
 use Rattle.cpg_base.specs.Graph.{condition_of, edge_at, source}
@@ -19,9 +21,11 @@ returns-in_default c =
     let e = c.args.edge in
     let is : c.source-process.result ≡ source g e =
     c.source-process.ensures.source ∙ ap (λ h. source h e) c.problem-problem.ensures.problem in
+    -- the least scenario in which the source isn't active
     let idle =
     subst (λ p. IsFirst g order (λ s. matches c.args.cube.now s && not (active g s.values p)) c.in_ok-idle.idle) is
     c.in_ok-idle.ensures in
+    -- the edge asks for no value that the source may lack
     let none = rw (c.in_default.is, c.problem-problem.ensures.problem) at c.other_value.ensures.none in
     unlive_idle g order c.args.cube.now (λ s. active g s.values (source g e))
     (λ s. is_passed (test_of (condition_of g (source g e)) (edge_at g e).when) s.values)
@@ -29,10 +33,12 @@ returns-in_default c =
     (λ s i. live_tested g order a.topological c.args.admitted.now.guards a.guards s.values i.values e c.requires.edge)
     none idle
 
+-- the urgency order has each process
 pub earlier-requires-clause-order : goal.earlier-requires-clause-order
 earlier-requires-clause-order c =
     rw (c.order-order.ensures.order, c.problem-problem.ensures.problem) (long_order c.order-order.ensures.admitted)
 
+-- the scenario with the other value, if there is one, is lawful
 pub earlier-requires-clause-second : goal.earlier-requires-clause-second
 earlier-requires-clause-second c = lawful_if_some c.problem-problem.result.now c.order-order.result.now
     (λ s. matches c.args.cube.now s && holds s c.in-Some.literal) c.in_ok-other.other
@@ -45,8 +51,10 @@ returns c =
     let order = c.args.admitted.now.order in
     let a = c.problem-problem.ensures.admitted in
     let e = c.args.edge in
+    -- the edge's source
     let is : c.source-process.result ≡ source g e =
     c.source-process.ensures.source ∙ ap (λ h. source h e) c.problem-problem.ensures.problem in
+    -- the least scenario in which it isn't active, and the least in which it has the other value
     let idle =
     subst (λ p. IsFirst g order (λ s. matches c.args.cube.now s && not (active g s.values p)) c.in_ok-idle.idle) is
     c.in_ok-idle.ensures in

@@ -1,3 +1,5 @@
+-- Proof of `least_unrun`: the least scenario that a cube matches and in which the process of one of its literals isn't
+-- active, if there is one.
 use Rattle.std.proofs.Common.{◌≡◌, ◌<◌, ◌≤◌, not, ap, arith, length}
 use Rattle.std.proofs.lemmas.List.{take_all}
 use Rattle.cpg_base.specs.Activity.{active}
@@ -7,6 +9,7 @@ use Rattle.cpg_violation.proofs.Columnwise.{first_any_more}
 use Rattle.cpg_violation.proofs.Violations.{long_order}
 use Rattle.cpg_check_rows.proofs.activity.least_unrun.Goals as goal
 
+-- the urgency order has each process
 pub earlier-found-requires-clause-order : goal.earlier-found-requires-clause-order
 earlier-found-requires-clause-order c =
     rw (c.order-order.ensures.order, c.problem-problem.ensures.problem) (long_order c.order-order.ensures.admitted)
@@ -27,6 +30,7 @@ loop-literal-preserved c =
     (record { variable = 0; low = 0; high = 0 }) within
     c.loop-literal.found c.in_ok-next.next c.loop-literal.invariant next)
 
+-- after all literals the scenario is the least for any of them
 pub returns : goal.returns
 returns c =
     let literals : c.literals-literal-items.result.now ≡ c.args.cube.now = c.literals-literal-items.ensures.literals in

@@ -1,3 +1,5 @@
+-- Loops of `least_unrun`: the least scenario that a cube matches and in which the process of one of its literals isn't
+-- active, if there is one.
 use Rattle.std.proofs.Common.{◌&&◌, take, not}
 use Rattle.std.specs.List.{list_any}
 use Rattle.cpg_base.specs.Activity.{active}

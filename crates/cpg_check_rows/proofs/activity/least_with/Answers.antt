@@ -1,3 +1,4 @@
+-- Proof of `least_with`: the least scenario that a cube matches and in which a literal holds, if there is one.
 use Rattle.std.proofs.Common.{rules, ◌≡◌, Some, subst}
 use Rattle.cpg_cube.specs.Fit.{IsKnown}
 use Rattle.cpg_cube.specs.Narrow.{with_literal}
@@ -16,6 +17,7 @@ least-requires c =
           (known-narrowed g c.args.literal c.args.cube.now c.requires.literal c.requires.cube);
     }
 
+-- the part of the cube in which the literal holds has this least scenario
 pub returns : goal.returns
 returns c = λ order. with_part c.args.problem.now order c.args.cube.now c.args.literal c.in-Some.part
     c.in_ok-found.found (rw c.in-Some.is at c.in_ok-part.ensures.both)

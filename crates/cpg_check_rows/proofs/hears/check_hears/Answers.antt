@@ -1,3 +1,6 @@
+-- Proof of `check_hears`: the first violation of V10: the least item that some node hears at other columns than the
+-- sender's, each later by the sender's slot, with the first column that differs at the least such node, in the scenario
+-- without faults in which every value is false.
 use Rattle.std.proofs.Common.{◌≡◌, ◌∙◌, ap, ap₂, subst, map, length, List, arith}
 use Rattle.cpg_base.specs.Bus.{slot_length}
 use Rattle.cpg_base.specs.Graph.{home, item_count}
@@ -11,6 +14,7 @@ use Rattle.cpg_table.proofs.RowColumns.{columns_few}
 use Rattle.cpg_check_rows.proofs.HearLaws.{hears_hold, heard_more}
 use Rattle.cpg_check_rows.proofs.hears.check_hears.Goals as goal
 
+-- the row has at most as many columns as a row may have
 pub first_hear-requires-clause-few : goal.first_hear-requires-clause-few
 first_hear-requires-clause-few c = rw c.columns_of-sent.ensures.columns
     (columns_few c.args.tables.now.head c.args.tables.now.nodes c.columns_of-sent.ensures.lawful c.loop-item.item)
@@ -19,6 +23,7 @@ first_hear-requires-clause-few c = rw c.columns_of-sent.ensures.columns
 pub returns-in-Some-clause-first : goal.returns-in-Some-clause-first
 returns-in-Some-clause-first c =
     let g = c.args.admitted.now.graph in
+    -- the columns at which the item is due: the sender's, each later by its slot
     let delay : c.slot_length-delay.result ≡ slot_length g (home g c.loop-item.item) =
     c.slot_length-delay.ensures ∙ ap (slot_length c.problem-problem.result.now) c.home.ensures.home
     ∙ ap (λ h. slot_length h (home h c.loop-item.item)) c.problem-problem.ensures.problem in
@@ -26,11 +31,13 @@ returns-in-Some-clause-first c =
     ≡ due_columns g c.args.tables.now.nodes c.loop-item.item =
     ap₂ (λ d (cs : List Column). map (later_by d) cs) delay c.columns_of-sent.ensures.columns in
     let nodes : length c.args.tables.now.head.nodes ≡ length g.nodes = ap length c.requires.nodes in
+    -- the difference that was found, said of these columns and of the graph's nodes
     let first : IsFirstHear c.args.tables.now.nodes (length g.nodes) c.loop-item.item
     (due_columns g c.args.tables.now.nodes c.loop-item.item) c.in-Some.place =
     subst (λ cs. IsFirstHear c.args.tables.now.nodes (length g.nodes) c.loop-item.item cs c.in-Some.place) due
     (subst (λ n. IsFirstHear c.args.tables.now.nodes n c.loop-item.item (map (later_by c.slot_length-delay.result)
     c.columns_of-sent.result.now) c.in-Some.place) nodes c.in-Some.ensures.differ) in
+    -- it is the first violation of V10: number, item, scenario, and that all items before are heard well
     record {
       number = c.number.ensures;
       item = omega (

@@ -1,3 +1,6 @@
+-- Loops of `check_hears`: the first violation of V10: the least item that some node hears at other columns than the
+-- sender's, each later by the sender's slot, with the first column that differs at the least such node, in the scenario
+-- without faults in which every value is false.
 use Rattle.std.proofs.Common.{ℕ, ◌<◌}
 use Rattle.cpg_check_rows.specs.Hears.{IsHeardWell}
 use Rattle.cpg_check_rows.proofs.hears.check_hears.Given as goal

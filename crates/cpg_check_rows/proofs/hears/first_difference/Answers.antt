@@ -1,3 +1,5 @@
+-- Proof of `first_difference`: the first column that isn't the sender's, later by the delay: the shorter length if all
+-- before it are.
 use Rattle.std.proofs.Common.{rules, ◌≡◌, ◌∙◌, sym, ap, subst, map, min, take, length, arith}
 use Rattle.std.proofs.lemmas.List.{length-map}
 use Rattle.cpg_table.specs.Valid.{later_by}

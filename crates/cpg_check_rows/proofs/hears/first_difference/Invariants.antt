@@ -1,3 +1,5 @@
+-- Loops of `first_difference`: the first column that isn't the sender's, later by the delay: the shorter length if all
+-- before it are.
 use Rattle.std.proofs.Common.{◌≡◌, take, map}
 use Rattle.cpg_table.specs.Valid.{later_by}
 use Rattle.cpg_check_rows.proofs.hears.first_difference.Given as goal

@@ -1,3 +1,4 @@
+-- Loops of `first_hear`: the first column that differs at the least node that hears the item otherwise.
 use Rattle.std.proofs.Common.{ℕ, ◌<◌, map}
 use Rattle.cpg_table.specs.Valid.{later_by}
 use Rattle.cpg_check_rows.specs.Hears.{HearsAt}

@@ -1,3 +1,5 @@
+-- Loops of `check_present`: the first violation of V3, by item, with the least scenario in the urgency order in which
+-- it stands: the item is active and no column of its row matches.
 use Rattle.std.proofs.Common.{ℕ, ◌≡◌, ◌<◌, false, Option}
 use Rattle.cpg_base.specs.Scenario.{Scenario, IsScenario}
 use Rattle.cpg_table.specs.Valid.{breaks}

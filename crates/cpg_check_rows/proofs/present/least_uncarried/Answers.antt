@@ -1,3 +1,4 @@
+-- Proof of `least_uncarried`: the least scenario in which an edge is live and no column matches, if there is one.
 use Rattle.std.proofs.Common.{◌≡◌, ◌&&◌, ◌∙◌, map, ap, subst}
 use Rattle.cpg_base.specs.Activity.{active, live}
 use Rattle.cpg_base.specs.Graph.{condition_of, edge_at, source}

@@ -1,3 +1,4 @@
+-- Proof of `least_unstarted`: the least scenario in which a process is active and no column matches, if there is one.
 use Rattle.std.proofs.Common.{[], true, refl}
 use Rattle.cpg_base.specs.Activity.{active}
 use Rattle.cpg_violation.proofs.Tests.{with_true}

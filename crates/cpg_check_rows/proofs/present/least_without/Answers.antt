@@ -1,3 +1,5 @@
+-- Proof of `least_without`: the least scenario that a cube matches and no column does, and in which a process is
+-- active; if there is one.
 use Rattle.std.proofs.Common.{◌≡◌, ◌&&◌, ◌∙◌, true, sym, ap, subst, map, List, All, Bor}
 use Rattle.cpg_base.specs.First.{IsFirst}
 use Rattle.cpg_cube.specs.declared.literal.Literal.{Literal}
@@ -14,6 +16,7 @@ use Rattle.cpg_check_rows.proofs.present.least_without.Goals as goal
 abbrev seen : Bor (List Literal) → List Literal
 seen b = b.now
 
+-- the cubes of the columns have variables of the graph alone
 pub least_at-requires-clause-list : goal.least_at-requires-clause-list
 least_at-requires-clause-list c =
     let g = c.args.admitted.now.graph in

@@ -1,3 +1,5 @@
+-- Loops of `are_lawful`: whether an item and the processes of the literals of each of these columns are active wherever
+-- the column matches.
 use Rattle.std.proofs.Common.{◌≡◌, All, false, true, take}
 use Rattle.cpg_base.specs.Scenario.{Scenario, IsScenario}
 use Rattle.cpg_cube.specs.Cube.{matches}

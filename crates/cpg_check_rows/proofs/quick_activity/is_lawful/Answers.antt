@@ -1,3 +1,5 @@
+-- Proof of `is_lawful`: whether an item and the processes of a column's literals are active wherever the column
+-- matches.
 use Rattle.std.proofs.Common.{◌≡◌, ◌∙◌, false, not, ap, sym, subst, true≢false}
 use Rattle.std.specs.List.{list_any}
 use Rattle.std.proofs.lemmas.Bool.{OnTrue_at}
@@ -10,6 +12,7 @@ use Rattle.cpg_tree.proofs.Passes.{of_true}
 use Rattle.cpg_check_rows.proofs.LawfulRows.{both_active}
 use Rattle.cpg_check_rows.proofs.quick_activity.is_lawful.Goals as goal
 
+-- no scenario of the space has the column's values, so the column never matches
 pub returns-then-not-narrow_to : goal.returns-then-not-narrow_to
 returns-then-not-narrow_to c s law m =
     let none = from_false c.narrow_to.result c.if-not-narrow_to.true c.narrow_to.ensures.none in

@@ -1,3 +1,4 @@
+-- Proof of `is_sure`: whether a row keeps the rule.
 use Rattle.std.proofs.Common.{◌≡◌, All, true, false, subst}
 use Rattle.std.proofs.lemmas.Bool.{OnTrue_at}
 use Rattle.cpg_base.specs.Scenario.{Scenario, IsScenario}
@@ -32,6 +33,7 @@ returns-then-is_plain c =
     (OnTrue_at c.if-is_plain.true c.is_plain.ensures.all) (columns_known a c.args.tables.now.nodes are c.args.item)
     (OnTrue_at c.if-is_plain.true c.is_plain.ensures.item)
 
+-- if all columns of the row are lawful, the item keeps V1
 pub returns : goal.returns
 returns c =
     let g = c.args.admitted.now.graph in

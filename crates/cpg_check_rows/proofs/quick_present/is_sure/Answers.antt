@@ -1,3 +1,4 @@
+-- Proof of `is_sure`: whether an item is active in no scenario in which its row has no column that matches.
 use Rattle.std.proofs.Common.{◌≡◌, ◌∙◌, ap}
 use Rattle.cpg_base.specs.Graph.{Graph}
 use Rattle.cpg_tree.proofs.Forks.{from_true}

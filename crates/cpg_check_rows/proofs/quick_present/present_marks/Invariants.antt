@@ -1,3 +1,4 @@
+-- Loops of `present_marks`: the items that have a column that matches wherever they are active.
 use Rattle.std.proofs.Common.{List}
 use Rattle.cpg_table.specs.Table.{NodeTable}
 use Rattle.cpg_table.specs.declared.rule.Rule.{Rule}

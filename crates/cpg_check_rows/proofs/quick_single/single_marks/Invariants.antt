@@ -1,3 +1,4 @@
+-- Loops of `single_marks`: the items whose rows have trees: no two of their columns match together.
 use Rattle.std.proofs.Common.{List}
 use Rattle.cpg_base.specs.Graph.{Graph}
 use Rattle.cpg_table.specs.Table.{NodeTable}

@@ -1,3 +1,5 @@
+-- Loops of `first_double`: the first column of a row that matches together with an earlier one, and the least scenario
+-- in which it does.
 use Rattle.std.proofs.Common.{ℕ, ◌≡◌, ◌<◌, false}
 use Rattle.cpg_base.specs.Scenario.{Scenario, IsScenario}
 use Rattle.cpg_check_rows.specs.Single.{is_double}

@@ -1,3 +1,4 @@
+-- Loops of `first_with_tree`: how many first columns of a row are found to have a tree, by halving.
 use Rattle.std.proofs.Common.{ℕ, ◌-◌, ◌<◌, ◌≤◌, ◌≡◌, false, length}
 use Rattle.cpg_base.specs.Scenario.{Scenario, IsScenario}
 use Rattle.cpg_check_rows.specs.Single.{is_double}

@@ -1,3 +1,5 @@
+-- Proof of `shared`: the least scenario that a cube matches together with a column at one of some places, if there is
+-- one.
 use Rattle.std.proofs.Common.{get_or, ◌&&◌}
 use Rattle.cpg_cube.specs.Cube.{matches}
 use Rattle.cpg_violation.specs.Sieves.{is_at}
@@ -5,6 +7,7 @@ use Rattle.cpg_violation.proofs.Columnwise.{first_any_more}
 use Rattle.cpg_cover.proofs.AlongLaws.{lawful_if_some}
 use Rattle.cpg_check_rows.proofs.single.shared.Goals as goal
 
+-- the scenario of the next place, if there is one, is lawful
 pub earlier-found-requires-clause-second : goal.earlier-found-requires-clause-second
 earlier-found-requires-clause-second c = lawful_if_some c.args.problem.now c.args.order.now
     (λ s. matches c.args.cube.now s && is_at c.args.columns.now s (get_or c.args.places.now c.loop-place.place-index 0))

@@ -1,3 +1,5 @@
+-- Loops of `shared`: the least scenario that a cube matches together with a column at one of some places, if there is
+-- one.
 use Rattle.std.proofs.Common.{◌&&◌, take}
 use Rattle.std.specs.List.{list_any}
 use Rattle.cpg_base.specs.First.{IsFirst}

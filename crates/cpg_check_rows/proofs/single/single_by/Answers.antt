@@ -1,3 +1,4 @@
+-- Proof of `single_by`: the first violation of V2.
 use Rattle.std.proofs.Common.{◌≡◌, ◌<◌, ap, false, ℕ, arith, refl, sym}
 use Rattle.cpg_base.specs.Graph.{item_count}
 use Rattle.cpg_base.specs.Scenario.{Scenario, IsScenario}
@@ -13,6 +14,7 @@ use Rattle.cpg_violation.proofs.Marked.{marked_more}
 use Rattle.cpg_violation.proofs.Violations.{long_order, columns_known, none_more, first_violation}
 use Rattle.cpg_check_rows.proofs.single.single_by.Goals as goal
 
+-- the urgency order has each process
 pub first_double-requires-clause-order : goal.first_double-requires-clause-order
 first_double-requires-clause-order c =
     rw (c.order-order.ensures.order, c.problem-problem.ensures.problem) (long_order c.order-order.ensures.admitted)
@@ -26,6 +28,7 @@ first_double-requires-clause-columns c =
     rw (c.problem-problem.ensures.problem, c.columns_of-columns.ensures.columns)
     (columns_known c.order-order.ensures.admitted c.args.tables.now.nodes are c.loop-item.item)
 
+-- the row has at most as many columns as a row may have
 pub first_double-requires-clause-few : goal.first_double-requires-clause-few
 first_double-requires-clause-few c = rw c.columns_of-columns.ensures.columns
     (columns_few c.args.tables.now.head c.args.tables.now.nodes c.columns_of-columns.ensures.lawful c.loop-item.item)

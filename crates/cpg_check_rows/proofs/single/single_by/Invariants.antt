@@ -1,3 +1,4 @@
+-- Loops of `single_by`: the first violation of V2.
 use Rattle.std.proofs.Common.{ℕ, ◌≡◌, ◌<◌, false, Option}
 use Rattle.cpg_base.specs.Scenario.{Scenario, IsScenario}
 use Rattle.cpg_table.specs.Valid.{breaks}

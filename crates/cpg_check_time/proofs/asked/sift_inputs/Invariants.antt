@@ -1,3 +1,4 @@
+-- Loops of `sift_inputs`: sifts the rows that processes wait for.
 use Rattle.std.proofs.Common.{ℕ}
 use Rattle.cpg_violation.specs.Lines.{AreLines}
 use Rattle.cpg_check_time.proofs.asked.sift_inputs.Given as goal

@@ -1,3 +1,5 @@
+-- Loops of `sift_lower`: sifts the rows of items from a number on that are lower than an item, and with which it may
+-- clash.
 use Rattle.std.proofs.Common.{ℕ}
 use Rattle.cpg_violation.specs.Lines.{AreLines}
 use Rattle.cpg_check_time.proofs.asked.sift_lower.Given as goal

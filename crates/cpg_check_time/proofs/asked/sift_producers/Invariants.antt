@@ -1,3 +1,4 @@
+-- Loops of `sift_producers`: sifts the rows of the processes whose ends messages and broadcasts wait for.
 use Rattle.std.proofs.Common.{ℕ}
 use Rattle.cpg_violation.specs.Lines.{AreLines}
 use Rattle.cpg_check_time.proofs.asked.sift_producers.Given as goal

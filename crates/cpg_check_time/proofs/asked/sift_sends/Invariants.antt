@@ -1,3 +1,4 @@
+-- Loops of `sift_sends`: sifts the rows that V7 may ask.
 use Rattle.std.proofs.Common.{ℕ}
 use Rattle.cpg_violation.specs.Lines.{AreLines}
 use Rattle.cpg_check_time.proofs.asked.sift_sends.Given as goal

@@ -1,3 +1,5 @@
+-- Proof of `least_delay`: the least scenario that a column matches, and in which what some column of an item begins is
+-- done after its time; if there is one.
 use Rattle.std.proofs.Common.{◌≤◌, ◌+◌, arith, sym, subst}
 use Rattle.std.specs.List.{list_any}
 use Rattle.cpg_base.specs.First.{IsFirst}
@@ -21,6 +23,7 @@ returns-then-saturating_add-time c =
     never_delays g c.args.column.now.cube c.args.delay c.args.column.now.time c.most.result
     c.index-lines-item.result.last most (columns_of c.args.tables.now.nodes c.args.item) line.last early
 
+-- the line's columns are columns of the item, and of the graph
 pub least_near-requires-clause-columns : goal.least_near-requires-clause-columns
 least_near-requires-clause-columns c =
     let line : IsLine (columns_of c.args.tables.now.nodes c.args.item) c.index-lines-item.result =
@@ -28,9 +31,11 @@ least_near-requires-clause-columns c =
     (c.requires.lines.each c.args.item c.index-lines-item.result c.requires.item) in
     rw line.all (columns_are c.problem-problem.ensures.admitted c.args.tables.now.nodes c.requires.lawful c.args.item)
 
+-- the question fits: its cube and its delay are of the graph
 pub least_near-requires-clause-fits : goal.least_near-requires-clause-fits
 least_near-requires-clause-fits c = record { cube = c.requires.cube; delay = c.requires.delay }
 
+-- only scenarios in which both columns match answer the question
 pub least_near-requires-clause-near : goal.least_near-requires-clause-near
 least_near-requires-clause-near c =
     λ s d t. delays_both c.args.admitted.now.graph c.args.column.now.cube c.args.delay c.args.column.now.time s d t

@@ -1,3 +1,4 @@
+-- Proof of `most`: how long a delay takes at most.
 use Rattle.std.proofs.Common.{◌≡◌, ◌+◌, ◌≤◌, sym, subst}
 use Rattle.cpg_base.specs.Duration.{duration}
 use Rattle.cpg_check_time.specs.Delays.{IsDelay, done_at}

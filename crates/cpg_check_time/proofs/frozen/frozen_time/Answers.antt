@@ -1,7 +1,9 @@
+-- Proof of `frozen_time`: the time of a frozen item's first column that matches in any scenario, if there is one.
 use Rattle.cpg_violation.proofs.HeadLaws.{tables_of_graph}
 use Rattle.cpg_check_time.proofs.Judging.{columns_are}
 use Rattle.cpg_check_time.proofs.frozen.frozen_time.Goals as goal
 
+-- the columns of the item are columns of the graph
 pub possible_time-requires : goal.possible_time-requires
 possible_time-requires c = rw (c.problem-problem.ensures.problem, c.columns_of.ensures.columns)
     (columns_are c.problem-problem.ensures.admitted c.args.tables.now.nodes

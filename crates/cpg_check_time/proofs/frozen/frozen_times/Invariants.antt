@@ -1,3 +1,4 @@
+-- Loops of `frozen_times`: the times of frozen items.
 use Rattle.std.proofs.Common.{◌≡◌, map}
 use Rattle.cpg_base.specs.Numbers.{numbers_below}
 use Rattle.cpg_check_time.specs.Frozen.{frozen_time}

@@ -1,3 +1,4 @@
+-- Proof of `common`: the scenarios that two cubes match; `None` exactly if there are none.
 use Rattle.std.proofs.Common.{◌≡◌, ◌&&◌, ◌∙◌, false, sym, subst}
 use Rattle.cpg_base.specs.Scenario.{Scenario}
 use Rattle.cpg_cube.specs.Cube.{matches}

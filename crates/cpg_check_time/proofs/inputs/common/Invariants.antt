@@ -1,3 +1,4 @@
+-- Loops of `common`: the scenarios that two cubes match; `None` exactly if there are none.
 use Rattle.std.proofs.Common.{◌≡◌, ◌&&◌, take}
 use Rattle.cpg_base.specs.Graph.{Graph}
 use Rattle.cpg_base.specs.Scenario.{Scenario}

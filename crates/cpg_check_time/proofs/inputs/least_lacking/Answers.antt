@@ -1,3 +1,5 @@
+-- Proof of `least_lacking`: the least scenario in which a column matches and an input is live and not there by its
+-- time, if there is one.
 use Rattle.std.proofs.Common.{◌≡◌, ◌&&◌, ◌∙◌, true, false, sym, ap}
 use Rattle.cpg_base.specs.Graph.{is_message}
 use Rattle.cpg_base.specs.Scenario.{Scenario}

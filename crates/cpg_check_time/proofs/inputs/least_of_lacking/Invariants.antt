@@ -1,3 +1,5 @@
+-- Loops of `least_of_lacking`: the least scenario in which a column matches and one of several inputs is live and not
+-- there by its time, if there is one.
 use Rattle.std.proofs.Common.{take}
 use Rattle.std.specs.List.{list_any}
 use Rattle.cpg_base.specs.First.{IsFirst}

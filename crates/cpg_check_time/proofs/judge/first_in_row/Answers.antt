@@ -1,3 +1,4 @@
+-- Proof of `first_in_row`: the first column of an item that breaks the rule, and the least scenario in which it does.
 use Rattle.cpg_violation.proofs.HeadLaws.{tables_of_graph}
 use Rattle.std.proofs.Common.{length, arith, ap, subst}
 use Rattle.cpg_base.specs.First.{IsFirst}
@@ -6,6 +7,7 @@ use Rattle.cpg_check_time.specs.Columns.{breaks_column}
 use Rattle.cpg_check_time.proofs.Judging.{place_there, first_here, none_here, column_is}
 use Rattle.cpg_check_time.proofs.judge.first_in_row.Goals as goal
 
+-- the tables are lawful tables of the graph
 pub least-requires-clause-lawful : goal.least-requires-clause-lawful
 least-requires-clause-lawful g c = tables_of_graph c.args.admitted.now.graph c.args.tables.now.head
     c.args.tables.now.nodes c.requires.head c.columns_of-columns.ensures.lawful

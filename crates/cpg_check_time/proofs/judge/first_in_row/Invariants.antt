@@ -1,3 +1,4 @@
+-- Loops of `first_in_row`: the first column of an item that breaks the rule, and the least scenario in which it does.
 use Rattle.std.proofs.Common.{ℕ, ◌≡◌, ◌<◌, Some, false}
 use Rattle.cpg_base.specs.Scenario.{Scenario, IsScenario}
 use Rattle.cpg_table.specs.Valid.{breaks}

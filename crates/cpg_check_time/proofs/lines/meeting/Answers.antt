@@ -1,3 +1,4 @@
+-- Proof of `meeting`: columns of a line.
 use Rattle.std.proofs.Common.{ℕ, ◌≡◌, ◌≤◌, ◌<◌, ◌∙◌, true, length, get_or, map, All, Contains, ap, sym, subst, Bor}
 use Rattle.std.proofs.lemmas.List.{take_all}
 use Rattle.std.proofs.lemmas.List.Elements.{All-nil}

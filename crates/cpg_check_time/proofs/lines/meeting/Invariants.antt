@@ -1,3 +1,4 @@
+-- Loops of `meeting`: columns of a line.
 use Rattle.std.proofs.Common.{All, Contains, map, take}
 use Rattle.cpg_check_time.proofs.LineLaws.{AreFound}
 use Rattle.cpg_check_time.proofs.lines.meeting.Given as goal

@@ -1,3 +1,5 @@
+-- Proof of `least_of_lower`: the least scenario in which a column of an item clashes with one of an item with a lower
+-- number, if there is one.
 use Rattle.std.proofs.Common.{◌≡◌, arith, subst}
 use Rattle.std.specs.List.{list_any}
 use Rattle.cpg_base.specs.Numbers.{numbers_below}
@@ -6,10 +8,12 @@ use Rattle.cpg_violation.proofs.Violations.{long_order}
 use Rattle.cpg_check_time.proofs.Seeking.{first_below}
 use Rattle.cpg_check_time.proofs.pairs.least_of_lower.Goals as goal
 
+-- the urgency order has each process
 pub earlier-found-requires-clause-order : goal.earlier-found-requires-clause-order
 earlier-found-requires-clause-order g c =
     rw (c.order-order.ensures.order, c.problem-problem.ensures.problem) (long_order c.order-order.ensures.admitted)
 
+-- the lesser of the scenario so far and the next item's is the least for one lower item more
 pub loop-other-preserved : goal.loop-other-preserved
 loop-other-preserved g c = rw (c.earlier-found.ensures, c.problem-problem.ensures.problem, c.order-order.ensures.order)
     (first_below c.args.admitted.now.graph c.args.admitted.now.order (g.P.ColumnPairs.clash c.args.admitted.now.graph

@@ -1,3 +1,5 @@
+-- Loops of `least_of_lower`: the least scenario in which a column of an item clashes with one of an item with a lower
+-- number, if there is one.
 use Rattle.std.specs.List.{list_any}
 use Rattle.cpg_base.specs.Numbers.{numbers_below}
 use Rattle.cpg_base.specs.First.{IsFirst}

@@ -1,3 +1,4 @@
+-- Proof of `least_near`: the least scenario in which a column of a line is as asked, if there is one.
 use Rattle.std.proofs.Common.{map, Contains, Bor}
 use Rattle.std.specs.List.{list_any}
 use Rattle.std.proofs.lemmas.List.Elements.{All-weaker, All-contains}
@@ -13,6 +14,7 @@ use Rattle.cpg_check_time.proofs.questions.least_near.Goals as goal
 abbrev at : Bor Column → Column
 at b = b.now
 
+-- the urgency order has each process
 pub least_of-requires-clause-order : goal.least_of-requires-clause-order
 least_of-requires-clause-order g c =
     rw (c.order-order.ensures.order, c.problem-problem.ensures.problem) (long_order c.order-order.ensures.admitted)

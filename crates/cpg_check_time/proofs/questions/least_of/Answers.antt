@@ -1,3 +1,4 @@
+-- Proof of `least_of`: the least scenario in which one of several columns is as asked, if there is one.
 use Rattle.std.proofs.Common.{map, subst, Bor}
 use Rattle.std.specs.List.{list_any}
 use Rattle.std.proofs.lemmas.List.{take_all}
@@ -11,6 +12,7 @@ use Rattle.cpg_check_time.proofs.questions.least_of.Goals as goal
 abbrev at : Bor Column → Column
 at b = b.now
 
+-- the scenario of the next column, if there is one, is lawful
 pub earlier-found-requires-clause-second : goal.earlier-found-requires-clause-second
 earlier-found-requires-clause-second g c = lawful_if_some c.args.problem.now c.args.order.now
     (g.Q.Question.asks c.args.question.now c.args.problem.now c.beside-item.result.now) c.in_ok-next.next
@@ -30,6 +32,7 @@ loop-beside-preserved g c =
       room = c.in_ok-next.ensures.room;
     }
 
+-- after all columns the scenario is the least for any of them
 pub returns : goal.returns
 returns g c = subst (λ columns. IsFirst c.args.problem.now c.args.order.now (λ s.
     list_any (λ d. g.Q.Question.asks c.args.question.now c.args.problem.now d s) (map at columns)) c.loop-beside.found)

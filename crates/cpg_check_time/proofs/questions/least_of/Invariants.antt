@@ -1,3 +1,4 @@
+-- Loops of `least_of`: the least scenario in which one of several columns is as asked, if there is one.
 use Rattle.std.proofs.Common.{map, take}
 use Rattle.std.specs.List.{list_any}
 use Rattle.cpg_base.specs.First.{IsFirst}

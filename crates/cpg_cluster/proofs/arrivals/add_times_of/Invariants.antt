@@ -1,3 +1,4 @@
+-- Loops of `add_times_of`: adds the arrival times of the rows of a sender.
 use Rattle.std.proofs.Common.{◌≡◌, ◌++◌, drop}
 use Rattle.cpg_cluster.specs.Keeping.{arrival_times}
 use Rattle.cpg_cluster.proofs.arrivals.add_times_of.Given as goal

@@ -1,3 +1,4 @@
+-- Proof of `arrivals_from`: when frames arrive from a sender, in order.
 use Rattle.std.proofs.lemmas.List.Sorted.{IsNonDecreasingBy-from_sort}
 use Rattle.cpg_cluster.proofs.arrivals.arrivals_from.Goals as goal
 

@@ -1,3 +1,4 @@
+-- Proof of `arrivals_of`: when frames arrive from each sender, in order.
 use Rattle.std.proofs.Common.{subst, sym, ◌+◌}
 use Rattle.cpg_cluster.specs.Keeping.{AreIndexed}
 use Rattle.cpg_cluster.proofs.Arriving.{index_more}

@@ -1,3 +1,4 @@
+-- Loops of `arrivals_of`: when frames arrive from each sender, in order.
 use Rattle.cpg_cluster.specs.Keeping.{AreIndexed}
 use Rattle.cpg_cluster.proofs.arrivals.arrivals_of.Given as goal
 

@@ -1,3 +1,4 @@
+-- Proof of `first_after`: the place of the first time that is later than this.
 use Rattle.std.proofs.Common.{◌≡◌, true, false, rules, arith}
 use Rattle.std.specs.Prelude.{nat_le}
 use Rattle.std.specs.List.Sorted.{IsPartitionPoint}

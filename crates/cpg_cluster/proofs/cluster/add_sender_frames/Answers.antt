@@ -1,3 +1,4 @@
+-- Proof of `add_sender_frames`: adds the frames of a sender's acts of an item, if there is such a sender.
 use Rattle.std.proofs.Common.{◌++◌, arith, sym, ap, ◌∙◌, [], append-nil, length, List, Option, subst}
 use Rattle.std.specs.Option.{option_map_or}
 use Rattle.std.proofs.lemmas.List.{length-append}

@@ -1,3 +1,4 @@
+-- Loops of `gather_frames`: gathers the frames that arrive at the time, row by row.
 use Rattle.std.proofs.Common.{◌≡◌, ◌++◌, drop}
 use Rattle.std.specs.Vec.{vec_capacity}
 use Rattle.cpg_cluster.specs.Keeping.{frames_by}

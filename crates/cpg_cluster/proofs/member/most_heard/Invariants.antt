@@ -1,3 +1,4 @@
+-- Loops of `most_heard`: the greatest number of hear rows of any node.
 use Rattle.std.proofs.Common.{◌≤◌, ◌<◌, ℕ, length, get_or}
 use Rattle.cpg_cluster.specs.declared.member.Member.{Member}
 use Rattle.cpg_cluster.proofs.member.most_heard.Given as goal

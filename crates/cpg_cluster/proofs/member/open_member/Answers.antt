@@ -1,3 +1,4 @@
+-- Proof of `open_member`: a node before its first turn, with all the room that it needs for a play.
 use Rattle.std.proofs.Common.{ℕ, List, length, subst, ◌∙◌, ap, map, rules}
 use Rattle.cpg_base.specs.Graph.{home}
 use Rattle.cpg_table.specs.Table.{Row}

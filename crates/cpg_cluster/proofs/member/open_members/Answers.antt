@@ -1,3 +1,4 @@
+-- Proof of `open_members`: the nodes of tables before their first turns.
 use Rattle.std.proofs.Common.{subst, sym, ap, ◌∙◌, arith, inl, inr, length}
 use Rattle.std.proofs.lemmas.List.{length-drop}
 use Rattle.cpg_head.specs.Head.{Head}
@@ -14,6 +15,7 @@ loop-number-preserved c =
     let invariant = c.loop-number.invariant in
     let steps = c.in-Some.ensures.steps in
     let range = steps.0 in
+    -- the next member is open, and one table less is left
     let next = open_next c.args.problem.now c.args.tables.nodes l.a.start c.in-Some.number t.a.start c.in-Some.table
     t.b.rest.items c.loop-number.members.items c.in_ok-open_member.field-0
     invariant.opened (invariant.left ∙ steps.1.0) range.1.1 range.1.2 c.in_ok-open_member.ensures in
@@ -32,10 +34,12 @@ returns-clause-members c =
     let invariant = c.loop-number.invariant in
     let many = length-drop l.a.start nodes in
     let left = ap length invariant.left in
+    -- there are as many tables as nodes
     let of : AreTablesOf c.args.tables.head nodes = c.head.ensures.lawful in
     let head = ap (λ (h : Head). length h.nodes) c.head.ensures.head in
     let count = ap length c.nodes.ensures.nodes in
     let rest = l.b.rest.ok.0 in
+    -- all of them have been gone over
     subst (λ n. AreOpen c.args.problem.now nodes n c.loop-number.members.items)
     (elim c.in-None.ensures.steps [
       | inl e ↦ omega (arith, e.1, invariant.few, invariant.end, of.count, head, count)

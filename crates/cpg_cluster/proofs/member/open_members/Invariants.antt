@@ -1,3 +1,4 @@
+-- Loops of `open_members`: the nodes of tables before their first turns.
 use Rattle.std.proofs.Common.{◌≡◌, ◌≤◌, drop}
 use Rattle.cpg_cluster.specs.Keeping.{AreOpen}
 use Rattle.cpg_cluster.proofs.member.open_members.Given as goal

@@ -1,3 +1,5 @@
+-- Proof of `take_turn`: a node takes the reports of the executions that are over by its next instant, and then its turn
+-- with these frames.
 use Rattle.std.proofs.Common.{◌≡◌, ◌++◌, [], arith, sym, ap, ap₂, Option, ◌∙◌, length, ◌≤◌, List, fold, subst}
 use Rattle.cpg_table.specs.Table.{NodeTable}
 use Rattle.cpg_node.specs.Dispatcher.{Own, Running, Act, next, turn, acts_of_turn}

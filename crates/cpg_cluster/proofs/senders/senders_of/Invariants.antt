@@ -1,3 +1,4 @@
+-- Loops of `senders_of`: the sender of each row.
 use Rattle.std.proofs.Common.{◌≡◌, map, take}
 use Rattle.cpg_base.specs.Graph.{home}
 use Rattle.cpg_table.specs.Table.{Row}

@@ -1,3 +1,4 @@
+-- Loops of `gather_reports`: gathers the reports of executions that are over by the time.
 use Rattle.std.proofs.Common.{◌≡◌, ◌++◌, drop}
 use Rattle.std.specs.Vec.{vec_capacity}
 use Rattle.cpg_cluster.specs.Taking.{reports_by}

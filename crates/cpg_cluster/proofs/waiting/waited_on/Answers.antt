@@ -1,3 +1,4 @@
+-- Proof of `waited_on`: the least member that a member waits on before it takes an instant.
 use Rattle.std.proofs.Common.{arith, refl, sym, ap, ◌∙◌, ◌≡◌, ℕ, ◌<◌, length, get_or, inl, inr, Bool, List}
 use Rattle.std.proofs.lemmas.List.{get_or_default}
 use Rattle.std.proofs.lemmas.Bool.{cases_eq}

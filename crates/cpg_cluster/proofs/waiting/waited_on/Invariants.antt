@@ -1,3 +1,4 @@
+-- Loops of `waited_on`: the least member that a member waits on before it takes an instant.
 use Rattle.std.proofs.Common.{false, ◌≡◌, ◌<◌, ℕ, get_or}
 use Rattle.cpg_cluster.specs.declared.member.Member.{Member}
 use Rattle.cpg_cluster.specs.Keeping.{waits_between}

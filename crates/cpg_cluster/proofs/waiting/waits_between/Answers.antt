@@ -1,3 +1,4 @@
+-- Proof of `waits_between`: whether a member waits on another before it takes an instant.
 use Rattle.std.proofs.Common.{length, ◌∙◌, ap}
 use Rattle.std.specs.List.{list_any}
 use Rattle.cpg_node.specs.Dispatcher.{zip_with}

@@ -1,3 +1,4 @@
+-- Proof of `waits_on`: whether a sender may still send one of the frames that arrive by the time.
 use Rattle.std.proofs.Common.{◌-◌, ◌∙◌, arith, sym}
 use Rattle.std.proofs.lemmas.List.{get_or_default}
 use Rattle.cpg_cluster.proofs.Arriving.{none_sent, none_until, last_until}

@@ -1,3 +1,4 @@
+-- Proof of `deadline_number_of`: the number of an own deadline, which is `u64::MAX` if there is none.
 use Rattle.std.proofs.Common.{arith, ◌≡◌, ℕ, Bool, true, false}
 use Rattle.std.specs.Prelude.{IsTrue}
 use Rattle.cpg_codec.proofs.Own.{deadline_none, deadline_some}

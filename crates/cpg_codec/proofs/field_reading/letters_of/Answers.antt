@@ -1,3 +1,4 @@
+-- Proof of `letters_of`: reads `count` letters of a name, and returns them with the bytes after them.
 use Rattle.std.proofs.lemmas.Result.{err_from_is_err_and}
 use Rattle.cpg_codec.specs.Reading.{read_repeated, byte_by}
 use Rattle.cpg_base.specs.Name.{is_name_byte}

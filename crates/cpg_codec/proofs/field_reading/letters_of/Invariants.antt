@@ -1,3 +1,4 @@
+-- Loops of `letters_of`: reads `count` letters of a name, and returns them with the bytes after them.
 use Rattle.std.proofs.Common.{◌≡◌}
 use Rattle.cpg_codec.specs.Reading.{read_repeated, byte_by}
 use Rattle.cpg_base.specs.Name.{is_name_byte}

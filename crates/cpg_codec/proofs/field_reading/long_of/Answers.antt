@@ -1,3 +1,4 @@
+-- Proof of `long_of`: a number of eight bytes from low to high.
 use Rattle.std.proofs.Common.{arith, ap, ◌∙◌, get_or}
 use Rattle.cpg_codec.specs.Fields.{field}
 use Rattle.cpg_codec.proofs.Digits.{long_found, field_is_long}

@@ -1,3 +1,4 @@
+-- Proof of `name_of`: a name.
 use Rattle.cpg_codec.proofs.HeadFields.{name_reads}
 use Rattle.cpg_codec.proofs.field_reading.name_of.Goals as goal
 

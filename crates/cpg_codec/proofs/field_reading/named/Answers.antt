@@ -1,3 +1,4 @@
+-- Proof of `named`: the name that these bytes spell.
 use Rattle.cpg_codec.proofs.NameBytes.{name_is_utf8}
 use Rattle.cpg_codec.proofs.field_reading.named.Goals as goal
 

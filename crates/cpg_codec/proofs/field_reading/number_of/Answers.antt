@@ -1,3 +1,4 @@
+-- Proof of `number_of`: a number of `width` bytes from `low` to `high`.
 use Rattle.std.proofs.Common.{arith, rules, ◌≡◌, ◌+◌, ◌*◌, ◌/◌, ◌-◌, ◌≤◌, ◌^◌, ℕ, sym, ◌∙◌, suc, get_or, subst}
 use Rattle.cpg_codec.proofs.Digits.{digit_goes_on, digit_stops, digit_none, digit_done, number_only, digit_falls_short}
 use Rattle.cpg_codec.proofs.Digits.{under_shift, reaches_shift, above_shift, within_shift, fits_more}

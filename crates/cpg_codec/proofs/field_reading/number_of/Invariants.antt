@@ -1,3 +1,4 @@
+-- Loops of `number_of`: a number of `width` bytes from `low` to `high`.
 use Rattle.std.proofs.Common.{◌≡◌, ◌≤◌, ◌-◌, ◌*◌, ◌^◌}
 use Rattle.cpg_codec.specs.Reading.{read_digits, read_number, within}
 use Rattle.cpg_codec.proofs.field_reading.number_of.Given as goal

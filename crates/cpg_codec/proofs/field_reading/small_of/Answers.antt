@@ -1,3 +1,4 @@
+-- Proof of `small_of`: a byte from low to high, and the bytes after it.
 use Rattle.std.proofs.Common.{arith}
 use Rattle.cpg_codec.proofs.Steps.{small_gives, small_under, small_over, small_none}
 use Rattle.cpg_codec.proofs.field_reading.small_of.Goals as goal

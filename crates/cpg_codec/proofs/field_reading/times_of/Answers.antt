@@ -1,3 +1,4 @@
+-- Proof of `times_of`: reads `count` times, and returns them with the bytes after them.
 use Rattle.std.proofs.lemmas.Result.{err_from_is_err_and}
 use Rattle.cpg_codec.specs.Reading.{read_repeated}
 use Rattle.cpg_codec.specs.Grammar.{read_time}

@@ -1,3 +1,4 @@
+-- Proof of `edge_of`: an edge between two of `processes` processes.
 use Rattle.std.proofs.Common.{arith}
 use Rattle.cpg_codec.proofs.Records.{edge_found}
 use Rattle.cpg_codec.proofs.head_reading.edge_of.Goals as goal

@@ -1,3 +1,4 @@
+-- Loops of `edges_of`: reads `count` edges, and returns them with the bytes after them.
 use Rattle.std.proofs.Common.{◌≡◌}
 use Rattle.cpg_codec.specs.Reading.{read_repeated}
 use Rattle.cpg_codec.specs.Grammar.{read_edge}

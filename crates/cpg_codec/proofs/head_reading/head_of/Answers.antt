@@ -1,3 +1,4 @@
+-- Proof of `head_of`: a head.
 use Rattle.cpg_codec.proofs.HeadFields.{head_reads}
 use Rattle.cpg_codec.specs.Parts.{head_of_parts}
 use Rattle.cpg_codec.proofs.head_reading.head_of.Goals as goal

@@ -1,3 +1,4 @@
+-- Proof of `joined`: the head of lawful parts.
 use Rattle.std.proofs.Common.{◌∙◌}
 use Rattle.cpg_codec.proofs.WrittenHeads.{plain_head, made_extras, joined_one, joined_two}
 use Rattle.cpg_codec.proofs.head_reading.joined.Goals as goal

@@ -1,3 +1,5 @@
+-- Proof of `node_and_flag`: the node of a process, and its condition flag, if `ones` processes before have a
+-- condition.
 use Rattle.std.proofs.Common.{arith}
 use Rattle.cpg_codec.proofs.Records.{place_found}
 use Rattle.cpg_codec.proofs.head_reading.node_and_flag.Goals as goal

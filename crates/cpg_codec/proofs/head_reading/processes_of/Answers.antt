@@ -1,3 +1,5 @@
+-- Proof of `processes_of`: reads `count` processes and what version 2 says of them, and returns them with the bytes
+-- after them.
 use Rattle.std.proofs.Common.{◌≡◌, ◌+◌, ◌-◌, ◌==◌, ℕ, arith, ◌≤◌, Bool, true, false, cond, refl}
 use Rattle.std.proofs.lemmas.Result.{err_from_is_err_and}
 use Rattle.cpg_codec.specs.Reading.{down}
@@ -7,6 +9,7 @@ use Rattle.cpg_codec.proofs.Loop.{goes_on, ends, is_done, nothing_in_front, down
 use Rattle.cpg_codec.proofs.WrittenHeads.{written_push, kept_push}
 use Rattle.cpg_codec.proofs.head_reading.processes_of.Goals as goal
 
+-- how many condition processes there are with one process more
 abbrev step : ℕ → Written → ℕ
 step ones w = ones + bit w.process.condition
 
@@ -49,6 +52,7 @@ loop-preserved c =
     let o = c.in_ok-process.extra in
     let w = written_push (c.args.version == 2) c.loop.processes.items c.loop.extras.items q o
     c.in_ok-process.ensures.kind c.loop.invariant.kept in
+    -- reading goes on with the process and its extras
     let g = goes_on step (λ (left : ℕ) ones. read_process c.args.version c.args.faults c.args.nodes ones)
     (written_by c.loop.processes.items c.loop.extras.items)
     (down (c.args.count - c.loop.counter)) (c.args.count - (c.loop.counter + 1))
@@ -57,6 +61,7 @@ loop-preserved c =
     (read_processes c.args.version c.args.faults c.args.nodes c.args.count c.args.bytes.now)
     (down_more c.args.count c.loop.counter c.loop-test.true) c.in_ok-process.ensures.gives
     c.loop.invariant.so_far in
+    -- what is read so far, that the condition processes are few, and that extras are kept if the version has them
     record {
       so_far = rw (c.in_ok-push.ensures.items, c.in_ok-push_extra.ensures, w, c.bit_of-ones.ensures) g;
       few = few_more c.loop.ones c.bit_of-ones.result c.loop.counter q.condition c.bit_of-ones.ensures

@@ -1,3 +1,5 @@
+-- Loops of `processes_of`: reads `count` processes and what version 2 says of them, and returns them with the bytes
+-- after them.
 use Rattle.std.proofs.Common.{◌≡◌, ◌-◌, ◌≤◌, ◌+◌, ◌==◌, if◌then◌else◌, ℕ, length}
 use Rattle.cpg_codec.specs.Reading.{read_each, down}
 use Rattle.cpg_codec.specs.Spelling.{Written, bit, written_by}

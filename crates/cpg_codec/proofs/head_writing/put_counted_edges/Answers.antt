@@ -1,3 +1,4 @@
+-- Proof of `put_counted_edges`: how many edges there are, and these.
 use Rattle.std.proofs.Common.{length}
 use Rattle.std.specs.List.{flat_map}
 use Rattle.std.proofs.lemmas.Result.{err_from_is_err_and}

@@ -1,3 +1,4 @@
+-- Proof of `put_extra`: what version 2 adds to a process, if it adds anything.
 use Rattle.std.specs.Int.{w64, to_be_bytes}
 use Rattle.std.proofs.lemmas.Result.{err_from_is_err_and}
 use Rattle.cpg_codec.specs.Spelling.{deadline_number}

@@ -1,3 +1,4 @@
+-- Proof of `put_graph`: the processes and the edges.
 use Rattle.std.proofs.Common.{◌++◌, length}
 use Rattle.std.specs.List.{flat_map}
 use Rattle.std.proofs.lemmas.Result.{err_from_is_err_and}

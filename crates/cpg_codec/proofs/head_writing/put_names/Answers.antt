@@ -1,3 +1,4 @@
+-- Proof of `put_names`: names, one after another.
 use Rattle.std.proofs.Common.{◌∙◌}
 use Rattle.std.proofs.lemmas.Result.{err_from_is_err_and}
 use Rattle.cpg_codec.specs.Spelling.{name_bytes}

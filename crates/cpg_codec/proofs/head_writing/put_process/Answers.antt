@@ -1,3 +1,4 @@
+-- Proof of `put_process`: a process, with what version 2 adds to it.
 use Rattle.std.proofs.Common.{◌++◌}
 use Rattle.std.specs.List.{flat_map}
 use Rattle.std.proofs.lemmas.Result.{err_from_is_err_and}

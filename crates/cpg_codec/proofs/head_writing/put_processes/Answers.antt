@@ -1,3 +1,4 @@
+-- Proof of `put_processes`: the processes of a head, one after another.
 use Rattle.std.proofs.Common.{◌∙◌, arith}
 use Rattle.std.proofs.lemmas.Result.{err_from_is_err_and}
 use Rattle.cpg_codec.specs.Spelling.{written, process_bytes}

@@ -1,3 +1,4 @@
+-- Loops of `put_processes`: the processes of a head, one after another.
 use Rattle.std.proofs.Common.{◌≡◌, take}
 use Rattle.std.specs.List.{flat_map}
 use Rattle.cpg_codec.specs.Spelling.{written, process_bytes}

@@ -1,3 +1,4 @@
+-- Proof of `put_text`: the bytes of a name, after how many there are.
 use Rattle.std.proofs.Common.{length}
 use Rattle.std.proofs.lemmas.Result.{err_from_is_err_and}
 use Rattle.cpg_codec.specs.Spelling.{byte}

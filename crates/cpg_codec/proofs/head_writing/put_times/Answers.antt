@@ -1,3 +1,4 @@
+-- Proof of `put_times`: times, one after another.
 use Rattle.std.proofs.Common.{◌∙◌}
 use Rattle.std.proofs.lemmas.Result.{err_from_is_err_and}
 use Rattle.std.specs.Int.{w64, to_be_bytes}

@@ -1,3 +1,4 @@
+-- Loops of `put_times`: times, one after another.
 use Rattle.std.proofs.Common.{◌≡◌, take}
 use Rattle.std.specs.List.{flat_map}
 use Rattle.std.specs.Int.{w64, to_be_bytes}

@@ -1,3 +1,4 @@
+-- Proof of `put_timing`: how long the executions take, and what version 2 adds.
 use Rattle.std.specs.List.{flat_map}
 use Rattle.std.proofs.lemmas.Result.{err_from_is_err_and}
 use Rattle.cpg_codec.specs.Spelling.{extra_bytes}

@@ -1,3 +1,4 @@
+-- Proof of `nodes_are_named`: these names are lawful.
 use Rattle.std.proofs.Common.{All, subst}
 use Rattle.std.proofs.lemmas.List.{take_all}
 use Rattle.std.proofs.lemmas.List.Elements.{All-more}

@@ -1,3 +1,4 @@
+-- Loops of `nodes_are_named`: these names are lawful.
 use Rattle.std.proofs.Common.{All, take}
 use Rattle.cpg_base.specs.Name.{IsName}
 use Rattle.cpg_codec.proofs.lawful.nodes_are_named.Given as goal

@@ -1,3 +1,4 @@
+-- Proof of `processes_are_named`: the names of these processes are lawful.
 use Rattle.std.proofs.Common.{All, subst}
 use Rattle.std.proofs.lemmas.List.{take_all}
 use Rattle.std.proofs.lemmas.List.Elements.{All-more}
@@ -5,6 +6,7 @@ use Rattle.cpg_base.specs.Name.{IsName}
 use Rattle.cpg_head.specs.declared.head_parts.HeadProcess.{HeadProcess}
 use Rattle.cpg_codec.proofs.lawful.processes_are_named.Goals as goal
 
+-- the name of a process is lawful
 abbrev HasName : HeadProcess → Type 0
 HasName p = IsName p.name
 

@@ -1,3 +1,4 @@
+-- Loops of `processes_are_named`: the names of these processes are lawful.
 use Rattle.std.proofs.Common.{All, take}
 use Rattle.cpg_base.specs.Name.{IsName}
 use Rattle.cpg_codec.proofs.lawful.processes_are_named.Given as goal

@@ -7,6 +7,7 @@ use Rattle.cpg_table.specs.Lawful.{IsCountLiteral}
 use Rattle.cpg_table.specs.declared.space.VariableSpace.{VariableSpace}
 use Rattle.cpg_codec.proofs.lawful_literals.are_parts.Goals as goal
 
+-- a literal on the fault count of a process is one that the space allows
 abbrev IsPartOf : VariableSpace → Literal → Type 0
 IsPartOf s l = l.variable < s.processes → IsCountLiteral s l
 

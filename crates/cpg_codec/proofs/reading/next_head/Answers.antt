@@ -1,3 +1,4 @@
+-- Proof of `next_head`: reads the head.
 use Rattle.std.proofs.Common.{◌∙◌, List, ℕ, Ok, ap, sym}
 use Rattle.cpg_codec.specs.Grammar.{read_head}
 use Rattle.cpg_codec.proofs.HeadFields.{head_reads}

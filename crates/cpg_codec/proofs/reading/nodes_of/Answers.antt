@@ -1,3 +1,4 @@
+-- Proof of `nodes_of`: the tables of all nodes.
 use Rattle.std.proofs.Common.{arith, ap, ◌≡◌, ◌≤◌, ◌<◌, ◌+◌, ◌-◌, length, ℕ}
 use Rattle.std.proofs.lemmas.Result.{err_from_is_err_and}
 use Rattle.cpg_table.specs.Table.{NodeTable}
@@ -7,6 +8,7 @@ use Rattle.cpg_codec.proofs.Loop.{goes_on, ends, is_done, nothing_in_front}
 use Rattle.cpg_codec.proofs.TableFields.{numbers_more, numbers_none}
 use Rattle.cpg_codec.proofs.reading.nodes_of.Goals as goal
 
+-- how many columns there are with one table more
 abbrev step : ℕ → NodeTable → ℕ
 step c t = c + column_count (rows_of t)
 

@@ -1,3 +1,4 @@
+-- Loops of `nodes_of`: the tables of all nodes.
 use Rattle.std.proofs.Common.{◌≡◌, ◌+◌, ◌-◌, ◌≤◌, ℕ, length}
 use Rattle.cpg_base.specs.declared.limits.TheConstants.{MOST_LOAD}
 use Rattle.cpg_table.specs.Table.{NodeTable}

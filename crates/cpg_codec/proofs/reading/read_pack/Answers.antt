@@ -1,3 +1,4 @@
+-- Proof of `read_pack`: the tables that all of the bytes spell.
 use Rattle.cpg_codec.proofs.WholePack.{found, only, bad}
 use Rattle.cpg_codec.proofs.reading.read_pack.Goals as goal
 

@@ -1,3 +1,4 @@
+-- Proof of `tables_of`: the tables of a pack, read from their head on.
 use Rattle.cpg_codec.proofs.TableFields.{tables_are_of}
 use Rattle.cpg_codec.proofs.reading.tables_of.Goals as goal
 

@@ -1,3 +1,4 @@
+-- Proof of `column_of`: a column.
 use Rattle.cpg_codec.proofs.ColumnFields.{front_reads, literals_rise}
 use Rattle.cpg_codec.proofs.row_reading.column_of.Goals as goal
 

@@ -1,3 +1,4 @@
+-- Proof of `columns_of`: reads `count` columns, and returns them with the bytes after them.
 use Rattle.std.proofs.Common.{arith}
 use Rattle.std.proofs.lemmas.Result.{err_from_is_err_and}
 use Rattle.std.proofs.lemmas.Grind.{common_steps}

@@ -1,3 +1,4 @@
+-- Loops of `columns_of`: reads `count` columns, and returns them with the bytes after them.
 use Rattle.std.proofs.Common.{◌≡◌, length}
 use Rattle.cpg_codec.specs.Reading.{read_repeated}
 use Rattle.cpg_codec.specs.Grammar.{read_column}

@@ -1,3 +1,4 @@
+-- Proof of `front_of`: the time of a column, and how many literals it has.
 use Rattle.std.proofs.Common.{arith}
 use Rattle.cpg_codec.proofs.Records.{front_found}
 use Rattle.cpg_codec.proofs.row_reading.front_of.Goals as goal

@@ -1,3 +1,4 @@
+-- Proof of `literal_of`: a literal with `left` more after it.
 use Rattle.cpg_codec.proofs.Records.{literal_found}
 use Rattle.cpg_codec.proofs.row_reading.literal_of.Goals as goal
 

@@ -1,3 +1,4 @@
+-- Proof of `literals_of`: reads `count` literals, and returns them with the bytes after them.
 use Rattle.std.proofs.Common.{◌≡◌, ◌+◌, ◌-◌, ℕ, suc, arith}
 use Rattle.std.proofs.lemmas.Result.{err_from_is_err_and}
 use Rattle.cpg_cube.specs.declared.literal.Literal.{Literal}
@@ -6,6 +7,7 @@ use Rattle.cpg_codec.specs.Grammar.{read_literal, read_literals}
 use Rattle.cpg_codec.proofs.Loop.{goes_on, ends, is_done, nothing_in_front, down_more, down_none}
 use Rattle.cpg_codec.proofs.row_reading.literals_of.Goals as goal
 
+-- the least variable that the next literal may be on
 abbrev step : ℕ → Literal → ℕ
 step least x = suc x.variable
 

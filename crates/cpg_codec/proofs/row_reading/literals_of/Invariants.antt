@@ -1,3 +1,4 @@
+-- Loops of `literals_of`: reads `count` literals, and returns them with the bytes after them.
 use Rattle.std.proofs.Common.{◌≡◌, ◌-◌, ℕ, suc}
 use Rattle.cpg_cube.specs.declared.literal.Literal.{Literal}
 use Rattle.cpg_codec.specs.Reading.{read_each, down}

@@ -1,3 +1,4 @@
+-- Proof of `next_row`: reads the next row.
 use Rattle.std.proofs.Common.{◌∙◌, List, ℕ, Ok, ap, sym}
 use Rattle.cpg_codec.specs.Grammar.{read_row}
 use Rattle.cpg_codec.proofs.Rests.{left_is, left_within}

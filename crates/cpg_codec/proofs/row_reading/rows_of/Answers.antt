@@ -1,3 +1,5 @@
+-- Proof of `rows_of`: the rows of these items, if `before` columns were read before, and how many were read up to
+-- their end.
 use Rattle.std.proofs.Common.{◌≡◌, ◌++◌, ◌∷◌, [], ◌+◌, ◌<◌, ℕ, List, length, get_or, drop, arith, refl, add-one}
 use Rattle.std.proofs.Common.{drop-cons}
 use Rattle.std.proofs.lemmas.List.Sums.{sum_by_push}
@@ -7,6 +9,7 @@ use Rattle.cpg_codec.specs.Grammar.{read_row, read_rows}
 use Rattle.cpg_codec.proofs.Loop.{goes_on, nothing_in_front}
 use Rattle.cpg_codec.proofs.row_reading.rows_of.Goals as goal
 
+-- how many columns there are with one row more
 abbrev step : ℕ → Row → ℕ
 step c r = c + length r.columns
 

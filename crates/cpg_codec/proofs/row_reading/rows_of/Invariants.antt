@@ -1,3 +1,5 @@
+-- Loops of `rows_of`: the rows of these items, if `before` columns were read before, and how many were read up to
+-- their end.
 use Rattle.std.proofs.Common.{◌≡◌, ◌+◌, ◌≤◌, ℕ, length, drop}
 use Rattle.cpg_base.specs.declared.limits.TheConstants.{MOST_LOAD}
 use Rattle.cpg_table.specs.Table.{Row}

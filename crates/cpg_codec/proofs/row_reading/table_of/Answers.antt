@@ -1,3 +1,5 @@
+-- Proof of `table_of`: the table of a node, if `before` columns were read before, and how many were read up to its
+-- end.
 use Rattle.cpg_codec.proofs.TableFields.{rows_are_of}
 use Rattle.cpg_codec.proofs.row_reading.table_of.Goals as goal
 

@@ -10,11 +10,11 @@ use Rattle.cpg_codec.proofs.row_writing.put_table.Goals as goal
 pub put_rows-requires : goal.put_rows-requires
 put_rows-requires g c = rw c.starts.ensures.starts (short_starts c.args.table.now c.starts.ensures.made)
 
--- and so are its send rows
+-- the send rows of a table are short enough for their counts
 pub put_rows-requires-2 : goal.put_rows-requires-2
 put_rows-requires-2 g c = rw c.sends.ensures.sends (short_sends c.args.table.now c.sends.ensures.made)
 
--- and its hear rows
+-- the hear rows of a table are short enough for their counts
 pub put_rows-requires-3 : goal.put_rows-requires-3
 put_rows-requires-3 g c = rw c.hears.ensures.hears (short_hears c.args.table.now c.hears.ensures.made)
 

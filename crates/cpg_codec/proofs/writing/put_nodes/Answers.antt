@@ -1,3 +1,4 @@
+-- Proof of `put_nodes`: the tables of all nodes, one after another.
 use Rattle.std.proofs.Common.{arith, ap, length, ◌∙◌}
 use Rattle.std.proofs.lemmas.Result.{err_from_is_err_and}
 use Rattle.cpg_head.specs.Head.{Head}

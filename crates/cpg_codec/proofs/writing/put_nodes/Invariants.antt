@@ -1,3 +1,4 @@
+-- Loops of `put_nodes`: the tables of all nodes, one after another.
 use Rattle.std.proofs.Common.{◌≡◌, take}
 use Rattle.std.specs.List.{flat_map}
 use Rattle.cpg_codec.specs.Spelling.{table_bytes}

@@ -1,3 +1,4 @@
+-- Proof of `put_tables`: the head, and the tables of all nodes.
 use Rattle.std.specs.List.{flat_map}
 use Rattle.std.proofs.lemmas.Result.{err_from_is_err_and}
 use Rattle.cpg_codec.specs.Spelling.{head_bytes, table_bytes}

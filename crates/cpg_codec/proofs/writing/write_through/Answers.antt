@@ -1,3 +1,4 @@
+-- Proof of `write_through`: writes tables through an empty buffer.
 use Rattle.cpg_codec.specs.Spelling.{spelling}
 use Rattle.cpg_codec.proofs.Puts.{rest_fails}
 use Rattle.cpg_codec.proofs.writing.write_through.Goals as goal

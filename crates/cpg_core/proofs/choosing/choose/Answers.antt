@@ -1,3 +1,4 @@
+-- Proof of `choose`: the compile's order with its figures, given the outcomes of a graph's tracks.
 use Rattle.std.proofs.Common.{rules, sym, subst}
 use Rattle.cpg_order.specs.Urgency.{IsTopological, first_order}
 use Rattle.cpg_latest.specs.Laws.{HasFigures}

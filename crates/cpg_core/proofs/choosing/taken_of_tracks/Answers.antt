@@ -1,3 +1,5 @@
+-- Proof of `taken_of_tracks`: the order that is taken, given the figures of the first order and the track order of a
+-- graph that gives no order.
 use Rattle.std.proofs.Common.{◌∙◌, sym, subst}
 use Rattle.std.proofs.lemmas.Bool.{both_ways}
 use Rattle.cpg_order.specs.Urgency.{IsTopological, first_order}

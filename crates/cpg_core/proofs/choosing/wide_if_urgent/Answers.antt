@@ -1,3 +1,5 @@
+-- Proof of `wide_if_urgent`: the least item that is too wide by its views under the urgency order of a graph that gives
+-- no order.
 use Rattle.std.proofs.Common.{◌≡◌, ℕ, Option, Some, None, IfNone, subst}
 use Rattle.cpg_order.specs.Urgency.{first_order}
 use Rattle.cpg_reach.specs.Wide.{IsNarrow}

@@ -1,3 +1,4 @@
+-- Proof of `compile_first`: the rows of the first order, if nothing is late under it.
 use Rattle.std.proofs.Common.{refl, sym, subst}
 use Rattle.cpg_order.specs.Urgency.{IsTopological, first_order}
 use Rattle.cpg_core.specs.Compiled.{IsCompileOrder}

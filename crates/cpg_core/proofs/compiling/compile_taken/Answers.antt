@@ -1,3 +1,5 @@
+-- Proof of `compile_taken`: the rows of the order that is taken, the track order or else the first one, if nothing is
+-- late under it.
 use Rattle.std.proofs.Common.{subst}
 use Rattle.cpg_order.specs.Urgency.{first_order}
 use Rattle.cpg_core.specs.Accepted.{order_taken}

@@ -1,3 +1,4 @@
+-- Proof of `compile_untracked`: the rows of the first order of a graph that has no track order.
 use Rattle.std.proofs.Common.{◌≡◌, sym, subst, inl, inr, arith}
 use Rattle.cpg_order.specs.Urgency.{IsTopological, first_order}
 use Rattle.cpg_core.specs.Compiled.{IsCompileOrder}
@@ -5,6 +6,7 @@ use Rattle.cpg_core.proofs.Figures.{grown_many}
 use Rattle.cpg_core.proofs.RowsCompiled.{compiled_rows}
 use Rattle.cpg_core.proofs.compiling.compile_untracked.Goals as goal
 
+-- without a track order nothing else helps
 pub late-requires-clause-helpless : goal.late-requires-clause-helpless
 late-requires-clause-helpless c = inr (inl c.requires)
 

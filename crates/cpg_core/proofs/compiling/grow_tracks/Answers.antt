@@ -1,3 +1,4 @@
+-- Proof of `grow_tracks`: what is found under a track order under which no item is too wide.
 use Rattle.cpg_reach.specs.Wide.{IsLeastWide}
 use Rattle.cpg_core.proofs.compiling.grow_tracks.Goals as goal
 

@@ -1,3 +1,5 @@
+-- Proof of `late`: the fault that a process ends past its due under the first order: the process of the greatest
+-- excess, with its end in the scenario of that excess.
 use Rattle.std.proofs.Common.{◌≡◌, ◌<◌, ◌∙◌, ◌+◌, ap, sym, subst, arith, Some}
 use Rattle.cpg_base.specs.Graph.{process_count}
 use Rattle.cpg_base.specs.Duration.{due}
@@ -7,6 +9,7 @@ use Rattle.cpg_core.proofs.Compilations.{late_times, late_run, late_end, late_pr
 use Rattle.cpg_core.proofs.Compilations.{some_shown}
 use Rattle.cpg_core.proofs.compiling.late.Goals as goal
 
+-- an excess above 0 has a process to show
 pub unreachable-requires : goal.unreachable-requires
 unreachable-requires c = some_shown c.args.admitted.now.graph c.args.admitted.now.order
     (first_order c.args.admitted.now.graph c.args.admitted.now.order) c.args.first c.requires.grown c.requires.late
@@ -40,13 +43,16 @@ returns c =
     let urgency = c.args.admitted.now.order in
     let first = first_order g urgency in
     let found = c.args.first in
+    -- the end that is shown is the due and the excess
     let due_is : c.due.result ≡ due g c.in-Some.process =
     c.due.ensures ∙ ap (λ h. due h c.in-Some.process) c.problem-problem.ensures.problem in (
+      -- the graph is late
       record {
         narrow = c.requires.narrow;
         late = late_under g urgency first found c.requires.grown c.requires.late;
         helpless = c.requires.helpless;
       },
+      -- what is shown: the frozen times, the excess with its scenario and process, and the run in which that ends so
       record {
         frozen = found.trees.frozen;
         frozen_times = c.requires.grown.frozen;

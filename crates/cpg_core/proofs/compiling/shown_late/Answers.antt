@@ -1,3 +1,4 @@
+-- Proof of `shown_late`: the fault that a process ends past its due, for a graph that is late.
 use Rattle.cpg_order.specs.Urgency.{IsTopological, first_order}
 use Rattle.cpg_core.proofs.Figures.{grown_late}
 use Rattle.cpg_core.proofs.compiling.shown_late.Goals as goal

@@ -1,3 +1,5 @@
+-- Proof of `greatest_finish`: the greatest finish of a graph that is compiled, in time units: that of the tables that
+-- `compile` would make.
 use Rattle.std.proofs.Common.{subst}
 use Rattle.cpg_order.specs.Urgency.{first_order}
 use Rattle.cpg_reach.specs.Wide.{IsNarrow}

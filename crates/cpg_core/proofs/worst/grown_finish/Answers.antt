@@ -1,8 +1,11 @@
+-- Proof of `grown_finish`: the greatest finish by the trees of the first order alone, for a graph that has no track
+-- order.
 use Rattle.std.proofs.Common.{None, inl, inr, arith}
 use Rattle.cpg_order.specs.Urgency.{IsTopological, first_order}
 use Rattle.cpg_core.proofs.Figures.{accepted, grown_many}
 use Rattle.cpg_core.proofs.worst.grown_finish.Goals as goal
 
+-- with too many tracks nothing else helps
 pub late_narrow-requires-clause-helpless : goal.late_narrow-requires-clause-helpless
 late_narrow-requires-clause-helpless c = inr (inl c.requires.many)
 

@@ -1,3 +1,5 @@
+-- Proof of `shown_late_narrow`: the fault that a process ends past its due, for a late graph in which no item is too
+-- wide.
 use Rattle.cpg_order.specs.Urgency.{IsTopological, first_order}
 use Rattle.cpg_core.proofs.Figures.{grown_late}
 use Rattle.cpg_core.proofs.worst.shown_late_narrow.Goals as goal

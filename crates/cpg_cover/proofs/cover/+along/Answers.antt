@@ -1,3 +1,4 @@
+-- Proof of `along`: the least scenario that a list of cubes leaves of a cube, variable by variable along the order.
 use Rattle.std.proofs.Common.{rules, ◌≡◌, ◌∙◌, true, false, sym, subst, Some, None, List, Bor, map}
 use Rattle.std.specs.List.{list_any}
 use Rattle.std.proofs.lemmas.Bool.{OnTrue_at}
@@ -73,8 +74,10 @@ least_by_number-least_of_part-requires t c =
     let g = c.args.problem.now in
     let v = c.in-Some.variable.now in
     let l : Literal = record { variable = v; low = c.loop-number.number; high = c.loop-number.number } in
+    -- the variable and the others are variables of the graph
     let all = rw c.in-Some.ensures.cases.0 at c.requires.variables in
     let known : IsVariable g v = All-head (IsVariable g) v c.in-Some.others.now all in
+    -- the part is a cube of known variables
     let some : with_literal l c.args.cube.now ≡ Some c.in-Some-2.part = search rules in
     let part : IsKnown g c.in-Some-2.part = subst (IsKnown g) (with-is l c.args.cube.now c.in-Some-2.part some)
     (known-narrowed g l c.args.cube.now known c.requires.cube) in (
@@ -94,13 +97,16 @@ least_by_number-loop-number-preserved t c =
     let cube = c.args.cube.now in
     let v = c.in-Some.variable.now in
     let m = c.loop-number.number in
+    -- the literal that the variable has the next number
     let l : Literal = record { variable = v; low = m; high = m } in
     let found = c.loop-number.found in
     let inv = c.loop-number.invariant in
     elim c.match-branch-3.branch [
       | least_by_number-in-Some-2+in_ok-late+in-Heap-1 w ↦
+          -- the cube with this literal is the next part
           let some : with_literal l cube ≡ Some w.in-Some-2.part = sym c.in_ok-part.ensures.cube ∙ w.in-Some-2.is in
           let is = sym (with-is l cube w.in-Some-2.part some) in
+          -- it is searched, and the earlier of both answers stays; or it is late, and the answer so far stays
           elim w.if-not-late.branch [
             | least_by_number-then-not-late+in_ok-next w' ↦ rw (w.found-is, w'.found-is, w'.earlier-found.ensures)
                 (with_part g order by cube v m found w'.in_ok-next.next inv
@@ -111,8 +117,10 @@ least_by_number-loop-number-preserved t c =
                 (OnTrue_at (search rules) w.in_ok-late.ensures)) inv)
           ]
       | least_by_number-in-Some-2+in_ok-late+in-Inline-1 w ↦
+          -- the cube with this literal is the next part
           let some : with_literal l cube ≡ Some w.in-Some-2.part = sym c.in_ok-part.ensures.cube ∙ w.in-Some-2.is in
           let is = sym (with-is l cube w.in-Some-2.part some) in
+          -- it is searched, and the earlier of both answers stays; or it is late, and the answer so far stays
           elim w.if-not-late.branch [
             | least_by_number-then-not-late+in_ok-next w' ↦ rw (w.found-is, w'.found-is, w'.earlier-found.ensures)
                 (with_part g order by cube v m found w'.in_ok-next.next inv
@@ -122,5 +130,6 @@ least_by_number-loop-number-preserved t c =
                 (late_part g order by cube v m found (subst (λ (d : List Literal). IsLate g order d found) is
                 (OnTrue_at (search rules) w.in_ok-late.ensures)) inv)
           ]
+      -- the cube has no scenario with this number
       | least_by_number-in_default-2 w ↦ rw w.found-is (without_part g order by cube v m found (search rules) inv)
     ]

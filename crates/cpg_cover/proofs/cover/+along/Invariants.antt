@@ -1,3 +1,4 @@
+-- Loops of `along`: the least scenario that a list of cubes leaves of a cube, variable by variable along the order.
 use Rattle.std.proofs.Common.{◌+◌, ◌*◌, ◌&&◌, length, map}
 use Rattle.std.specs.Prelude.{nat_lt}
 use Rattle.cpg_base.specs.First.{IsFirst}
@@ -10,9 +11,11 @@ use Rattle.cpg_cover.proofs.cover.+along.Given as goal
 abbrev pub decreases-least_along : goal.decreases-least_along
 decreases-least_along l = length l.variables.now * 3 + 1
 
+-- by the numbers of the next variable: the parts have one variable less
 abbrev pub decreases-least_by_number : goal.decreases-least_by_number
 decreases-least_by_number l = length l.variables.now * 3
 
+-- a part, before it is split by the variables that are left
 abbrev pub decreases-least_of_part : goal.decreases-least_of_part
 decreases-least_of_part l = length l.variables.now * 3 + 2
 

@@ -1,3 +1,4 @@
+-- Proof of `cover`: the least scenario that a list of cubes leaves of a cube, one cube of the list after another.
 use Rattle.std.proofs.Common.{rules, ◌≡◌, ◌<◌, ◌≤◌, ◌∙◌, [], ◌∷◌, ap, sym, subst, true, false, Some, None, List, length}
 use Rattle.std.proofs.Common.{get_or, map, Bor, IsPermutation, arith}
 use Rattle.std.specs.Prelude.{All}
@@ -51,10 +52,12 @@ left_of-returns-in_default-place_of_match t c =
 pub left_of-left_outside-requires : goal.left_of-left_outside-requires
 left_of-left_outside-requires t c =
     let g = c.args.problem.now in
+    -- the cube that is taken out of the list has known variables
     let within : c.in-Some-place_of_match.place < length c.args.by.items = search rules in
     let first = c.remove-first.result.now in
     let first_known : IsKnown g first =
     rw c.remove-first.ensures.value (c.requires.list c.in-Some-place_of_match.place c.remove-first.result within) in
+    -- so have the literals that cut, in their new order, of which there are few
     let cutting = c.in_ok-cutting.cutting.items in
     let few : length cutting ≤ 256 = c.in_ok-cutting.ensures.few in
     let ranked : IsPermutation cutting c.in_ok-literals.literals.items =
@@ -64,6 +67,7 @@ left_of-left_outside-requires t c =
     rw c.as_slice-4.ensures.value (All-permutation (λ (l : Literal). IsVariable g l.variable) cutting
     c.in_ok-literals.literals.items ranked c.in_ok-cutting.ensures.known) in
     let literals : length c.as_slice-4.result.now ≤ 256 = rw c.as_slice-4.ensures.value (omega arith) in
+    -- and the other cubes of the list
     let list : All (λ (b : Bor (List Literal)). IsKnown g b.now) c.as_slice-5.result.now =
     rw (c.as_slice-5.ensures.value, c.remove-first.ensures.items)
     (all_removed (λ (b : Bor (List Literal)). IsKnown g b.now) c.args.by.items c.in-Some-place_of_match.place
@@ -75,14 +79,17 @@ pub left_of-returns : goal.left_of-returns
 left_of-returns t c =
     let g = c.args.problem.now in
     let within : c.in-Some-place_of_match.place < length c.args.by.items = search rules in
+    -- the cube that was taken, and the literals that cut, in their new order
     let first = c.remove-first.result.now in
     let is_first : first ≡ seen (get_or c.args.by.items c.in-Some-place_of_match.place c.remove-first.result) =
     ap seen c.remove-first.ensures.value in
     let ranked : IsPermutation c.in_ok-cutting.cutting.items c.in_ok-literals.literals.items =
     rw c.as_slice-2.ensures.value at c.in_ok-literals.ensures in
+    -- these literals match where that cube does
     let cut : (s : Scenario) → IsScenario g s → matches c.args.cube.now s ≡ true →
     matches c.in_ok-cutting.cutting.items s ≡ matches first s =
     rw c.literals.ensures.literals at c.in_ok-cutting.ensures.same in
+    -- so what is outside them is what it leaves
     left_by_taken g c.args.order.now seen c.args.by.items c.in-Some-place_of_match.place c.remove-first.result
     c.in_ok-literals.literals.items c.args.cube.now c.in_ok-found.found within
     (λ s i t. sym (matches_permutation c.in_ok-cutting.cutting.items c.in_ok-literals.literals.items s ranked)
@@ -125,15 +132,18 @@ left_outside-returns-then-is_empty t c =
     let by = map seen c.args.by.now in
     let cube = c.args.cube.now in
     let l = c.in-Some.literal.now in
+    -- the literal is the only one that is left
     let last : c.in-Some.rest.now ≡ [] = nil_from_length c.in-Some.rest.now (search rules) in
     let split : c.args.literals.now ≡ l ∷ [] = c.in-Some.ensures.cases.0 ∙ ap (λ ls. l ∷ ls) last in
     let known : IsVariable g l.variable =
     All-head (λ (m : Literal). IsVariable g m.variable) l [] (rw split at c.requires.literals) in
+    -- the answers for the parts below it and above it
     let below = first_below g few order by l cube c.in_ok-low.low (rw c.below.ensures at c.in_ok-low.ensures.part)
     (rw c.below.ensures at c.in_ok-low.ensures.none) in
     let above = first_above g few order by l cube c.in_ok-high.high known
     (rw (c.above.ensures, c.faults-k.ensures.faults) at c.in_ok-high.ensures.part)
     (rw (c.above.ensures, c.faults-k.ensures.faults) at c.in_ok-high.ensures.none) in
+    -- within the literal nothing is left, so the earlier of both is the answer
     rw (split, c.earlier-beside.ensures, ← earlier_none g order (earlier g order c.in_ok-low.low c.in_ok-high.high))
     (outside_one g few order by l [] cube c.in_ok-low.low c.in_ok-high.high None below above
     (outside_none g few order by (narrowed_by l cube)))
@@ -148,15 +158,18 @@ left_outside-returns-in_default-2 t c =
     let cube = c.args.cube.now in
     let l = c.in-Some.literal.now in
     let ls = c.in-Some.rest.now in
+    -- the first literal, on a known variable; the cube has no scenario in which it holds
     let split : c.args.literals.now ≡ l ∷ ls = c.in-Some.ensures.cases.0 in
     let known : IsVariable g l.variable =
     All-head (λ (m : Literal). IsVariable g m.variable) l ls (rw split at c.requires.literals) in
     let none : with_literal l cube ≡ None = search rules in
+    -- the answers for the parts below it and above it
     let below = first_below g few order by l cube c.in_ok-low.low (rw c.below.ensures at c.in_ok-low.ensures.part)
     (rw c.below.ensures at c.in_ok-low.ensures.none) in
     let above = first_above g few order by l cube c.in_ok-high.high known
     (rw (c.above.ensures, c.faults-k.ensures.faults) at c.in_ok-high.ensures.part)
     (rw (c.above.ensures, c.faults-k.ensures.faults) at c.in_ok-high.ensures.none) in
+    -- within the literal nothing is left, so the earlier of both is the answer
     rw (split, c.earlier-beside.ensures, ← earlier_none g order (earlier g order c.in_ok-low.low c.in_ok-high.high))
     (outside_one g few order by l ls cube c.in_ok-low.low c.in_ok-high.high None below above
     (within_none g order by l cube ls none))
@@ -180,9 +193,11 @@ left_outside-left_outside-requires t c =
     let g = c.args.problem.now in
     let l = c.in-Some.literal.now in
     let ls = c.in-Some.rest.now in
+    -- the first literal, on a known variable
     let split : c.args.literals.now ≡ l ∷ ls = c.in-Some.ensures.cases.0 in
     let all : IsKnown g (l ∷ ls) = rw split at c.requires.literals in
     let known : IsVariable g l.variable = All-head (λ (m : Literal). IsVariable g m.variable) l ls all in
+    -- the part within it is a cube of known variables
     let some : with_literal l c.args.cube.now ≡ Some c.in-Some-2.within = search rules in
     let within : IsKnown g c.in-Some-2.within = subst (IsKnown g) (with-is l c.args.cube.now c.in-Some-2.within some)
     (known-narrowed g l c.args.cube.now known c.requires.cube) in
@@ -210,10 +225,13 @@ left_outside-returns t c =
     let cube = c.args.cube.now in
     let l = c.in-Some.literal.now in
     let ls = c.in-Some.rest.now in
+    -- the first literal, on a known variable
     let split : c.args.literals.now ≡ l ∷ ls = c.in-Some.ensures.cases.0 in
     let known : IsVariable g l.variable =
     All-head (λ (m : Literal). IsVariable g m.variable) l ls (rw split at c.requires.literals) in
+    -- the part within it
     let some : with_literal l cube ≡ Some c.in-Some-2.within = search rules in
+    -- the answers for the parts below it, above it and within it
     let below = first_below g few order by l cube c.in_ok-low.low (rw c.below.ensures at c.in_ok-low.ensures.part)
     (rw c.below.ensures at c.in_ok-low.ensures.none) in
     let above = first_above g few order by l cube c.in_ok-high.high known
@@ -222,5 +240,6 @@ left_outside-returns t c =
     let within = within_kept g order by l cube c.in-Some-2.within some
     (map seen c.in_ok-kept.kept.items) c.in_ok-kept.ensures.same ls c.in_ok-found.found
     (rw c.as_slice.ensures.value at c.in_ok-found.ensures) in
+    -- the earliest of these three is the answer
     rw (split, c.earlier.ensures, c.earlier-beside.ensures)
     (outside_one g few order by l ls cube c.in_ok-low.low c.in_ok-high.high c.in_ok-found.found below above within)

@@ -1,3 +1,4 @@
+-- Loops of `cover`: the least scenario that a list of cubes leaves of a cube, one cube of the list after another.
 use Rattle.std.proofs.Common.{◌+◌, ◌*◌, length}
 use Rattle.cpg_cover.proofs.cover.+cover.Given as goal
 
@@ -6,8 +7,10 @@ use Rattle.cpg_cover.proofs.cover.+cover.Given as goal
 abbrev pub decreases-left_of : goal.decreases-left_of
 decreases-left_of l = length l.by.items * 300
 
+-- a part, before one more cube of the list is taken out of it
 abbrev pub decreases-left_of_part : goal.decreases-left_of_part
 decreases-left_of_part l = length l.by.now * 300 + 1
 
+-- what is outside a cube, literal by literal
 abbrev pub decreases-left_outside : goal.decreases-left_outside
 decreases-left_outside l = length l.by.now * 300 + 2 + length l.literals.now

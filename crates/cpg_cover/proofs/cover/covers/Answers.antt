@@ -1,3 +1,4 @@
+-- Proof of `covers`: whether a list covers a cube.
 use Rattle.std.proofs.Common.{◌≡◌, ◌∙◌, List, Bor, map, ap}
 use Rattle.cpg_base.specs.First.{IsFirst}
 use Rattle.cpg_cube.specs.declared.literal.Literal.{Literal}

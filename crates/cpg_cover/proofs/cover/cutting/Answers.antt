@@ -1,3 +1,4 @@
+-- Proof of `cutting`: the literals of a list that aren't known to hold in every scenario that a cube matches.
 use Rattle.std.proofs.Common.{rules, ◌≡◌, ◌∙◌, ap, true, get_or, None, Some, arith}
 use Rattle.std.proofs.lemmas.Bool.{both_ways}
 use Rattle.std.proofs.lemmas.List.{take_all}
@@ -33,6 +34,7 @@ loop-literal-preserved c =
     let inv = c.loop-literal.invariant in
     let known : IsVariable g l.variable = c.requires.literals at blank (omega arith) in
     elim c.if-not-spans.branch [
+      -- the literal is kept
       | then-not-spans+in_ok-push w ↦ record {
         same = λ s i t. rw (w.kept-is, w.in_ok-push.ensures.items)
             (all_push (holds s) c.loop-literal.kept.items ls at blank (omega arith) (inv.same s i t));
@@ -40,6 +42,7 @@ loop-literal-preserved c =
             (All-push (λ (m : Literal). IsVariable g m.variable) c.loop-literal.kept.items l inv.known known);
         few = search rules;
       }
+      -- the literal spans all numbers that its variable has in the cube, so it holds wherever the cube matches
       | else-not-spans w ↦
           let is : IsCube g a = record { rising = c.literals.ensures.rising; known = c.requires.cube } in
           let some : budget_left (is_open g.faults) asked_of_literal g.faults a ≡ Some c.in-Some.left = search rules in

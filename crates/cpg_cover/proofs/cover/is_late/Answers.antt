@@ -1,3 +1,4 @@
+-- Proof of `is_late`: whether a part has no scenario before one that is found.
 use Rattle.std.proofs.Common.{◌∙◌, Some, sym, not}
 use Rattle.std.proofs.lemmas.Bool.{OnTrue_from, not-true}
 use Rattle.cpg_base.specs.First.{IsFirst}

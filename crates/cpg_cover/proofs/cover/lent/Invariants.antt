@@ -1,3 +1,4 @@
+-- Loops of `lent`: a reference to each cube.
 use Rattle.std.proofs.Common.{◌≡◌, take, map}
 use Rattle.cpg_cover.proofs.cover.lent.Given as goal
 

@@ -1,3 +1,5 @@
+-- Proof of `meeting`: the cubes of a list that match some scenario together with a cube: they leave the same of it as
+-- the whole list.
 use Rattle.std.proofs.Common.{rules, ◌≡◌, ◌∙◌, sym, ap, false, None, Some, ◌&&◌, arith, List, Bor}
 use Rattle.std.specs.Prelude.{is_some}
 use Rattle.std.specs.List.{list_any}
@@ -36,6 +38,7 @@ loop-other-preserved c =
     let inv = c.loop-other.invariant in
     let known : IsKnown g b = rw c.other-item.is (c.requires.list at c.other-item.result (omega arith)) in
     elim c.if-fits.branch [
+      -- the cube is kept
       | then-fits+in_ok-push w ↦ record {
         same = λ s i t. rw (
           w.kept-is,
@@ -47,6 +50,7 @@ loop-other-preserved c =
             (All-push (λ b. IsKnown g b.now) c.loop-other.kept.items c.other-item.result inv.known known);
         few = search rules;
       }
+      -- the cube doesn't fit beside the bounds of this one, so no scenario matches both
       | else-fits w ↦
           let is_a : IsCube g a = record { rising = c.literals.ensures.rising; known = c.requires.cube } in
           let is_b : IsCube g b = record { rising = c.literals-literals.ensures.rising; known = known } in

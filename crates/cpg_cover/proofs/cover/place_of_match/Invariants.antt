@@ -1,3 +1,4 @@
+-- Loops of `place_of_match`: the place of a cube that matches a scenario.
 use Rattle.std.proofs.Common.{◌≡◌, drop}
 use Rattle.std.specs.List.{list_any}
 use Rattle.cpg_cube.specs.Cube.{matches}

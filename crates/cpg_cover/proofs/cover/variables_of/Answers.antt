@@ -1,3 +1,4 @@
+-- Proof of `variables_of`: the variables along an order on which some cube has a literal.
 use Rattle.std.proofs.Common.{◌<◌, All, sym, subst, arith}
 use Rattle.std.proofs.lemmas.List.Elements.{All-push}
 use Rattle.cpg_base.specs.Graph.{IsVariable, process_count}

@@ -1,3 +1,4 @@
+-- Proof of `is_surely_covered`: whether a list is found to cover a cube.
 use Rattle.std.proofs.Common.{rules, ◌≡◌, Bor, List, Some, length, ltb-true}
 use Rattle.std.specs.Prelude.{nat_lt}
 use Rattle.std.proofs.lemmas.Bool.{OnTrue_from}
@@ -19,9 +20,11 @@ returns c =
     let low = c.of-bounds.result.low in
     let high = c.of-bounds.result.high in
     let left = c.in-Some.left in
+    -- the bounds of the cube, and the faults that it leaves
     let are : AreBounds cube low high = search rules in
     let long : length low ≡ 256 = search rules in
     let some : budget_left (is_open g.faults) asked_of_literal g.faults cube ≡ Some left = search rules in
+    -- the faults that what is beyond the lows needs
     let needs : Needs c.add_over.new.cubes.items c.in_ok-few.few = rw c.as_slice.ensures.value at c.in_ok-few.ensures in
     OnTrue_from (nat_lt left c.in_ok-few.few) _ (λ b s i t.
     is_covered g limits cube is low high are long left some s i t (λ (d : Bor (List Literal)). d.now) c.args.by.now

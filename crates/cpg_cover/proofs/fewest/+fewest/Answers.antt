@@ -1,3 +1,4 @@
+-- Proof of `fewest`: a number that is no greater than the faults of any scenario that none of the cubes matches.
 use Rattle.std.proofs.Common.{rules, ◌-◌, true, false, arith}
 use Rattle.cpg_cover.specs.Fewest.{Needs}
 use Rattle.cpg_cover.proofs.FewestLaws.{Steps, without_from, value_from, count_without, count_from, parts_from}
@@ -35,6 +36,7 @@ fewest_by_value-returns t c =
     let cubes = c.args.cubes.now in
     let v = c.args.variable in
     let budget = c.args.bound.budget in
+    -- the steps to the value 0 and to the value 1
     let off : Steps cubes v false budget c.in_ok-zero.zero.items =
     rw (c.zero.ensures.variable, c.zero.ensures.more) at c.in_ok-zero.ensures in
     let on : Steps cubes v true budget c.in_ok-one.one.items =

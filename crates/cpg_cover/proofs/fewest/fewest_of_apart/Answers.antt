@@ -1,3 +1,5 @@
+-- Proof of `fewest_of_apart`: how many faults it takes at least that none of the cubes matches, by some without common
+-- variables.
 use Rattle.std.proofs.Common.{◌∙◌, sym, arith}
 use Rattle.cpg_cover.specs.Fewest.{AreMore}
 use Rattle.cpg_cover.proofs.FewestLaws.{marked_all, marked_more, one_is_off}
@@ -13,6 +15,7 @@ loop-cube-preserved c =
     let marks = c.loop-cube.marks in
     let inv = c.loop-cube.invariant in
     elim c.if-few-gt0.branch [
+      -- the cube shares no variable with those counted, and is counted
       | then-few-gt0+then-are_all w ↦
           let sum = w.saturating_add-sum.ensures in
           let later = w.mark_all.new.marks in
@@ -22,6 +25,7 @@ loop-cube-preserved c =
           (λ n off. rw c.cube-item.is (one_is_off cubes at item (omega arith) n off)) c.fewest_of_cube-few.ensures
           (rw w.literals.ensures.literals at (sym w.are_all.ensures ∙ w.if-are_all.true)) more.kept
           more.marked (omega arith))
+      -- it is left out
       | else-few-gt0 w ↦ rw (w.marks-is, w.sum-is) inv
     ]
 

@@ -1,3 +1,5 @@
+-- Loops of `fewest_of_apart`: how many faults it takes at least that none of the cubes matches, by some without common
+-- variables.
 use Rattle.cpg_cover.proofs.FewestLaws.{NeedsOfMarked}
 use Rattle.cpg_cover.proofs.fewest.fewest_of_apart.Given as goal
 

@@ -1,3 +1,4 @@
+-- Proof of `fewest_of_cube`: how many faults it takes at least that a cube doesn't match.
 use Rattle.std.proofs.Common.{arith}
 use Rattle.cpg_cover.proofs.FewestLaws.{outside_more}
 use Rattle.cpg_cover.proofs.fewest.fewest_of_cube.Goals as goal

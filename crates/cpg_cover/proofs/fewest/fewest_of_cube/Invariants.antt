@@ -1,3 +1,4 @@
+-- Loops of `fewest_of_cube`: how many faults it takes at least that a cube doesn't match.
 use Rattle.std.proofs.Common.{take}
 use Rattle.cpg_cover.specs.Fewest.{NeedsOutside}
 use Rattle.cpg_cover.proofs.fewest.fewest_of_cube.Given as goal

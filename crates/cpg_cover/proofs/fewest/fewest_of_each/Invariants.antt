@@ -1,3 +1,4 @@
+-- Loops of `fewest_of_each`: how many faults it takes at least that none of the cubes matches, by each alone.
 use Rattle.std.proofs.Common.{take}
 use Rattle.cpg_cover.specs.Fewest.{Needs}
 use Rattle.cpg_cover.proofs.fewest.fewest_of_each.Given as goal

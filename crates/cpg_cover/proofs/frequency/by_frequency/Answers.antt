@@ -1,3 +1,5 @@
+-- Proof of `by_frequency`: the literals of a list, first those on variables that most cubes of another list have a
+-- literal on.
 use Rattle.std.proofs.Common.{rules, ◌≡◌, map}
 use Rattle.std.proofs.lemmas.List.Sorted.{IsPermutation-map}
 use Rattle.cpg_cover.specs.declared.frequency.LiteralRank.{LiteralRank}

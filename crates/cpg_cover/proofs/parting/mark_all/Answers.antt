@@ -1,3 +1,4 @@
+-- Proof of `mark_all`: marks the variables of literals.
 use Rattle.std.proofs.Common.{rules, ◌<◌, get_or, slice_set, take, length, true, false, ap, arith}
 use Rattle.cpg_base.specs.Numbers.{same_bool}
 use Rattle.cpg_cube.specs.declared.literal.Literal.{Literal}

@@ -1,3 +1,4 @@
+-- Loops of `parted`: the cubes all of whose variables are marked, or none.
 use Rattle.std.proofs.Common.{◌≡◌, ℕ, take, true}
 use Rattle.cpg_cover.specs.Fewest.{AreMarked, is_any_at}
 use Rattle.cpg_cover.proofs.parting.parted.Given as goal

@@ -1,3 +1,4 @@
+-- Loops of `stepped`: what the cubes ask after the step, those that may match.
 use Rattle.std.proofs.Common.{◌≡◌, ℕ, take, true}
 use Rattle.cpg_cover.specs.Fewest.{IsStep, after, is_any_at}
 use Rattle.cpg_cover.proofs.stepping.stepped.Given as goal

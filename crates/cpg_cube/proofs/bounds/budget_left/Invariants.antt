@@ -1,3 +1,5 @@
+-- Loops of `budget_left`: what is left of `k` faults after those that the literals ask for; `None` if they match no
+-- scenario of at most `k` faults.
 use Rattle.std.proofs.Common.{◌≡◌, drop}
 use Rattle.cpg_cube.specs.Fit.{is_open, asked_of_literal}
 use Rattle.cpg_cube.specs.Bounds.{budget_left}

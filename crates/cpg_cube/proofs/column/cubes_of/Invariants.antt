@@ -1,3 +1,4 @@
+-- Loops of `cubes_of`: a reference to the cube of each column.
 use Rattle.std.proofs.Common.{◌≡◌, take, map}
 use Rattle.cpg_cube.proofs.column.cubes_of.Given as goal
 

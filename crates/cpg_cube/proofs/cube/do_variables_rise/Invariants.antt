@@ -1,3 +1,4 @@
+-- Loops of `do_variables_rise`: whether each variable is greater than the one before.
 use Rattle.std.proofs.Common.{◌≡◌, ◌+◌, ◌&&◌, drop}
 use Rattle.cpg_cube.specs.Rising.{rises_from}
 use Rattle.cpg_cube.proofs.cube.do_variables_rise.Given as goal

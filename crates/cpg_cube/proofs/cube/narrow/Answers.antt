@@ -1,3 +1,4 @@
+-- Proof of `narrow`: puts a literal in its place, or meets the one on its variable with it.
 use Rattle.std.proofs.Common.{rules, ◌≡◌, ◌<◌, ◌∙◌, sym, ap, length, Some, None, refl, length-set}
 use Rattle.std.specs.Prelude.{position, slice_index_or, slice_set}
 use Rattle.smallvec.proofs.SmallVecLemmas.{items-with_items}

@@ -1,3 +1,5 @@
+-- Proof of `by_least_scenario`: the columns by the least scenario along the order that they match: none has the lows of
+-- its cube before those of an earlier one.
 use Rattle.std.proofs.Common.{ℕ, ◌<◌, ◌≤◌, ◌≡◌, ◌≢◌, ◌∙◌, List, All, length, map, get_or, IsPermutation, arith, sym, ap}
 use Rattle.std.proofs.Common.{subst, rules}
 use Rattle.std.specs.List.{AllPairs}
@@ -24,6 +26,7 @@ pub with_keys-requires : goal.with_keys-requires
 with_keys-requires g c =
     let problem = c.args.problem.now in
     let order = c.args.order.now in
+    -- an order of few processes, and the variables along it
     let few : length order ≤ 128 = omega (
       arith,
       length_order (process_count problem) order c.requires,
@@ -58,6 +61,7 @@ returns-clause-by_lows g c =
     let after = c.sort_unstable_by.new.self.items in
     let problem = c.args.problem.now in
     let order = c.args.order.now in
+    -- an order of few processes, and the variables along it
     let few : length order ≤ 128 = omega (
       arith,
       length_order (process_count problem) order c.requires,
@@ -65,8 +69,10 @@ returns-clause-by_lows g c =
     ) in
     let along : c.as_slice.result.now ≡ variables_along problem order = c.as_slice.ensures.value
     ∙ c.in_ok-variables.ensures ∙ ap (variables_along problem) c.processes.ensures.processes in
+    -- the columns are sorted by their keys
     let up : IsSortedBy is_key_below after =
     c.sort_unstable_by.ensures.sorted is_key_below is_total (always_returns_same _ _ _ (λ a r f k. search rules)) in
+    -- so they stand by their lows along the order
     IfOk-weaker _ (λ r. r.items ≡ map column after) (λ r. AreByLows g.T.Cubed.cubed problem order r.items)
     (λ r e. subst (AreByLows g.T.Cubed.cubed problem order) (sym e)
     (by_lows g.T.Cubed.cubed problem order c.as_slice.result.now few along before after

@@ -1,3 +1,4 @@
+-- Proof of `first_by_key`: the place of the first column with the least key.
 use Rattle.std.proofs.Common.{◌<◌, ◌≡◌, ◌∙◌, arith, get_or, length, refl, rules, ap, subst}
 use Rattle.std.proofs.lemmas.Grind.{common_steps}
 use Rattle.std.proofs.lemmas.List.{get_or_default}
@@ -27,6 +28,7 @@ loop-place-preserved g c =
     let variables = c.args.variables.now in
     let n = c.loop-place.place in
     let within : n < length columns = omega (arith, c.loop-place-test.true) in
+    -- the column at this place has the key that was made
     best_next g.T.Cubed.cubed columns variables n c.loop-place.best
     (record { key = c.in_ok-key-2.key; place = n }) c.loop-place.invariant refl
     (λ d.

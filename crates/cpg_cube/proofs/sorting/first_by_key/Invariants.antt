@@ -1,3 +1,4 @@
+-- Loops of `first_by_key`: the place of the first column with the least key.
 use Rattle.cpg_cube.proofs.KeyOrder.{IsBest}
 use Rattle.cpg_cube.proofs.sorting.first_by_key.Given as goal
 

@@ -1,3 +1,5 @@
+-- Proof of `first_by_least_scenario`: the place of the column with the least scenario along the order: no column has
+-- the lows of its cube before those of this one's.
 use Rattle.std.proofs.Common.{ℕ, ◌<◌, ◌≤◌, ◌≡◌, ◌≢◌, ◌∙◌, List, All, length, arith, sym, ap, subst}
 use Rattle.std.specs.List.{AllPairs}
 use Rattle.std.proofs.lemmas.Option.{IfSome_then}
@@ -19,6 +21,7 @@ pub first_by_key-requires : goal.first_by_key-requires
 first_by_key-requires g c =
     let problem = c.args.problem.now in
     let order = c.args.order.now in
+    -- an order of few processes, and the variables along it
     let few : length order ≤ 128 = omega (
       arith,
       length_order (process_count problem) order c.requires,
@@ -39,6 +42,7 @@ returns-clause-first g c =
     let order = c.args.order.now in
     let columns = c.args.columns.now in
     let variables = c.as_slice.result.now in
+    -- an order of few processes, and the variables along it
     let few : length order ≤ 128 = omega (
       arith,
       length_order (process_count problem) order c.requires,

@@ -1,3 +1,5 @@
+-- Proof of `key_of`: the key of a cube: the lows along some variables that aren't 0, each with how many places are
+-- left.
 use Rattle.std.proofs.Common.{◌≡◌, ◌<◌, ◌++◌, ◌∙◌, [], List, All, ap, sym, subst, rules}
 use Rattle.std.proofs.lemmas.List.Elements.{All-append}
 use Rattle.cpg_cube.specs.Cube.{Literal}
@@ -30,5 +32,6 @@ returns-clause-key c variables are =
     key_made variables c.args.places.now are c.args.cube.now bytes c.literals-left.ensures.rising
     c.put_lows_of.new.key.items made
 
+-- the lows are bytes if those of all blocks and of the rest are
 pub returns-clause-bytes : goal.returns-clause-bytes
 returns-clause-bytes c = c.loop-block.invariant.bytes c.in_ok-put_lows_of.ensures.bytes

@@ -1,3 +1,5 @@
+-- Loops of `key_of`: the key of a cube: the lows along some variables that aren't 0, each with how many places are
+-- left.
 use Rattle.std.proofs.Common.{◌≡◌, [], length}
 use Rattle.cpg_cube.specs.Keys.{AreBytes, with_lows_of}
 use Rattle.cpg_cube.proofs.sorting.key_of.Given as goal

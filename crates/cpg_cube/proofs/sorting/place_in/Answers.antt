@@ -1,11 +1,14 @@
+-- Proof of `place_in`: how many numbers of a key stand before one.
 use Rattle.std.proofs.Common.{arith, rules}
 use Rattle.cpg_cube.proofs.KeyPlaces.{place_here, place_next}
 use Rattle.cpg_cube.proofs.sorting.place_in.Goals as goal
 
+-- at the first lesser number of the key the place is found
 pub returns-then-key-place : goal.returns-then-key-place
 returns-then-key-place c =
     place_here c.args.number c.loop-place.place _ c.args.key.now (omega arith) (search rules) c.loop-place.invariant
 
+-- at any other number the place is further on
 pub loop-place-preserved : goal.loop-place-preserved
 loop-place-preserved c =
     place_next c.args.number c.loop-place.place _ c.args.key.now (omega arith) (search rules) c.loop-place.invariant

@@ -1,3 +1,4 @@
+-- Loops of `place_in`: how many numbers of a key stand before one.
 use Rattle.std.proofs.Common.{◌≡◌, ◌+◌, ◌-◌, drop, length}
 use Rattle.cpg_cube.specs.Keys.{place_in}
 use Rattle.cpg_cube.proofs.sorting.place_in.Given as goal

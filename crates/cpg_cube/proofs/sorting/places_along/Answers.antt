@@ -1,3 +1,5 @@
+-- Proof of `places_along`: how many places are left at each variable along an order, a process's count and then its
+-- value: 256 at the first, and 0 at a number that is no variable of the problem.
 use Rattle.std.proofs.Common.{ℕ, ◌<◌, ◌≤◌, ◌≡◌, ◌≢◌, ◌∙◌, List, All, length, arith, sym, ap, subst}
 use Rattle.std.specs.List.{AllPairs}
 use Rattle.cpg_base.specs.Graph.{process_count}
@@ -18,6 +20,7 @@ pub places_of-requires : goal.places_of-requires
 places_of-requires c =
     let problem = c.args.problem.now in
     let order = c.args.order.now in
+    -- an order of few processes, and the variables along it
     let few : length order ≤ 128 = omega (
       arith,
       length_order (process_count problem) order c.requires,

@@ -1,8 +1,10 @@
+-- Proof of `places_of`: how many places are left at each of some variables, and 0 at others.
 use Rattle.std.proofs.Common.{◌<◌, rules, arith, refl, length}
 use Rattle.std.specs.Prelude.{slice_index_or}
 use Rattle.cpg_cube.proofs.KeyPlaces.{places_none, places_more}
 use Rattle.cpg_cube.proofs.sorting.places_of.Goals as goal
 
+-- before the first variable no place is written
 pub loop-variable-init : goal.loop-variable-init
 loop-variable-init c = record { left = refl; long = refl; places = places_none }
 

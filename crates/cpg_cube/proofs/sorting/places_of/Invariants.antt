@@ -1,3 +1,4 @@
+-- Loops of `places_of`: how many places are left at each of some variables, and 0 at others.
 use Rattle.std.proofs.Common.{ℕ, ◌≡◌, ◌+◌, get_or, length, take}
 use Rattle.cpg_cube.specs.Keys.{left_at}
 use Rattle.cpg_cube.proofs.sorting.places_of.Given as goal

@@ -1,3 +1,4 @@
+-- Proof of `push_variables`: adds a process's count and then its value, if it has a condition.
 use Rattle.std.proofs.Common.{◌<◌, arith, rules}
 use Rattle.cpg_base.specs.Graph.{condition_count}
 use Rattle.cpg_base.proofs.ConditionProcesses.{condition_of_below}

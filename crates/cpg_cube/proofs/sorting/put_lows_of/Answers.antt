@@ -1,3 +1,4 @@
+-- Proof of `put_lows_of`: puts the lows of literals.
 use Rattle.std.proofs.Common.{ℕ, ◌<◌, take, All, arith, rules, sym, subst}
 use Rattle.std.proofs.lemmas.List.{take_all, take_more}
 use Rattle.std.proofs.lemmas.List.Elements.{All-push}
@@ -18,6 +19,7 @@ loop-literal-preserved c =
           (All-push (λ (l : Literal). l.low < 256) (take i literals) _ old.bytes c.put_low_of.ensures.byte);
     }
 
+-- all lows that were put are bytes
 pub returns-clause-bytes : goal.returns-clause-bytes
 returns-clause-bytes c = subst AreBytes
     (take_all c.loop-literal.literal-index c.args.literals.now (omega arith)) c.loop-literal.invariant.bytes

@@ -1,3 +1,4 @@
+-- Proof of `with_keys`: the columns with their keys.
 use Rattle.std.proofs.Common.{◌≡◌, ◌∙◌, List, [], All, arith, rules, sym, ap, subst}
 use Rattle.std.proofs.lemmas.Grind.{common_steps}
 use Rattle.std.proofs.lemmas.List.Elements.{All-push}

@@ -1,3 +1,4 @@
+-- Proof of `active_item`: a tree that is true where an item that is started or sent is active.
 use Rattle.std.proofs.Common.{◌≡◌, ◌<◌, ◌∙◌, ap, arith, length, subst}
 use Rattle.cpg_base.specs.Graph.{Graph, process_count, producer}
 use Rattle.cpg_rules.specs.Guards.{tree_of}

@@ -1,3 +1,4 @@
+-- Proof of `begin`: adds the start and the end of a process, its frozen time, and when its node goes on after it.
 use Rattle.std.proofs.Common.{◌≡◌, ◌∙◌, false, true, refl, sym, subst, inl, inr}
 use Rattle.cpg_base.specs.Graph.{Graph, is_frozen}
 use Rattle.cpg_rules.specs.Guards.{tree_of}
@@ -13,6 +14,7 @@ returns-clause-begun c =
       chooser_tree = b.chooser_tree;
       actives = b.actives;
       start = b.start;
+      -- the process isn't frozen, the frozen times stay, and the start follows from all that it waits for
       starts = inl (
         subst (λ (g : Graph). is_frozen g c.args.process ≡ false) c.problem.ensures.problem
             (sym c.is_frozen.ensures ∙ c.if-is_frozen.false),

@@ -1,3 +1,5 @@
+-- Proof of `begin_frozen`: adds the start and the end of a frozen process, its frozen time, and when its node goes on
+-- after it.
 use Rattle.std.proofs.Common.{◌<◌, ◌≡◌, ◌∙◌, ap, sym, subst, length, arith}
 use Rattle.cpg_base.specs.Graph.{Graph, process_count, node_of, inputs}
 use Rattle.cpg_base.specs.Order.{place}
@@ -106,19 +108,23 @@ returns-clause-begun c =
     let guard = tree_of guards c.args.process in
     let found = c.guard_of.result.now in
     let is_guards = c.guards-guards.ensures.guards in
+    -- the guard that was found is that of the process
     let is_found : found ≡ guard = c.guard_of.ensures.tree ∙ ap (λ (x : Guards). tree_of x c.args.process) is_guards in
     let order = c.args.order.now in
     let p = c.args.process in
+    -- the span of the node's processes before it begins at a cut
     let span = c.span_before-span.result in
     let e = c.span_before-span.ensures in
     let cut : IsCut h order guards (node_of h p) (place order p) span.from =
     subst (λ n. IsCut h order guards n (place order p) span.from) c.node_of-node.ensures.node
     (subst (λ n. IsCut h order guards c.node_of-node.result n span.from) c.place.ensures.place
     (subst (λ (x : Guards). IsCut h order x c.node_of-node.result c.place.result span.from) is_guards e.cut)) in
+    -- the latest start, said of the graph, the order and the guards
     let top = latest_as f span.from p c.in_ok-active.active c.in_ok-latest.latest h span.problem.now e.problem order
     span.order.now e.order guards span.guards.now (e.guards ∙ is_guards)
     (node_of h p) span.node (e.node ∙ c.node_of-node.ensures.node)
     (inputs h p) c.inputs-inputs.result.now c.inputs-inputs.ensures c.in_ok-latest.ensures in
+    -- with these the trees that are put are what is found of a frozen process
     begun_made
     (λ h guard. IsFrozenStart h order guards c.args.process c.args.forest.now c.args.frozen.now c.freeze.new.frozen)
     c.args.admitted.now.graph h same order c.args.process

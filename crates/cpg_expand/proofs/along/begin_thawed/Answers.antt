@@ -1,3 +1,5 @@
+-- Proof of `begin_thawed`: adds the start and the end of a process that isn't frozen, and when its node goes on after
+-- it.
 use Rattle.std.proofs.Common.{◌<◌, ◌≡◌, ◌∙◌, ap, sym, subst, length, arith, inl, inr}
 use Rattle.cpg_base.specs.Graph.{Graph, process_count, process_at, node_of}
 use Rattle.cpg_rules.specs.Guards.{Guards, tree_of}
@@ -74,6 +76,7 @@ returns-clause-begun c order =
     subst (λ n. IsWaitTree h f n c.guard_of-guard.result.now wait) c.node_of-node.ensures.node
     (subst (λ (r : Ready). IsWaitTree h f c.node_of-node.result c.guard_of-guard.result.now (ready_by h f r))
     (sym c.wait_for-wait.ensures) c.in_ok-heard.ensures.wait) in
+    -- with this wait the trees that are put are what is found of a process that isn't frozen
     begun_made (λ h guard. thawed_start h c.args.process c.args.forest.now guard) c.args.admitted.now.graph h
     c.problem-problem.ensures.problem order c.args.process
     (tree_of c.args.admitted.now.guards c.args.process) c.guard_of-guard.result.now
@@ -153,6 +156,7 @@ returns-in_err-next-clause-fault c =
     subst (λ n. IsWaitTree h f n found wait) c.node_of-node.ensures.node
     (subst (λ (r : Ready). IsWaitTree h f c.node_of-node.result found (ready_by h f r))
     (sym c.wait_for-wait.ensures) c.in_ok-heard.ensures.wait) in
+    -- so the tree that is too large is one on the way to the start and the end
     handed_as (IsLargeEnd h p start) (IsLargeThawed c.args.admitted.now.graph p f guard) f.wide
     c.from_residual-in_err-next.result c.in_err-next.field-0.0 c.from_residual-in_err-next.ensures.1
     (λ x. thawed_as c.args.admitted.now.graph h c.problem-problem.ensures.problem p f guard found is (inr (record {

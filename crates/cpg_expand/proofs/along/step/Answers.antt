@@ -1,3 +1,4 @@
+-- Proof of `step`: adds the trees of a process and of what it sends, and their frozen times.
 use Rattle.std.proofs.Common.{◌∙◌, subst}
 use Rattle.cpg_base.specs.Graph.{Graph}
 use Rattle.cpg_bus.specs.Plan.{queue_of}

@@ -1,3 +1,4 @@
+-- Proof of `found`: the tree of a guard.
 use Rattle.std.proofs.Common.{sym, subst}
 use Rattle.cpg_order.specs.Guard.{Guard}
 use Rattle.cpg_expand.specs.Large.{IsLarge}
@@ -37,6 +38,7 @@ test-requires-clause-yes g t c =
 -- the tree of the test is made of those of its sides, so with it all trees that are kept fit their guards
 pub returns-in_ok-source-in-Test-clause-known : goal.returns-in_ok-source-in-Test-clause-known
 returns-in_ok-source-in-Test-clause-known g t c =
+    -- the trees of both sides of the test are made and fit their guards
     let low = still_has_value (g.D.Descent.made c.args.descent.now) (g.D.Descent.fits c.args.descent.now)
     c.found.new.known.items c.found-in-Test.new.known.items c.as_slice-kept.result.now
     c.in_ok-yes-in-Test.ensures.kept c.as_slice-kept.ensures.value c.in-Test.no.now c.in_ok-no-in-Test.no
@@ -47,6 +49,7 @@ returns-in_ok-source-in-Test-clause-known g t c =
     (λ i g at. at) c.as_slice-kept.ensures.value c.in-Test.yes.now c.in_ok-yes-in-Test.yes
     c.in_ok-yes-in-Test.ensures.found c.in_ok-yes-in-Test.ensures.known c.tree_of-in-Test.result.now
     c.tree_of-in-Test.ensures in
+    -- so the tree that is added fits the guard
     added_known (g.D.Descent.made c.args.descent.now) (g.D.Descent.fits c.args.descent.now)
     c.found-in-Test.new.known.items c.keep-in-Test.new.known.items c.args.guard.now c.in_ok-tree-in-Test.tree
     c.in_ok-source-in-Test.source c.in_ok-yes-in-Test.ensures.known
@@ -68,6 +71,7 @@ returns-in_ok-source-in-Test-clause-kept g t c =
 -- the tree of the test is made of those of its sides, and it is the one that is added
 pub returns-in_ok-source-in-Test-clause-found : goal.returns-in_ok-source-in-Test-clause-found
 returns-in_ok-source-in-Test-clause-found g t c =
+    -- the trees of both sides of the test are made and fit their guards
     let low = still_has_value (g.D.Descent.made c.args.descent.now) (g.D.Descent.fits c.args.descent.now)
     c.found.new.known.items c.found-in-Test.new.known.items c.as_slice-kept.result.now
     c.in_ok-yes-in-Test.ensures.kept c.as_slice-kept.ensures.value c.in-Test.no.now c.in_ok-no-in-Test.no
@@ -78,6 +82,7 @@ returns-in_ok-source-in-Test-clause-found g t c =
     (λ i g at. at) c.as_slice-kept.ensures.value c.in-Test.yes.now c.in_ok-yes-in-Test.yes
     c.in_ok-yes-in-Test.ensures.found c.in_ok-yes-in-Test.ensures.known c.tree_of-in-Test.result.now
     c.tree_of-in-Test.ensures in
+    -- so the tree that is added is found for the guard
     added_found (g.D.Descent.made c.args.descent.now) (g.D.Descent.fits c.args.descent.now)
     c.found-in-Test.new.known.items c.keep-in-Test.new.known.items c.args.guard.now c.in_ok-tree-in-Test.tree
     c.in_ok-source-in-Test.source
@@ -114,6 +119,7 @@ returns-in_err-yes-in-Test-clause-fault g t c =
 -- the tree of the test itself has too many leaves
 pub returns-in_err-few-in-Test-clause-fault : goal.returns-in_err-few-in-Test-clause-fault
 returns-in_err-few-in-Test-clause-fault g t c =
+    -- the trees of both sides of the test are made and fit their guards
     let low = still_has_value (g.D.Descent.made c.args.descent.now) (g.D.Descent.fits c.args.descent.now)
     c.found.new.known.items c.found-in-Test.new.known.items c.as_slice-kept.result.now
     c.in_ok-yes-in-Test.ensures.kept c.as_slice-kept.ensures.value c.in-Test.no.now c.in_ok-no-in-Test.no
@@ -124,6 +130,7 @@ returns-in_err-few-in-Test-clause-fault g t c =
     (λ i g at. at) c.as_slice-kept.ensures.value c.in-Test.yes.now c.in_ok-yes-in-Test.yes
     c.in_ok-yes-in-Test.ensures.found c.in_ok-yes-in-Test.ensures.known c.tree_of-in-Test.result.now
     c.tree_of-in-Test.ensures in
+    -- so the tree of the test is one that fits, and has too many leaves
     handed_on _ c.from_residual-in_err-few-in-Test.result c.in_err-few-in-Test.field-0.0
     c.from_residual-in_err-few-in-Test.ensures.1
     (large_part (g.D.Descent.large c.args.descent.now) (g.D.Descent.fits c.args.descent.now)

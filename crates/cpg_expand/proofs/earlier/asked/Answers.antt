@@ -1,3 +1,4 @@
+-- Proof of `asked`: a tree that is true where a process of a span before a place tests a condition.
 use Rattle.std.proofs.Common.{◌≡◌, ◌≤◌, true, length, arith, ap, subst}
 use Rattle.std.specs.Bool.{OnTrue}
 use Rattle.cpg_base.specs.Graph.{process_count}

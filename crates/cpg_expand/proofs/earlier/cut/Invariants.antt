@@ -1,3 +1,4 @@
+-- Loops of `cut`: the first place from which on the processes of a node before another place have to be looked at.
 use Rattle.cpg_expand.specs.Earlier.{IsCut}
 use Rattle.cpg_expand.proofs.earlier.cut.Given as goal
 

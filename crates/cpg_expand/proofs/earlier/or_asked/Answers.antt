@@ -1,3 +1,4 @@
+-- Proof of `or_asked`: a tree that is true where a given one is, or where a process of a span tests a condition.
 use Rattle.std.proofs.Common.{true, subst, sym, ◌∙◌}
 use Rattle.cpg_order.specs.Guard.{Guard}
 use Rattle.cpg_tree.specs.Tree.{IsConstant}

@@ -1,3 +1,4 @@
+-- Proof of `durations`: how long an execution of a process lasts with no fault, with one, and so on.
 use Rattle.cpg_base.proofs.Lists.{map_below_push}
 use Rattle.cpg_base.specs.Duration.{duration}
 use Rattle.cpg_expand.proofs.ending.durations.Goals as goal

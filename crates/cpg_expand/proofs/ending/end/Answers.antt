@@ -1,3 +1,4 @@
+-- Proof of `end`: the ends of a process.
 use Rattle.std.proofs.Common.{ℕ, List, ◌≡◌, ◌∙◌, subst}
 use Rattle.cpg_tree.specs.Tree.{IsJoin, IsNumber}
 use Rattle.cpg_tree.specs.Variables.{is_variable}

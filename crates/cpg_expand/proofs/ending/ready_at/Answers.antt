@@ -1,3 +1,4 @@
+-- Proof of `ready_at`: when the node of a process that is not always active goes on.
 use Rattle.std.proofs.Common.{sym, subst}
 use Rattle.cpg_expand.specs.Ending.{IsReadyTree}
 use Rattle.cpg_expand.specs.Forest.{IsWait, ends_of, later_tree, ready_by}

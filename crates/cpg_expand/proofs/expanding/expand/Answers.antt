@@ -1,3 +1,5 @@
+-- Proof of `expand`: the exact tables of a graph under an order, with the frozen times and, in time units, the greatest
+-- finish and the greatest excess of all runs, each with its first scenario by the urgency order.
 use Rattle.std.proofs.Common.{◌≡◌, ◌∙◌, subst, sym}
 use Rattle.cpg_order.specs.Urgency.{IsTopological}
 use Rattle.cpg_run.specs.Built.{IsBuiltFor}

@@ -1,3 +1,4 @@
+-- Proof of `grow_bounded`: does what `grow` does, but does not refuse an item for its views.
 use Rattle.cpg_expand.specs.Large.{HasLargeTree}
 use Rattle.cpg_expand.specs.GrownFor.{IsWidth}
 use Rattle.cpg_expand.proofs.LargeShown.{handed_on}

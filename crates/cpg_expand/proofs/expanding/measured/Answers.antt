@@ -1,3 +1,4 @@
+-- Proof of `measured`: how good an order is, measured by its trees.
 use Rattle.std.proofs.Common.{ℕ, ◌≡◌, List, Option, refl, ap, sym, subst, ◌∙◌}
 use Rattle.cpg_base.specs.Graph.{Graph, process_count}
 use Rattle.cpg_tree.specs.Tree.{TreeState}
@@ -19,8 +20,10 @@ returns c =
     let frozen : List (Option ℕ) = c.args.trees.frozen in
     let forest : ForestState = c.args.trees.forest in
     let grown : IsGrown g order (process_count g) frozen forest = c.requires.grown in
+    -- the trees of the ends give the ends of each run
     let has_value : GiveEnds g order frozen forest.ends =
     grown_gives_ends g urgency guards a order c.requires.topological frozen forest grown in
+    -- their peaks are the greatest finish and the greatest excess, under any order that they are grown along
     let worst : IsWorstOfTrees g urgency forest.ends c.in_ok-worst.worst =
     said_of (λ h us ts. IsWorstOfTrees h us ts c.in_ok-worst.worst) g c.problem-problem.result.now urgency
     c.order-urgency.result.now forest.ends c.as_slice-ends.result.now
@@ -31,6 +34,7 @@ returns c =
     c.order-urgency.result.now forest.ends c.as_slice-ends.result.now
     c.problem-problem.ensures.problem c.order-urgency.ensures.order (c.as_slice-ends.ensures.value
     ∙ ap (λ (m : GrownForest). m.forest.ends) c.trees.view_is) c.in_ok-excess.ensures.excess in
+    -- so they are those of this order
     record {
       same = refl;
       wide = c.requires.wide;

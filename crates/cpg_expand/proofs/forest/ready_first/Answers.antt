@@ -1,3 +1,4 @@
+-- Proof of `ready_first`: makes `count` nodes that are ready from the beginning.
 use Rattle.std.proofs.Common.{subst}
 use Rattle.cpg_tree.specs.Tree.{IsConstant}
 use Rattle.cpg_tree.specs.Variables.{is_variable}

@@ -1,3 +1,4 @@
+-- Loops of `ready_first`: makes `count` nodes that are ready from the beginning.
 use Rattle.std.proofs.Common.{◌≡◌, All, length}
 use Rattle.cpg_expand.specs.Forest.{IsWait}
 use Rattle.cpg_expand.specs.Grown.{IsReadyFirst}

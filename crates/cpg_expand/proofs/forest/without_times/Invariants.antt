@@ -1,3 +1,4 @@
+-- Loops of `without_times`: makes `count` trees that have no time in any scenario.
 use Rattle.std.proofs.Common.{◌≡◌, None, All, length}
 use Rattle.cpg_expand.specs.Agreeing.{IsTree}
 use Rattle.cpg_tree.specs.Tree.{IsConstant}

@@ -1,3 +1,4 @@
+-- Loops of `zeros`: makes `count` trees that are 0 in every scenario.
 use Rattle.std.proofs.Common.{◌≡◌, All, length}
 use Rattle.cpg_expand.specs.Agreeing.{IsTree}
 use Rattle.cpg_tree.specs.Tree.{IsConstant}

@@ -1,3 +1,4 @@
+-- Proof of `few_left`: refuses the trees that a process leaves behind, if one of them has too many leaves.
 use Rattle.std.proofs.Common.{◌≡◌, ◌+◌, subst, inl, inr}
 use Rattle.cpg_base.specs.Graph.{node_of}
 use Rattle.cpg_base.specs.Order.{place}

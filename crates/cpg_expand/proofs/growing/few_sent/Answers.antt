@@ -1,3 +1,4 @@
+-- Proof of `few_sent`: refuses the times of what a process sends if a tree of them has too many leaves.
 use Rattle.std.proofs.Common.{◌≡◌, ◌∙◌, ℕ, ◌<◌, List, length, get_or, Contains, ap, subst, arith, refl, sym, Option}
 use Rattle.std.proofs.lemmas.List.Elements.{Contains-get_or}
 use Rattle.cpg_bus.specs.Plan.{queue_of}

@@ -1,3 +1,4 @@
+-- Proof of `grown`: the trees of all processes and of what they send, and the frozen times, under an order.
 use Rattle.std.proofs.Common.{ℕ, ◌<◌, List, Option, length, get_or, ◌∙◌, arith, sym, ap, subst}
 use Rattle.cpg_base.specs.Graph.{Graph, process_count}
 use Rattle.cpg_base.proofs.Places.{length_order}
@@ -90,10 +91,12 @@ returns-in_err-step-clause-fault c =
     let p = get_or c.processes-process-items.result.now k 0 in
     let f = c.loop-process.forest in
     let fault = c.in_err-step.field-0.0 in
+    -- the process at this place of the order
     let within = process_within order c.processes-process-items.ensures.order k
     (omega (arith, ap length same, c.loop-process-test.true)) in
     let long = length_order (process_count g) order c.requires.topological.all in
     let below : p < process_count g = omega (arith, ap (λ xs. get_or xs k 0) same, within, long) in
+    -- a tree that is too large on its way is one along the order
     handed_as (IsLargeBegun g order guards p f) (HasLargeTree g urgency order) c.args.wide
     c.from_residual-in_err-step.result fault c.from_residual-in_err-step.ensures.1
     (λ x. large_begun g urgency guards c.problem-problem.ensures.admitted.guards order
@@ -116,14 +119,17 @@ returns-in_err-few_left-clause-fault c =
     let f = c.step.new.forest in
     let fault = c.in_err-few_left.field-0.0 in
     let here = c.problem-problem.ensures.problem in
+    -- the process at this place of the order
     let within = process_within order c.processes-process-items.ensures.order k
     (omega (arith, ap length same, c.loop-process-test.true)) in
     let long = length_order (process_count g) order c.requires.topological.all in
     let below : p < process_count g = omega (arith, ap (λ xs. get_or xs k 0) same, within, long) in
+    -- the trees are grown up to the next place
     let grown = next_grown g order c.requires.topological c.processes-process-items.ensures.order k p
     (omega (arith, ap length same, c.loop-process-test.true)) (ap (λ xs. get_or xs k 0) same)
     c.loop-process.forest f c.loop-process.frozen c.step.new.frozen c.loop-process.invariant.grown
     c.in_ok-step.ensures.grown in
+    -- a tree that is too large among what the process leaves is one along the order
     handed_as (IsLargeLeft g order p f) (HasLargeTree g urgency order) c.args.wide
     c.from_residual-in_err-few_left.result fault c.from_residual-in_err-few_left.ensures.1
     (λ x. large_left g urgency guards c.problem-problem.ensures.admitted.guards order

@@ -1,3 +1,4 @@
+-- Loops of `grown`: the trees of all processes and of what they send, and the frozen times, under an order.
 use Rattle.std.proofs.Common.{◌≡◌}
 use Rattle.cpg_expand.specs.Grown.{IsGrown}
 use Rattle.cpg_expand.proofs.growing.grown.Given as goal

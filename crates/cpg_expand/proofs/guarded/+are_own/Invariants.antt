@@ -1,3 +1,4 @@
+-- Loops of `are_own`: whether no input is from another node.
 use Rattle.std.proofs.Common.{length}
 use Rattle.cpg_expand.proofs.guarded.+are_own.Given as goal
 

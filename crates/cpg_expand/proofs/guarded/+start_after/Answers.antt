@@ -1,3 +1,4 @@
+-- Proof of `start_after`: the starts of a process that waits for its node, its release and these inputs.
 use Rattle.std.proofs.Common.{ap, ℕ, ◌<◌, ◌∙◌, List, [], arith, sym, subst}
 use Rattle.std.proofs.lemmas.List.{nil_from_length}
 use Rattle.std.proofs.lemmas.Option.{MatchOption-at_none}

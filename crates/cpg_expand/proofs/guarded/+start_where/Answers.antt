@@ -1,3 +1,5 @@
+-- Proof of `start_where`: the starts of a process where it is active, and no time elsewhere, if it waits for its node,
+-- its release and these inputs.
 use Rattle.std.proofs.Common.{ap, ℕ, ◌<◌, ◌∙◌, List, arith, sym, subst}
 use Rattle.std.proofs.lemmas.List.{nil_from_length}
 use Rattle.std.proofs.lemmas.Option.{MatchOption-at_none}

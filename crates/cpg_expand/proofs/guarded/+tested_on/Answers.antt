@@ -1,3 +1,4 @@
+-- Proof of `tested_on`: a tree that is true where a guard tests a condition.
 use Rattle.std.proofs.Common.{true, subst, sym}
 use Rattle.cpg_tree.specs.Tree.{IsConstant}
 use Rattle.cpg_order.specs.Guard.{Guard}

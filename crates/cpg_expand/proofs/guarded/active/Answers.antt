@@ -1,3 +1,4 @@
+-- Proof of `active`: a tree that is true where a guard leads to an active leaf.
 use Rattle.cpg_expand.proofs.PartsKnown.{any_leaves}
 use Rattle.cpg_expand.proofs.guarded.active.Goals as goal
 

@@ -1,3 +1,4 @@
+-- Proof of `by_value`: the tree that the value of a condition picks.
 use Rattle.std.proofs.Common.{◌+◌, ◌∙◌, subst}
 use Rattle.cpg_base.specs.Scenario.{number_of_value}
 use Rattle.cpg_tree.specs.Tree.{IsNumber}

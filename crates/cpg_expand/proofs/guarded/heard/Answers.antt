@@ -1,3 +1,4 @@
+-- Proof of `heard`: when a node has heard each condition that a guard tests.
 use Rattle.cpg_expand.proofs.PartsKnown.{any_leaves}
 use Rattle.cpg_expand.proofs.guarded.heard.Goals as goal
 

@@ -1,3 +1,4 @@
+-- Proof of `start`: the starts of a process with a guard: it waits for its node, its release and its inputs.
 use Rattle.std.proofs.Common.{inl, inr}
 use Rattle.cpg_tree.proofs.Forks.{from_true}
 use Rattle.cpg_expand.specs.Forest.{ready_by}

@@ -1,3 +1,4 @@
+-- Proof of `start_by`: the starts of a process with an activation: it waits for its node, its release and its inputs.
 use Rattle.std.proofs.Common.{None, sym, subst, refl}
 use Rattle.cpg_base.specs.declared.activation.Activation.{Activation}
 use Rattle.cpg_base.specs.declared.activation.Activation.TheVariants.{Plain, By}

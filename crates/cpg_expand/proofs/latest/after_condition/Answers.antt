@@ -1,3 +1,5 @@
+-- Proof of `after_condition`: the greater of a time and of the latest time at which a node has heard a condition where
+-- a tree is true.
 use Rattle.std.proofs.Common.{◌∙◌, ap, sym, subst}
 use Rattle.cpg_base.specs.Bus.{slot_length}
 use Rattle.cpg_base.specs.Graph.{home, node_of}

@@ -1,3 +1,4 @@
+-- Proof of `after_end`: the greater of a time and of the latest end of a process where a tree is true.
 use Rattle.std.proofs.Common.{ℕ, ◌≡◌, Option, refl, sym, subst}
 use Rattle.cpg_expand.specs.Forest.{ForestState, ends_of}
 use Rattle.cpg_expand.specs.Latest.{HasLater, IsRaised, or_later}

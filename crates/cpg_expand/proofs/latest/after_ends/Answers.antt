@@ -1,3 +1,4 @@
+-- Proof of `after_ends`: the greater of a time and of the latest end of any process of a span before a place.
 use Rattle.cpg_expand.proofs.LatestFound.{next_ended, none_ended}
 use Rattle.cpg_expand.proofs.latest.after_ends.Goals as goal
 

@@ -1,3 +1,4 @@
+-- Loops of `after_ends`: the greater of a time and of the latest end of any process of a span before a place.
 use Rattle.cpg_expand.specs.Latest.{HasEndedOf, IsRaised}
 use Rattle.cpg_expand.proofs.latest.after_ends.Given as goal
 

@@ -1,3 +1,4 @@
+-- Proof of `after_frame`: the greater of a time and of the latest time at which a frame is there where a tree is true.
 use Rattle.std.proofs.Common.{ℕ, ◌≡◌, ◌∙◌, Option, refl, ap, sym, subst}
 use Rattle.cpg_base.specs.Bus.{slot_length}
 use Rattle.cpg_base.specs.Graph.{home}

@@ -1,3 +1,5 @@
+-- Proof of `after_hearing`: the greater of a time and of the latest time at which a node has heard what a guard of a
+-- span before a place tests, where a tree is true.
 use Rattle.cpg_expand.proofs.LatestFound.{next_heard, none_heard}
 use Rattle.cpg_expand.proofs.latest.after_hearing.Goals as goal
 

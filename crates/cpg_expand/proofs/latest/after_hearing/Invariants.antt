@@ -1,3 +1,5 @@
+-- Loops of `after_hearing`: the greater of a time and of the latest time at which a node has heard what a guard of a
+-- span before a place tests, where a tree is true.
 use Rattle.cpg_expand.specs.Latest.{HasHeardOf, IsRaised}
 use Rattle.cpg_expand.proofs.latest.after_hearing.Given as goal
 

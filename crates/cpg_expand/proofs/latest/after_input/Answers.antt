@@ -1,3 +1,4 @@
+-- Proof of `after_input`: the greater of a time and of the latest time at which an input from another node is there.
 use Rattle.std.proofs.Common.{◌≡◌, ◌∙◌, true, sym, subst}
 use Rattle.cpg_base.specs.Bus.{slot_length}
 use Rattle.cpg_base.specs.Graph.{home, is_message}

@@ -1,3 +1,4 @@
+-- Proof of `after_inputs`: the greater of a time and of the latest time at which any of these inputs is there.
 use Rattle.std.proofs.Common.{get_or, refl}
 use Rattle.cpg_expand.proofs.LatestFound.{next_raised}
 use Rattle.cpg_expand.proofs.latest.after_inputs.Goals as goal

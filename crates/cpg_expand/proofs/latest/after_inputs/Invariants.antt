@@ -1,3 +1,4 @@
+-- Loops of `after_inputs`: the greater of a time and of the latest time at which any of these inputs is there.
 use Rattle.std.proofs.Common.{take}
 use Rattle.cpg_expand.specs.Latest.{HasInputOf, IsRaised}
 use Rattle.cpg_expand.proofs.latest.after_inputs.Given as goal

@@ -1,3 +1,5 @@
+-- Proof of `after_one`: the greater of a time and of the latest end of a process where a tree is true, if the process
+-- is one of a span before a place.
 use Rattle.std.proofs.Common.{◌∙◌, sym}
 use Rattle.cpg_expand.proofs.EarlierFound.{between_from}
 use Rattle.cpg_expand.proofs.LatestFound.{one_ended}

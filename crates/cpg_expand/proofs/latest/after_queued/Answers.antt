@@ -1,3 +1,5 @@
+-- Proof of `after_queued`: the greater of a time and of a round after the latest time at which an item is sent where
+-- another one goes, if it stands before that one in the queue of its node.
 use Rattle.std.proofs.Common.{ℕ, ◌≡◌, ◌∙◌, Option, refl, sym, subst}
 use Rattle.cpg_tree.specs.Tree.{TreeState}
 use Rattle.cpg_base.specs.Bus.{round}

@@ -1,3 +1,4 @@
+-- Proof of `latest_start`: the latest start of a process.
 use Rattle.std.proofs.Common.{◌+◌, Some, ap, subst, ◌∙◌}
 use Rattle.cpg_base.specs.Graph.{condition_count, process_count, process_at}
 use Rattle.cpg_tree.specs.Tree.{HasOnePathEach, IsConstant}
@@ -27,6 +28,7 @@ returns c =
     let f = c.args.forest.now in
     let active = c.args.active.now in
     record {
+      -- the tree that has the release everywhere
       ready = c.in_ok-ready.ready;
       each = subst (λ n. HasOnePathEach n c.in_ok-ready.ready.paths)
           (ap (λ t. t.faults) c.in_ok-ready.ensures.is ∙ c.faults.ensures.faults) c.in_ok-ready.ensures.each;
@@ -34,6 +36,7 @@ returns c =
           c.faults.ensures.faults
           (subst (λ r. IsConstant (Some r) c.faults.result c.in_ok-ready.ready) c.release.ensures
           c.in_ok-ready.ensures.is);
+      -- raised to the ends before it, then to what is heard, and then to the inputs
       is = record {
         first = c.in-Some.first;
         top = c.in-Some.ensures;

@@ -1,3 +1,4 @@
+-- Proof of `most_where`: the greatest time of a tree in a scenario in which another one is true.
 use Rattle.cpg_expand.proofs.LatestFound.{top_where}
 use Rattle.cpg_expand.proofs.latest.most_where.Goals as goal
 

@@ -1,3 +1,4 @@
+-- Proof of `excess`: how far an end is past its due at most, by the ends of the processes and the greatest of each.
 use Rattle.std.proofs.Common.{ℕ, ◌+◌, ◌<◌, ◌≡◌, ◌∙◌, Option, None, length, arith, sym, ap, subst}
 use Rattle.std.proofs.lemmas.List.{get_or_default}
 use Rattle.std.proofs.lemmas.List.Elements.{All-get_or}

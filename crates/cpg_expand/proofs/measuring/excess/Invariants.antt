@@ -1,3 +1,4 @@
+-- Loops of `excess`: how far an end is past its due at most, by the ends of the processes and the greatest of each.
 use Rattle.cpg_expand.specs.Peaks.{EndsPast, IsPeak}
 use Rattle.cpg_expand.specs.Tops.{HasFrom}
 use Rattle.cpg_expand.proofs.measuring.excess.Given as goal

@@ -1,3 +1,4 @@
+-- Loops of `worst`: the greatest finish, by the ends of the processes and the greatest of each.
 use Rattle.cpg_expand.specs.Peaks.{EndsAt, IsPeak}
 use Rattle.cpg_expand.specs.Tops.{HasFrom}
 use Rattle.cpg_expand.proofs.measuring.worst.Given as goal

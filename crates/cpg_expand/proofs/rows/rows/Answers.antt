@@ -1,3 +1,4 @@
+-- Proof of `rows`: a row for each item: its tree is either kept in it or given back.
 use Rattle.std.proofs.Common.{◌≡◌, ◌<◌, ◌∙◌, ◌∷◌, length, get_or, arith, rules, sym, ap, subst}
 use Rattle.cpg_expand.specs.Agreeing.{IsTree}
 use Rattle.cpg_expand.specs.Forest.{no_tree}
@@ -30,8 +31,10 @@ loop-tree-preserved c =
     let n = c.loop-tree.item in
     let inv = c.loop-tree.invariant in
     let rest = c.next.new.self.rest.items in
+    -- the next tree is that of item n
     let is : c.loop-tree.tree-iterator.rest.items ≡ c.in-Some.tree ∷ rest = search rules in
     let next = next_left times rest c.in-Some.tree (no_tree g.faults) n (sym is ∙ inv.left) in
+    -- one tree less is left, and the rows so far have one row more
     record {
       count = omega (arith, inv.count, ap length is);
       left = next.1;
@@ -70,10 +73,12 @@ returns-in_err-load-clause-fault c =
     let n = c.loop-tree.item in
     let inv = c.loop-tree.invariant in
     let rest = c.next.new.self.rest.items in
+    -- the next tree is that of item n
     let is : c.loop-tree.tree-iterator.rest.items ≡ c.in-Some.tree ∷ rest = search rules in
     let within : n < length times = omega (arith, inv.count, ap length is) in
     let next = next_left times rest c.in-Some.tree (no_tree g.faults) n (sym is ∙ inv.left) in
     let fault = c.in_err-load.field-0.0 in
+    -- its row is too wide, or all rows up to it are
     handed_on _ c.from_residual-in_err-load.result fault c.from_residual-in_err-load.ensures.1
     (wide_shown c.args.wide fault g c.args.urgency.now times c.loop-tree.rows.items c.in_ok-row.row n c.loop-tree.load
     (omega (arith, within, c.requires.count)) inv.rows

@@ -1,3 +1,4 @@
+-- Proof of `send_row`: the row of a send, its columns by their least scenarios.
 use Rattle.std.proofs.Common.{refl}
 use Rattle.cpg_tree_columns.specs.Columns.{columns_of_paths}
 use Rattle.cpg_expand.specs.MadeRows.{AreEntriesOf}
@@ -6,9 +7,11 @@ use Rattle.cpg_tree.proofs.Passing.{known_from}
 use Rattle.cpg_expand.proofs.TreeColumns.{listed_all}
 use Rattle.cpg_expand.proofs.rows.send_row.Goals as goal
 
+-- the paths of the tree have literals of the graph's variables alone
 pub columns_are_tidy-requires-clause-known : goal.columns_are_tidy-requires-clause-known
 columns_are_tidy-requires-clause-known c = known_from c.args.problem.now c.args.tree.paths c.requires.tree.known
 
+-- the columns stand by their least scenarios as they are, so they are the row as listed
 pub returns-then-branch-clause-columns : goal.returns-then-branch-clause-columns
 returns-then-branch-clause-columns c =
     let g = c.args.problem.now in
@@ -19,6 +22,7 @@ returns-then-branch-clause-columns c =
     } in
     rw c.kept.ensures made
 
+-- the columns are put into that order first, and then are the row
 pub returns-clause-columns : goal.returns-clause-columns
 returns-clause-columns c =
     let made : AreEntriesOf c.args.problem.now c.args.urgency.now c.args.tree c.in_ok-columns.columns.items = record {

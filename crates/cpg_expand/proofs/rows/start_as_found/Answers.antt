@@ -1,3 +1,5 @@
+-- Proof of `start_as_found`: how many columns the tree of a start has, if they are its row as they are found: they
+-- stand by their least scenarios, and none of them touch.
 use Rattle.std.proofs.Common.{ℕ, ◌≡◌, false, All, ◌∙◌, length, map, reverse, refl, sym, ap, subst, rules}
 use Rattle.std.proofs.lemmas.List.{length-map, length-reverse}
 use Rattle.std.proofs.lemmas.List.Elements.{All-weaker}
@@ -13,6 +15,7 @@ use Rattle.cpg_tree.proofs.Passing.{known_from}
 use Rattle.cpg_expand.proofs.TreeColumns.{listed_all, mergeable}
 use Rattle.cpg_expand.proofs.rows.start_as_found.Goals as goal
 
+-- the paths of the tree have literals of the graph's variables alone
 pub columns_are_tidy-requires-clause-known : goal.columns_are_tidy-requires-clause-known
 columns_are_tidy-requires-clause-known c = known_from c.args.problem.now c.args.tree.now.paths c.requires.tree.known
 
@@ -29,6 +32,7 @@ pub returns-clause-merged : goal.returns-clause-merged
 returns-clause-merged c =
     let g = c.args.problem.now in
     let few = c.processes-processes.ensures.within.few_processes in
+    -- the columns of the tree's paths, which are tidy
     let columns = columns_of_paths c.args.tree.now.paths in
     let tidy = c.columns_are_tidy.ensures in
     let are = listed_all g c.args.tree.now columns c.requires.tree.each refl tidy in
@@ -39,6 +43,7 @@ returns-clause-merged c =
     (from_off c.do_demands_differ.result c.if-do_demands_differ.false c.do_demands_differ.ensures) in
     let there = λ (m : ℕ). Contains-permutation demands (reverse demands) m (IsPermutation-reverse demands) in
     let agree : AgreeByTime demands = λ m n a b same. turned m n (there m a) (there n b) same in
+    -- they are their own merge
     record {
       columns = columns;
       are = are;

@@ -1,3 +1,4 @@
+-- Proof of `start_columns`: the columns of a start, merged.
 use Rattle.std.proofs.Common.{◌≡◌, false, All}
 use Rattle.std.proofs.lemmas.List.Elements.{All-weaker}
 use Rattle.cpg_cube.specs.Cube.{is_whole}

@@ -1,3 +1,4 @@
+-- Proof of `add`: adds the times of an item that a process sends, and when the slots of its node are free then.
 use Rattle.std.proofs.Common.{◌∙◌}
 use Rattle.cpg_expand.proofs.FreeRead.{has_put}
 use Rattle.cpg_expand.proofs.SentTrees.{sent_count, item_added}

@@ -1,3 +1,5 @@
+-- Proof of `asked`: the condition whose value decides whether an edge is live once its source has ended, and that
+-- value.
 use Rattle.std.proofs.Common.{◌∙◌, sym}
 use Rattle.cpg_base.proofs.ConditionProcesses.{condition_of_below}
 use Rattle.cpg_expand.proofs.sending.asked.Goals as goal

@@ -1,3 +1,4 @@
+-- Proof of `free_then`: when the slots of an item's node are free once it is sent, if an item waits for that.
 use Rattle.std.proofs.Common.{arith, refl}
 use Rattle.cpg_base.specs.Bus.{round}
 use Rattle.cpg_base.specs.Graph.{home}

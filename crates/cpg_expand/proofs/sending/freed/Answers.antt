@@ -1,3 +1,4 @@
+-- Proof of `freed`: when the slots are free once an item is sent.
 use Rattle.std.proofs.Common.{◌≡◌, ◌∙◌, true, false, sym}
 use Rattle.cpg_tree.proofs.Readings.{later_pass, later_each, later_map}
 use Rattle.cpg_tree.specs.Read.{later_by}
@@ -41,6 +42,7 @@ returns-then-not-is_queued_for-clause-tree c = same_tree c.args.problem.now c.ar
     c.requires.sent.faults c.in_ok-after-2.ensures.is.faults c.in_ok-after-2.ensures.each
     (c.in_ok-after-2.ensures.pass (is_variable c.args.problem.now) c.requires.sent.known)
 
+-- what is excluded: an item that waits for the slots and doesn't
 apart : true ≡ false → ⊥
 apart e = cc
 

@@ -1,3 +1,4 @@
+-- Proof of `latest_of`: the latest time at which an item would be sent, its frozen time aside, where it goes.
 use Rattle.std.proofs.Common.{◌∙◌, ap, arith}
 use Rattle.cpg_base.specs.Graph.{home, producer}
 use Rattle.cpg_bus.specs.Share.{share_of}

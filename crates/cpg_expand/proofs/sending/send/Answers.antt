@@ -1,3 +1,4 @@
+-- Proof of `send`: adds what a process sends, in its order.
 use Rattle.std.proofs.Common.{◌≡◌, ℕ, ◌<◌, List, length, get_or, Contains, ap, subst, arith}
 use Rattle.std.proofs.lemmas.List.Elements.{Contains-get_or}
 use Rattle.cpg_bus.specs.Plan.{queue_of}
@@ -34,8 +35,10 @@ loop-item-preserved c =
     let g = c.args.course.now.problem.now in
     let qs = queue_of g c.args.process in
     let is = c.queue-item-items.ensures in
+    -- the next item of the queue
     let here = ap (λ (xs : List ℕ). get_or xs c.loop-item.item-index 0) is in
     let inside : c.loop-item.item-index < length qs = omega (arith, ap length is, c.loop-item-test.true) in
+    -- there is a tree for each item, process and node, as many frozen times as before, and one item more is added
     record {
       trees = c.in_ok-add.ensures.trees;
       count = c.in_ok-add.ensures.count;

@@ -1,3 +1,4 @@
+-- Proof of `slots_of`: the first free slots of an item's node at its producer's end or later, where the item goes.
 use Rattle.std.proofs.Common.{◌∙◌, ap, arith, refl}
 use Rattle.cpg_base.specs.Graph.{home, producer}
 use Rattle.cpg_bus.specs.Share.{share_of}
@@ -23,6 +24,7 @@ returns-clause-slots c =
       wide =
           c.forest.inside.wide;
     } in
+    -- the tree is made of the producer's ends and the node's free slots, as the forest has them
     slots_read g.faults g.faults c.share-share.result (share_of g (home g x)) c.args.goes.now c.index-end.result.now
     (ends_of g f (producer g x)) c.index-free.result.now
     (free_of g f (home g x)) c.in_ok-sent.sent

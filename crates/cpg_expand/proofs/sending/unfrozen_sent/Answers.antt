@@ -1,3 +1,4 @@
+-- Proof of `unfrozen_sent`: the first free slots at the end of a process or later, where an item is sent.
 use Rattle.std.proofs.Common.{None, subst}
 use Rattle.cpg_tree.specs.Tree.{IsConstant}
 use Rattle.cpg_tree.specs.Variables.{is_variable}

@@ -1,3 +1,4 @@
+-- Proof of `unfrozen_start`: the starts of a process, its frozen time aside, by where it is active.
 use Rattle.std.proofs.Common.{subst}
 use Rattle.std.specs.Prelude.{IfErr}
 use Rattle.cpg_expand.specs.Forest.{ready_by}

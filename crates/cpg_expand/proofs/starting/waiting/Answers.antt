@@ -1,3 +1,4 @@
+-- Proof of `waiting`: from when on a node is ready for a process with a guard and has heard what the guard tests.
 use Rattle.std.proofs.Common.{◌≡◌, refl, ap, subst, inl, inr}
 use Rattle.cpg_expand.specs.Forest.{ForestState, ready_at, ready_by}
 use Rattle.cpg_expand.specs.Later.{IsLatest}
@@ -63,10 +64,13 @@ returns-in_err-few-in-Test-clause-fault c =
       wide =
           c.forest.inside.wide;
     } in
+    -- the tree that is read is that of when the node is ready
     let same : c.index.result.now ≡ ready_at g f node = ready_read g f c.requires.forest inside c.forest.view_is
     c.index.result.now node node c.index.ensures refl c.requires.node in
+    -- with what is heard it makes the wait
     let valued = wait_valued g f node c.args.guard.now heard wait c.in_ok-heard-in-Test.ensures.heard
     (subst (λ (r : Ready). IsLatest g.faults (ready_by g f r) heard wait) same c.in_ok-wait-in-Test.ensures.both) in
+    -- so the wait has too many leaves
     handed_as (IsLarge wait) (IsLargeWait g f node c.args.guard.now) f.wide c.from_residual-in_err-few-in-Test.result
     c.in_err-few-in-Test.field-0.0 c.from_residual-in_err-few-in-Test.ensures.1
     (λ x. inr (inr (wait, valued, x)))

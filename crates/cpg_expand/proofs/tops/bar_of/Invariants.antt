@@ -1,3 +1,4 @@
+-- Loops of `bar_of`: the greatest of the numbers, or 0 if there is none.
 use Rattle.std.proofs.Common.{ℕ, ◌≡◌, Option, drop, fold, map, max, unwrap_or}
 use Rattle.cpg_expand.specs.Tops.{bar_of}
 use Rattle.cpg_expand.proofs.tops.bar_of.Given as goal

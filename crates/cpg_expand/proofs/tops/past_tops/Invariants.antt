@@ -1,3 +1,4 @@
+-- Loops of `past_tops`: how far the greatest number of each process is past the process's due, if it is past it.
 use Rattle.std.proofs.Common.{◌≡◌, map, get_or, None}
 use Rattle.cpg_base.specs.Duration.{due}
 use Rattle.cpg_base.specs.Numbers.{numbers_below}

@@ -1,3 +1,4 @@
+-- Loops of `tops_of`: the greatest number of each tree, if it has one.
 use Rattle.cpg_expand.specs.Tops.{AreTops}
 use Rattle.cpg_expand.proofs.tops.tops_of.Given as goal
 

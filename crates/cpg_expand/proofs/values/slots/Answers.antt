@@ -1,3 +1,4 @@
+-- Proof of `slots`: the first slots at the times of a tree or later that are free.
 use Rattle.std.proofs.Common.{◌≡◌}
 use Rattle.cpg_tree.specs.Tree.{IsJoin}
 use Rattle.cpg_tree.proofs.Forks.{of_answer}

@@ -1,3 +1,5 @@
+-- Proof of `started_of`: the times of a tree later by a delay, those of another one, or a release, whichever are later,
+-- as starts in all scenarios.
 use Rattle.std.proofs.Common.{◌≡◌, max, Some, rules}
 use Rattle.cpg_tree.specs.Tree.{IsJoin}
 use Rattle.cpg_tree.proofs.Forks.{of_answer}

@@ -1,3 +1,4 @@
+-- Proof of `started_or_where`: the starts that `started_or` has where a tree is true, and no start elsewhere.
 use Rattle.std.proofs.Common.{◌≡◌, max, None, Some, rules}
 use Rattle.cpg_tree.specs.Tree.{IsJoinWhere}
 use Rattle.cpg_tree.proofs.Forks.{of_answer}

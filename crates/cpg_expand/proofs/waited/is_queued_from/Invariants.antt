@@ -1,3 +1,4 @@
+-- Loops of `is_queued_from`: whether an item that isn't frozen is sent by a node, for a process at a place or later.
 use Rattle.std.specs.Prelude.{ℕ, ◌≡◌, ◌≤◌, ◌<◌, true, false}
 use Rattle.cpg_base.specs.Graph.{home, is_frozen, is_sent, producer}
 use Rattle.cpg_base.specs.Order.{place}

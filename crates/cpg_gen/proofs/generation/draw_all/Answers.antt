@@ -1,3 +1,4 @@
+-- Proof of `draw_all`: the processes and edges, drawn in the order of the processes.
 use Rattle.std.proofs.Common.{rules, ℕ, ◌≡◌, ◌++◌, ◌∙◌, sym, ap, ap₂, cond, map}
 use Rattle.std.specs.List.{flat_map}
 use Rattle.cpg_base.specs.Numbers.{numbers_below}
@@ -23,11 +24,13 @@ pub loop-process_number-preserved : goal.loop-process_number-preserved
 loop-process_number-preserved c =
     let i : ℕ = c.loop-process_number.process_number in
     let x : ℕ = number_before c.args.number i in
+    -- the process is made of the draws that belong to it
     let at : c.loop-process_number.draws.number ≡ x = c.loop-process_number.invariant.draws in
     let made : c.in_ok-process.field-0 ≡ generated_process c.args.number i =
     c.in_ok-process.ensures.process ∙ ap (λ y. process_from y i) at in
     let after : c.process.new.draws.number ≡ number_after x 5 =
     c.process.ensures.number ∙ ap (λ y. number_after y 5) at in
+    -- where the next draws start, the processes so far, and the edges so far
     record {
       draws = c.in_ok-push_edges.ensures.number ∙ ap (λ y. cond (has_predecessor i) (next_number y) y) after
           ∙ number_before_after c.args.number i;
@@ -40,11 +43,13 @@ loop-process_number-preserved c =
           ∙ flat_map_below_push (generated_edges c.args.number) i;
     }
 
+-- after 60 rounds all processes are drawn
 pub returns-clause-processes : goal.returns-clause-processes
 returns-clause-processes c =
     let ended : c.loop-process_number.process_number ≡ 60 = search rules in
     c.loop-process_number.invariant.processes ∙ ap (λ n. map (generated_process c.args.number) (numbers_below n)) ended
 
+-- and all edges
 pub returns-clause-edges : goal.returns-clause-edges
 returns-clause-edges c =
     let ended : c.loop-process_number.process_number ≡ 60 = search rules in

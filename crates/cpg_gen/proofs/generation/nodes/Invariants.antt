@@ -1,3 +1,4 @@
+-- Loops of `nodes`: the names of the four nodes.
 use Rattle.std.proofs.Common.{◌≡◌, map}
 use Rattle.cpg_base.specs.Numbers.{numbers_below}
 use Rattle.cpg_gen.specs.Generated.{node_name}

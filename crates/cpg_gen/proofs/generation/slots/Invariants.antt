@@ -1,3 +1,4 @@
+-- Loops of `slots`: the slots of the four nodes.
 use Rattle.std.proofs.Common.{◌≡◌, map}
 use Rattle.cpg_base.specs.Numbers.{numbers_below}
 use Rattle.cpg_gen.specs.Generated.{slot_of}

@@ -1,3 +1,4 @@
+-- Proof of `durations_of`: how long the executions of a process take.
 use Rattle.cpg_base.specs.Duration.{duration}
 use Rattle.cpg_base.proofs.Lists.{map_below_push}
 use Rattle.cpg_head.proofs.graph_head.durations_of.Goals as goal

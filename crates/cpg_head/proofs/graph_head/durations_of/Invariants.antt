@@ -1,3 +1,4 @@
+-- Loops of `durations_of`: how long the executions of a process take.
 use Rattle.std.proofs.Common.{◌≡◌, map}
 use Rattle.cpg_base.specs.Numbers.{numbers_below}
 use Rattle.cpg_base.specs.Duration.{duration}

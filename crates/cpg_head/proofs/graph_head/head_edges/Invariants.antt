@@ -1,3 +1,4 @@
+-- Loops of `head_edges`: the ends of the edges.
 use Rattle.std.proofs.Common.{◌≡◌, map, take}
 use Rattle.cpg_head.proofs.graph_head.head_edges.Given as goal
 

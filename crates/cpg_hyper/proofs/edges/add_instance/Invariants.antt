@@ -1,3 +1,4 @@
+-- Loops of `add_instance`: adds the edges of an instance, whose first process is `first`.
 use Rattle.std.proofs.Common.{◌≡◌, ◌++◌, map, take}
 use Rattle.cpg_hyper.specs.Unrolled.{copied_edge}
 use Rattle.cpg_hyper.proofs.edges.add_instance.Given as goal

@@ -1,3 +1,4 @@
+-- Proof of `add_part`: adds the edges of all instances of a part, whose first process is `first`.
 use Rattle.std.proofs.Common.{◌≡◌, ◌+◌, ◌*◌, ◌++◌, map, length, ap, ◌∙◌, arith}
 use Rattle.cpg_hyper.specs.Unrolled.{size_of, edges_in, copied_edge}
 use Rattle.cpg_hyper.proofs.Counted.{nothing_added, next_instance}

@@ -1,3 +1,4 @@
+-- Loops of `add_part`: adds the edges of all instances of a part, whose first process is `first`.
 use Rattle.std.proofs.Common.{◌≡◌, ◌++◌}
 use Rattle.std.specs.List.{flat_map}
 use Rattle.cpg_base.specs.Numbers.{numbers_below}

@@ -1,3 +1,4 @@
+-- Proof of `condition_total`: how many of the first `processes` processes have a condition.
 use Rattle.std.proofs.Common.{◌∙◌, sym, arith}
 use Rattle.cpg_base.specs.Conditions.{has_conditional_output}
 use Rattle.cpg_hyper.proofs.Counted.{counted, passed}

@@ -1,3 +1,4 @@
+-- Proof of `edge_total`: how many edges there are in all instances.
 use Rattle.std.proofs.Common.{◌≡◌, length, ap, sym, arith}
 use Rattle.cpg_hyper.proofs.Counted.{more_edges, part_le}
 use Rattle.cpg_hyper.proofs.edges.edge_total.Goals as goal

@@ -1,3 +1,4 @@
+-- Loops of `edge_total`: how many edges there are in all instances.
 use Rattle.std.proofs.Common.{◌≡◌, ◌≤◌, ◌+◌, ◌*◌, length, drop}
 use Rattle.cpg_hyper.specs.Unrolled.{edges_from}
 use Rattle.cpg_hyper.proofs.edges.edge_total.Given as goal

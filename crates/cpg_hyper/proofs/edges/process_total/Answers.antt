@@ -1,3 +1,4 @@
+-- Proof of `process_total`: how many processes there are in all instances.
 use Rattle.std.proofs.Common.{◌≡◌, length, ap, sym, arith}
 use Rattle.cpg_hyper.specs.Unrolled.{size_of}
 use Rattle.cpg_hyper.proofs.Counted.{more_processes, part_le}

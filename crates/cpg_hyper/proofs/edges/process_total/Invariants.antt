@@ -1,3 +1,4 @@
+-- Loops of `process_total`: how many processes there are in all instances.
 use Rattle.std.proofs.Common.{◌≡◌, ◌≤◌, ◌+◌, ◌*◌, length, drop}
 use Rattle.cpg_hyper.specs.Unrolled.{processes_from}
 use Rattle.cpg_hyper.proofs.edges.process_total.Given as goal

@@ -1,3 +1,4 @@
+-- Proof of `unrolled_edges`: the edges of all instances of all parts.
 use Rattle.std.proofs.Common.{◌≡◌, length, ap, sym, arith}
 use Rattle.cpg_hyper.specs.Unrolled.{size_of}
 use Rattle.cpg_hyper.proofs.Counted.{more_processes, next_edges}

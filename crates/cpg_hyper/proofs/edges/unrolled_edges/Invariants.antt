@@ -1,3 +1,4 @@
+-- Loops of `unrolled_edges`: the edges of all instances of all parts.
 use Rattle.std.proofs.Common.{◌≡◌, ◌+◌, ◌++◌, length, drop}
 use Rattle.cpg_hyper.specs.Unrolled.{edges_from, processes_from}
 use Rattle.cpg_hyper.proofs.edges.unrolled_edges.Given as goal

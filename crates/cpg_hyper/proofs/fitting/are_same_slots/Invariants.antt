@@ -1,3 +1,4 @@
+-- Loops of `are_same_slots`: whether two lists of slots are equal.
 use Rattle.std.proofs.Common.{◌≡◌, take}
 use Rattle.cpg_hyper.proofs.fitting.are_same_slots.Given as goal
 

@@ -1,3 +1,4 @@
+-- Loops of `first_different`: the first part with other faults, nodes or slots than a graph.
 use Rattle.cpg_hyper.specs.Refusals.{HoldsBefore, IsAlike}
 use Rattle.cpg_hyper.proofs.fitting.first_different.Given as goal
 

@@ -1,3 +1,4 @@
+-- Loops of `first_out_of_range`: the first part whose period isn't in range.
 use Rattle.cpg_hyper.specs.Refusals.{HoldsBefore, IsInRange}
 use Rattle.cpg_hyper.proofs.fitting.first_out_of_range.Given as goal
 

@@ -1,3 +1,4 @@
+-- Loops of `first_with_order`: the first part that gives an order to compile under.
 use Rattle.cpg_hyper.specs.Refusals.{HoldsBefore, GivesNoOrder}
 use Rattle.cpg_hyper.proofs.fitting.first_with_order.Given as goal
 

@@ -1,3 +1,5 @@
+-- Proof of `instances_are_activated_alike`: under a topological order a process of an instance is activated as its
+-- part's.
 use Rattle.cpg_hyper.proofs.Alike.{activated_alike}
 use Rattle.cpg_hyper.proofs.laws.instances_are_activated_alike.Goals as goal
 

@@ -1,3 +1,4 @@
+-- Proof of `instances_are_active_alike`: under a topological order a process of an instance is active if its part's is.
 use Rattle.cpg_hyper.proofs.Alike.{active_alike}
 use Rattle.cpg_hyper.proofs.laws.instances_are_active_alike.Goals as goal
 

@@ -1,3 +1,4 @@
+-- Proof of `instances_are_live_alike`: under a topological order an edge of an instance is live if its part's is.
 use Rattle.cpg_hyper.proofs.Alike.{live_alike}
 use Rattle.cpg_hyper.proofs.laws.instances_are_live_alike.Goals as goal
 

@@ -1,3 +1,4 @@
+-- Proof of `instances_last_as_long`: the executions of an instance last as long as those of its part.
 use Rattle.cpg_hyper.proofs.Keeping.{last_as_long}
 use Rattle.cpg_hyper.proofs.laws.instances_last_as_long.Goals as goal
 

@@ -1,3 +1,4 @@
+-- Loops of `greatest_common`: the greatest common divisor.
 use Rattle.cpg_hyper.proofs.period.+greatest_common.Given as goal
 
 -- the next call has the remainder by `b`, which is smaller than `b`

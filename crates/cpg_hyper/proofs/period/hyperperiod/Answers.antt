@@ -1,3 +1,4 @@
+-- Proof of `hyperperiod`: the least common multiple of the periods, if it isn't above the longest time.
 use Rattle.std.proofs.Common.{◌≤◌, length, arith, subst}
 use Rattle.std.proofs.lemmas.List.{take_all}
 use Rattle.cpg_hyper.proofs.Multiples.{IsSoFar, none_so_far, more_so_far, least_below}

@@ -1,3 +1,4 @@
+-- Proof of `least_common`: the least common multiple.
 use Rattle.cpg_hyper.proofs.Multiples.{least_of}
 use Rattle.cpg_hyper.proofs.period.least_common.Goals as goal
 

@@ -1,3 +1,4 @@
+-- Proof of `add_instance`: adds the processes of an instance, if their names are short enough.
 use Rattle.std.proofs.Common.{◌≡◌, ◌≤◌, ◌++◌, ◌∷◌, [], ◌∙◌, ap, length, rules}
 use Rattle.cpg_base.specs.declared.process.Process.{Process}
 use Rattle.cpg_hyper.specs.Unrolled.{copied_process, name_in}
@@ -10,6 +11,7 @@ pub loop-process-preserved : goal.loop-process-preserved
 loop-process-preserved c =
     let xs = c.processes-process-items.result.now in
     let i = c.loop-process.process-index in
+    -- the copy, whose name is short enough
     let made : c.in-Some.copy ≡ copied_process c.args.number c.args.instance c.args.part.now c.process-item.result =
     search rules in
     let short : length (name_in c.args.number c.args.instance c.process-item.result.name) ≤ 32 = search rules in

@@ -1,3 +1,4 @@
+-- Loops of `add_instance`: adds the processes of an instance, if their names are short enough.
 use Rattle.std.proofs.Common.{◌≡◌, ◌≤◌, ◌++◌, map, take, length}
 use Rattle.std.specs.Prelude.{All}
 use Rattle.cpg_hyper.specs.Unrolled.{copied_process, name_in}

@@ -1,3 +1,4 @@
+-- Proof of `add_part`: adds the processes of all instances of a part, if their names are short enough.
 use Rattle.std.proofs.Common.{◌≡◌, length, ap, ◌∙◌, sym, rules}
 use Rattle.cpg_hyper.specs.Unrolled.{processes_in}
 use Rattle.cpg_hyper.specs.Refusals.{AreShort}

@@ -1,3 +1,4 @@
+-- Loops of `add_part`: adds the processes of all instances of a part, if their names are short enough.
 use Rattle.std.proofs.Common.{◌≡◌, ◌<◌, ◌++◌, ℕ}
 use Rattle.std.specs.List.{flat_map}
 use Rattle.cpg_base.specs.Numbers.{numbers_below}

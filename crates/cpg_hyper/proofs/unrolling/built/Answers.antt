@@ -1,3 +1,4 @@
+-- Proof of `built`: the graph of the processes and edges of all instances.
 use Rattle.std.proofs.Common.{◌≡◌, rules, get_or}
 use Rattle.cpg_hyper.proofs.Whole.{first_there}
 use Rattle.cpg_hyper.proofs.Outcome.{made_within}

@@ -1,3 +1,5 @@
+-- Proof of `over`: the graph over a hyperperiod, if there are few enough of each, the made names are short and no part
+-- gives an order.
 use Rattle.std.proofs.Common.{◌≡◌, ◌≤◌, ◌∙◌, arith}
 use Rattle.cpg_base.specs.declared.limits.TheConstants.{MOST_PROCESSES, MOST_EDGES}
 use Rattle.cpg_base.specs.Graph.{condition_count, edge_count, process_count}

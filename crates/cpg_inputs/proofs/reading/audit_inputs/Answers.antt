@@ -1,3 +1,4 @@
+-- Proof of `audit_inputs`: what `audit` reads.
 use Rattle.std.proofs.Common.{List, [], ◌∷◌, None, Some}
 use Rattle.std.proofs.lemmas.Result.{err_from_is_err_and}
 use Rattle.cpg_history.specs.Fetch.{Fetch}
@@ -24,11 +25,13 @@ returns-in_err-log-clause-inputs g c =
     let S = g.S.Shelf in
     let a = c.in_ok-judged.judged.graph in
     let t = c.in_ok-judged.judged.tables in
+    -- the histories at first, after the pack and after the log
     let past : List Fetch = (S.state c.args.shelf.now).history in
     let mid : List Fetch = (S.state c.read_judged.new.shelf).history in
     let now : List Fetch = (S.state c.read_acts.new.shelf).history in
     let halt = c.in_err-log.field-0.0 in
     let last = file LogFile c.args.log.now in
+    -- the log stops the run, after the graph and the pack
     let stops =
     stops_one (Some a.graph) last [] mid now halt (rw c.problem.ensures.problem at c.in_err-log.ensures.halt) in
     let p = err_from_is_err_and c.from_residual-in_err-log.result c.from_residual-in_err-log.ensures.1 in

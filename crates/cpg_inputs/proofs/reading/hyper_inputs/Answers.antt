@@ -1,3 +1,4 @@
+-- Proof of `hyper_inputs`: what `hyper` reads.
 use Rattle.std.proofs.Common.{arith}
 use Rattle.cpg_inputs.proofs.PartsRead.{periods_length}
 use Rattle.cpg_inputs.proofs.reading.hyper_inputs.Goals as goal

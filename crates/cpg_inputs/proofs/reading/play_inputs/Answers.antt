@@ -1,3 +1,4 @@
+-- Proof of `play_inputs`: what `play` reads.
 use Rattle.std.proofs.Common.{List, [], ◌∷◌, None, Some}
 use Rattle.std.proofs.lemmas.Result.{err_from_is_err_and}
 use Rattle.cpg_history.specs.Fetch.{Fetch}
@@ -24,11 +25,13 @@ returns-in_err-played-clause-inputs g c =
     let S = g.S.Shelf in
     let a = c.in_ok-judged.judged.graph in
     let t = c.in_ok-judged.judged.tables in
+    -- the histories at first, after the pack and after the scenario
     let past : List Fetch = (S.state c.args.shelf.now).history in
     let mid : List Fetch = (S.state c.read_judged.new.shelf).history in
     let now : List Fetch = (S.state c.read_played.new.shelf).history in
     let halt = c.in_err-played.field-0.0 in
     let last = file ScenarioFile c.args.scenario.now in
+    -- the scenario stops the run, after the graph and the pack
     let stops =
     stops_one (Some a.graph) last [] mid now halt (rw c.problem.ensures.problem at c.in_err-played.ensures.halt) in
     let p = err_from_is_err_and c.from_residual-in_err-played.result c.from_residual-in_err-played.ensures.1 in

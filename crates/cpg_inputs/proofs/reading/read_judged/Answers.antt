@@ -1,3 +1,4 @@
+-- Proof of `read_judged`: reads a graph, and then a pack.
 use Rattle.std.proofs.Common.{List, [], ◌∷◌, None, Some}
 use Rattle.std.proofs.lemmas.Result.{err_from_is_err_and}
 use Rattle.cpg_history.specs.Fetch.{Fetch}

@@ -1,3 +1,4 @@
+-- Proof of `read_parts`: reads the graphs of parts.
 use Rattle.std.proofs.Common.{rules, List, subst, sym}
 use Rattle.std.proofs.lemmas.Result.{err_from_is_err_and}
 use Rattle.cpg_history.specs.Fetch.{Fetch}
@@ -30,10 +31,12 @@ pub loop-pair-preserved : goal.loop-pair-preserved
 loop-pair-preserved g c =
     let S = g.S.Shelf in
     let before = c.loop-pair.invariant in
+    -- the histories at first, before this file and after it
     let past : List Fetch = (S.state c.args.shelf.now).history in
     let mid : List Fetch = (S.state c.loop-pair.shelf).history in
     let now : List Fetch = (S.state c.read_part.new.shelf).history in
     let pair = c.pair-item.result in
+    -- the shelf was kept, may still be asked, has given the next file, and the parts have one period more
     record {
       keeps = keeps_on (S.state c.args.shelf.now) (S.state c.loop-pair.shelf)
           (S.state c.read_part.new.shelf) before.keeps c.in_ok-problem.ensures.keeps;

@@ -1,3 +1,4 @@
+-- Loops of `read_parts`: reads the graphs of parts.
 use Rattle.std.proofs.Common.{take, None}
 use Rattle.cpg_io.specs.Shelf.{KeepsShelf, SameAccess}
 use Rattle.cpg_inputs.specs.Files.{part_files}

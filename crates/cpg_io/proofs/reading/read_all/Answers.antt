@@ -1,9 +1,11 @@
+-- Proof of `read_all`: reads all bytes that stand under a name, if there are at most `limit` of them, in large pieces.
 use Rattle.std.proofs.Common.{◌∙◌}
 use Rattle.cpg_io.specs.Shelf.{SameNames}
 use Rattle.cpg_io.proofs.Agreeing.{fetched_none, fetched_one}
 use Rattle.cpg_io.proofs.PiecesRead.{one_fetch}
 use Rattle.cpg_io.proofs.reading.read_all.Goals as goal
 
+-- a fetch that failed gave nothing, so nothing was read
 pub returns-in_err-fetch-clause-fetched : goal.returns-in_err-fetch-clause-fetched
 returns-in_err-fetch-clause-fetched g c = fetched_none (g.S.Shelf.state c.args.shelf.now)
     (g.S.Shelf.state c.fetch.new.self) c.args.name.now c.in_err-fetch.ensures.history

@@ -1,3 +1,4 @@
+-- Loops of `read_all`: reads all bytes that stand under a name, if there are at most `limit` of them, in large pieces.
 use Rattle.std.proofs.Common.{◌≡◌, ◌-◌, ◌≤◌, ◌∷◌, false, vec_len, IfSome, Some}
 use Rattle.std.specs.Io.KnownBytes.{Consumes}
 use Rattle.cpg_io.specs.Agreement.{LeavesRest}

@@ -1,3 +1,4 @@
+-- Loops of `write_all`: writes all of the bytes, in as many pieces as the sink takes them in.
 use Rattle.std.proofs.Common.{length, ◌≡◌, ◌-◌, ◌≤◌, take}
 use Rattle.cpg_io.specs.Sink.{Took}
 use Rattle.cpg_io.proofs.writing.write_all.Given as goal

@@ -1,3 +1,4 @@
+-- Proof of `condition_name`: what the process of a condition is called.
 use Rattle.std.proofs.Common.{ap, sym, ◌∙◌}
 use Rattle.cpg_base.specs.Graph.{process_at}
 use Rattle.cpg_label.proofs.Called.{condition_called}

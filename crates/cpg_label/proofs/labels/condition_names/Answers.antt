@@ -1,3 +1,4 @@
+-- Proof of `condition_names`: the name of the process of each condition.
 use Rattle.std.proofs.Common.{◌∙◌, ap, ap₂, arith, length, get_or}
 use Rattle.std.proofs.lemmas.List.{get_or_default}
 use Rattle.cpg_base.specs.Graph.{disjunctions, process_at, process_of}

@@ -1,3 +1,4 @@
+-- Loops of `condition_names`: the name of the process of each condition.
 use Rattle.std.proofs.Common.{◌≡◌, map, take}
 use Rattle.cpg_base.specs.Graph.{process_at, disjunctions}
 use Rattle.cpg_label.proofs.labels.condition_names.Given as goal

@@ -1,3 +1,4 @@
+-- Loops of `edge_ends`: the ends of edges.
 use Rattle.std.proofs.Common.{◌≡◌, map, take}
 use Rattle.cpg_label.proofs.labels.edge_ends.Given as goal
 

@@ -1,3 +1,4 @@
+-- Loops of `head_condition_names`: the names of those processes of a head that have conditions.
 use Rattle.std.proofs.Common.{◌≡◌, ◌++◌, map, filter, drop}
 use Rattle.cpg_label.proofs.labels.head_condition_names.Given as goal
 

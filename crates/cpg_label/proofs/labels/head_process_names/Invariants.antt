@@ -1,3 +1,4 @@
+-- Loops of `head_process_names`: the names of the processes of a head.
 use Rattle.std.proofs.Common.{◌≡◌, map, take}
 use Rattle.cpg_label.proofs.labels.head_process_names.Given as goal
 

@@ -1,3 +1,4 @@
+-- Loops of `process_names`: the names of processes.
 use Rattle.std.proofs.Common.{◌≡◌, map, take}
 use Rattle.cpg_label.proofs.labels.process_names.Given as goal
 

@@ -1,3 +1,4 @@
+-- Proof of `literals_of`: the literals of a cube.
 use Rattle.std.proofs.Common.{◌+◌, ◌<◌, ◌≤◌, arith, length}
 use Rattle.cpg_label.proofs.Lines.{rising_short}
 use Rattle.cpg_label.proofs.line.are_few.Goals as goal

@@ -1,3 +1,4 @@
+-- Loops of `are_same`: whether the literals of two blocks are the same.
 use Rattle.std.proofs.Common.{◌≡◌, true, take}
 use Rattle.cpg_label.proofs.line.are_same.Given as goal
 

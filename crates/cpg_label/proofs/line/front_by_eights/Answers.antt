@@ -1,3 +1,4 @@
+-- Proof of `front_by_eights`: a place up to which two lists are alike, found by blocks of eight.
 use Rattle.std.proofs.Common.{◌∙◌, ap, drop}
 use Rattle.std.proofs.lemmas.List.{drop-drop}
 use Rattle.cpg_label.proofs.Lines.{block_more}

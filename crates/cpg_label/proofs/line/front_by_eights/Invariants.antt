@@ -1,3 +1,4 @@
+-- Loops of `front_by_eights`: a place up to which two lists are alike, found by blocks of eight.
 use Rattle.std.proofs.Common.{◌≡◌, drop, length}
 use Rattle.cpg_label.specs.Lines.{AreAlike}
 use Rattle.cpg_label.proofs.line.front_by_eights.Given as goal

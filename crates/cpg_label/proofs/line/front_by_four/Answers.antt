@@ -1,3 +1,5 @@
+-- Proof of `front_by_four`: a place up to which two lists are alike, four behind a place up to which they are if
+-- those are the same too.
 use Rattle.cpg_label.proofs.Lines.{block_more, rest_of}
 use Rattle.cpg_label.proofs.line.front_by_four.Goals as goal
 

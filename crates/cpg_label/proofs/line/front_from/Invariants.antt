@@ -1,3 +1,4 @@
+-- Loops of `front_from`: how many literals two lists begin with alike, by a place up to which they do.
 use Rattle.std.proofs.Common.{◌≡◌, ◌≤◌, ◌-◌, take}
 use Rattle.cpg_label.proofs.line.front_from.Given as goal
 

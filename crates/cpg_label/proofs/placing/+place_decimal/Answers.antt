@@ -1,7 +1,9 @@
+-- Proof of `place_decimal`: puts a number of more than one digit.
 use Rattle.std.proofs.Common.{arith}
 use Rattle.cpg_label.proofs.Digits.{more_long, more_written, one_long, one_written}
 use Rattle.cpg_label.proofs.placing.+place_decimal.Goals as goal
 
+-- a number below 10 has one digit, for which there is room
 pub place_byte-requires : goal.place_byte-requires
 place_byte-requires t c = omega (arith, c.requires, one_long c.args.number c.if-number-lt10.true)
 
@@ -10,6 +12,7 @@ pub returns-then-number-lt10-clause-bytes : goal.returns-then-number-lt10-clause
 returns-then-number-lt10-clause-bytes t c =
     one_written c.args.number _ _ _ c.if-number-lt10.true c.place_byte.ensures.bytes (omega arith)
 
+-- the end moves by the one digit
 pub returns-then-number-lt10-clause-end : goal.returns-then-number-lt10-clause-end
 returns-then-number-lt10-clause-end t c =
     omega (arith, c.place_byte.ensures.end, one_long c.args.number c.if-number-lt10.true)

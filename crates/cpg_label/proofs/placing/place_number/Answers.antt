@@ -1,3 +1,4 @@
+-- Proof of `place_number`: puts a number, which has at most 20 digits.
 use Rattle.std.proofs.Common.{arith}
 use Rattle.cpg_label.proofs.Digits.{at_most_twenty, one_written}
 use Rattle.cpg_label.proofs.placing.place_number.Goals as goal

@@ -1,7 +1,9 @@
+-- Proof of `append_decimal`: appends a number.
 use Rattle.std.proofs.Common.{arith}
 use Rattle.cpg_label.proofs.Digits.{more_long, more_written, one_long, one_written}
 use Rattle.cpg_label.proofs.room.+append_decimal.Goals as goal
 
+-- a number below 10 has one digit, for which there is room
 pub push_reserved-requires : goal.push_reserved-requires
 push_reserved-requires t c = omega (arith, c.requires, one_long c.args.number c.if-number-lt10.true)
 
@@ -11,6 +13,7 @@ returns-then-number-lt10-clause-bytes t c = one_written c.args.number _ c.args.o
     c.push_reserved.new.self.items c.if-number-lt10.true c.push_reserved.ensures.items
     (omega (arith, c.if-number-lt10.true))
 
+-- the length grows by the one digit
 pub returns-then-number-lt10-clause-len : goal.returns-then-number-lt10-clause-len
 returns-then-number-lt10-clause-len t c =
     omega (arith, c.push_reserved.ensures.len, one_long c.args.number c.if-number-lt10.true)

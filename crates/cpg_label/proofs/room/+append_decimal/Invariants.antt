@@ -1,3 +1,4 @@
+-- Recursion of `append_decimal`: appends a number.
 use Rattle.cpg_label.proofs.room.+append_decimal.Given as goal
 
 -- each call gets the number without its last digit

@@ -1,3 +1,4 @@
+-- Loops of `begin_each`: starts a process in each track.
 use Rattle.std.proofs.Common.{length}
 use Rattle.cpg_latest.specs.Course.{AreHalf, outcomes_asked}
 use Rattle.cpg_latest.specs.Lanes.{CanBegin, HasSentTo}

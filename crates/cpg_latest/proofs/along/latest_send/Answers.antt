@@ -1,3 +1,5 @@
+-- Proof of `latest_send`: the latest time of an item of a process over all tracks as if it were not frozen, and
+-- `None` exactly if it is never active.
 use Rattle.std.proofs.Common.{◌≡◌, ◌∙◌, ◌<◌, List, [], length, inl, inr, sym, ap, subst, arith}
 use Rattle.std.proofs.lemmas.Bool.{cases_Bool, true≢false}
 use Rattle.std.proofs.lemmas.List.{get_or_default, length-map}
@@ -79,6 +81,7 @@ loop-i-preserved c =
     let g = c.args.setting.now.problem.now in
     let asked = c.args.asked.now in
     let a = c.index-asked-i.result in
+    -- the track at hand has the values that are asked, and its lane is the one that is read
     let there : c.loop-i.i < length asked = omega
     (arith, c.loop-i-test.true, c.requires.lanes.count, length-map asked (λ (a : Asked). a.scenario.now.values)) in
     let values : track_at (outcomes_asked asked) c.loop-i.i ≡ a.scenario.now.values =
@@ -87,20 +90,24 @@ loop-i-preserved c =
     c.index-lanes-i.is ∙ get_or_default c.args.lanes.now c.loop-i.i c.index-lanes-i.result [] c.loop-i-test.true in
     let acts_same = ap (λ v. active g v c.args.process) values in
     let sent_same = ap (λ v. item_active g v (item_at g c.args.item)) values in
+    -- one track more: either the item is sent in it, and its time counts, or it isn't
     over_more (λ i. AreSent g (track_at (outcomes_asked asked) i) c.args.process c.args.item)
     (λ i time. time ≡ unfrozen_send g c.args.process (last_course g (lane_at c.args.lanes.now i)))
     c.loop-i.i c.loop-i.latest c.send_time-time.result c.later-latest.result c.loop-i.invariant c.later-latest.ensures
     (elim (cases_Bool (active g a.scenario.now.values c.args.process)) [
       | inl on ↦ elim (cases_Bool (item_active g a.scenario.now.values (item_at g c.args.item))) [
+        -- the process is active and the item is sent
         | inl sent ↦ inl (
           unfrozen_send g c.args.process (last_course g c.index-lanes-i.result),
           c.send_time-time.ensures.acts on sent,
           record { acts = acts_same ∙ on; sent = sent_same ∙ sent },
           ap (λ (ls : List ProgressState). unfrozen_send g c.args.process (last_course g ls)) lane,
         )
+        -- the process is active, but not the item
         | inr unsent ↦
             inr (λ are. true≢false (sym are.sent ∙ sent_same ∙ unsent), c.send_time-time.ensures.idle (λ act. unsent))
       ]
+      -- the process is not active
       | inr off ↦ inr (
         λ are. true≢false (sym are.acts ∙ acts_same ∙ off),
         c.send_time-time.ensures.idle (λ on. absurd (true≢false (sym on ∙ off))),

@@ -1,3 +1,5 @@
+-- Proof of `latest_start`: the latest start of a process over all tracks as if it were not frozen, and `None` exactly
+-- if it is never active.
 use Rattle.std.proofs.Common.{◌≡◌, ◌∙◌, ◌<◌, Bool, true, List, [], length, inl, inr, sym, ap, subst, arith}
 use Rattle.std.proofs.lemmas.Bool.{cases_Bool, true≢false}
 use Rattle.std.proofs.lemmas.List.{get_or_default, length-map}
@@ -67,6 +69,7 @@ loop-i-preserved c =
     let g = c.args.setting.now.problem.now in
     let asked = c.args.asked.now in
     let a = c.index-asked-i.result in
+    -- the track at hand has the values that are asked, and its lane is the one that is read
     let there : c.loop-i.i < length asked = omega
     (arith, c.loop-i-test.true, c.requires.lanes.count, length-map asked (λ (a : Asked). a.scenario.now.values)) in
     let is = c.requires.asked c.loop-i.i a there in
@@ -75,6 +78,7 @@ loop-i-preserved c =
     outcome_asked asked c.loop-i.i a there ∙ ap (λ (b : Asked). b.scenario.now.values) (sym c.index-asked-i.is) in
     let lane : c.index-lanes-i.result ≡ lane_at c.args.lanes.now c.loop-i.i =
     c.index-lanes-i.is ∙ get_or_default c.args.lanes.now c.loop-i.i c.index-lanes-i.result [] c.loop-i-test.true in
+    -- one track more: either the process is active in it, and its start counts, or it isn't
     over_more (λ i. active g (track_at (outcomes_asked asked) i) c.args.process ≡ true)
     (λ i time. IsUnfrozenStart g (track_at (outcomes_asked asked) i) c.args.process
     (last_course g (lane_at c.args.lanes.now i)) time)
@@ -91,6 +95,7 @@ loop-i-preserved c =
                 (subst (λ (v : List Bool).
                 IsUnfrozenStart g v c.args.process (last_course g c.index-lanes-i.result) t.0) (sym values) t.2),
           )
+      -- the process is not active
       | inr off ↦ inr (
         λ on. true≢false (sym on ∙ ap (λ v. active g v c.args.process) values ∙ sym one.acts ∙ off),
         c.start.ensures.idle off,

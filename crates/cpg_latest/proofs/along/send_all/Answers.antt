@@ -1,3 +1,4 @@
+-- Proof of `send_all`: sends all that a process sends in each track.
 use Rattle.std.proofs.Common.{◌+◌, length, sym, ap, subst, arith}
 use Rattle.cpg_latest.specs.Course.{IsDone, outcomes_asked}
 use Rattle.cpg_latest.specs.Lanes.{AreSending}
@@ -5,6 +6,7 @@ use Rattle.cpg_latest.proofs.NextStep.{can_send}
 use Rattle.cpg_latest.proofs.Settling.{early_of}
 use Rattle.cpg_latest.proofs.along.send_all.Goals as goal
 
+-- the place is one of the queue
 pub settle_send-requires-clause-at : goal.settle_send-requires-clause-at
 settle_send-requires-clause-at c = omega (arith, c.loop-at-test.true, ap length c.queue-at-end.ensures)
 
@@ -14,6 +16,7 @@ settle_send-requires-clause-sending c =
     subst (AreSending c.args.setting.now (outcomes_asked c.args.asked.now) c.args.process c.loop-at.at c.loop-at.frozen)
     (sym c.as_slice.ensures.value) c.loop-at.invariant
 
+-- there is still a frozen time, or none, for each item
 pub send_each-requires-clause-frozen : goal.send_each-requires-clause-frozen
 send_each-requires-clause-frozen c = c.settle_send.ensures.settled.count
 
@@ -25,6 +28,7 @@ send_each-requires-clause-early c =
     early_of g order c.requires.setting.topological c.requires.setting.admitted.1.limits
     (IsDone g order c.args.process (c.loop-at.at + 1)) c.settle_send.new.frozen c.settle_send.ensures.settled
 
+-- the place is one of the queue
 pub send_each-requires-clause-at : goal.send_each-requires-clause-at
 send_each-requires-clause-at c = omega (arith, c.loop-at-test.true, ap length c.queue-at-end.ensures)
 
@@ -37,6 +41,7 @@ send_each-requires-clause-lanes c =
     c.loop-at.frozen c.settle_send.new.frozen c.loop-at.lanes.items c.settle_send.ensures.others
     c.loop-at.invariant.known
 
+-- one more item of the queue is settled, and sent in each track
 pub loop-at-preserved : goal.loop-at-preserved
 loop-at-preserved c = record { settled = c.settle_send.ensures.settled; known = c.send_each.ensures }
 

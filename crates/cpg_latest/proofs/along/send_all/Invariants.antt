@@ -1,3 +1,4 @@
+-- Loops of `send_all`: sends all that a process sends in each track.
 use Rattle.cpg_latest.specs.Course.{outcomes_asked}
 use Rattle.cpg_latest.specs.Lanes.{AreSending}
 use Rattle.cpg_latest.proofs.along.send_all.Given as goal

@@ -1,3 +1,4 @@
+-- Proof of `send_each`: sends the item at a place of what a process sends in each track.
 use Rattle.std.proofs.Common.{◌≡◌, ◌∙◌, ◌+◌, Bool, List, length, get_or, refl, sym, ap, subst, arith}
 use Rattle.std.proofs.lemmas.List.{length-map}
 use Rattle.cpg_latest.specs.Course.{IsAsked, IsLane, outcomes_asked}
@@ -38,6 +39,7 @@ send-requires-clause-lane c =
     (c.args.at + 1) c.args.at) v) (get_or c.loop-i.lanes.items c.loop-i.i c.index_mut.result.now))
     values (c.loop-i.invariant.left c.loop-i.i c.index_mut.result.now (omega arith) c.loop-i-test.true))
 
+-- there is a lane for each track
 pub index_mut-requires : goal.index_mut-requires
 index_mut-requires c = omega (arith, c.loop-i-test.true, c.loop-i.invariant.count_is)
 

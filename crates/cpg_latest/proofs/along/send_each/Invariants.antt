@@ -1,3 +1,4 @@
+-- Loops of `send_each`: sends the item at a place of what a process sends in each track.
 use Rattle.std.proofs.Common.{◌+◌, length}
 use Rattle.cpg_latest.specs.Course.{AreHalf, outcomes_asked}
 use Rattle.cpg_latest.specs.Lanes.{HasSentTo}

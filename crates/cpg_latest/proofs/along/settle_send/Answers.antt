@@ -1,3 +1,4 @@
+-- Proof of `settle_send`: sets the frozen time of the item at a place of what a process sends, if it is frozen.
 use Rattle.std.proofs.Common.{◌≡◌, ◌∙◌, ◌+◌, ◌<◌, length, get_or, Contains, None, refl, sym, ap, subst, arith}
 use Rattle.std.proofs.lemmas.List.Elements.{Contains-get_or}
 use Rattle.cpg_base.specs.Graph.{is_frozen, item_count}
@@ -46,6 +47,7 @@ returns-then-not-is_frozen-clause-settled c =
     (send_only g order top p c.requires.process k c.requires.at)
     (ap (is_frozen g) (sym here) ∙ sym c.is_frozen.ensures ∙ c.if-not-is_frozen.true)
 
+-- an item that isn't frozen leaves the list of frozen times as it is
 pub returns-then-not-is_frozen-clause-others : goal.returns-then-not-is_frozen-clause-others
 returns-then-not-is_frozen-clause-others c = record { others = λ y other. refl; count = refl }
 
@@ -73,8 +75,10 @@ latest_send-latest-requires-clause-lanes c =
     let top = c.requires.setting.topological in
     let limits = c.requires.setting.admitted.1.limits in
     let k = c.args.at in
+    -- x is the item at place k of what the process sends
     let x = queued g p k in
     let here : get_or c.queue.result.now k 0 ≡ x = ap (λ xs. get_or xs k 0) c.queue.ensures in
+    -- the lanes tell it, since what is settled before it is early, and nothing else is
     tell_sends g c.requires.setting.admitted.0 order frozen (outcomes_asked c.args.asked.now)
     c.requires.setting.admitted.1.urgency c.requires.setting.admitted.1.topological top c.requires.tracks
     p c.requires.process (on_graph g limits p c.requires.process) k c.requires.at limits
@@ -133,7 +137,9 @@ returns-clause-settled c =
     let k = c.args.at in
     let x = queued g p k in
     let here : get_or c.queue.result.now k 0 ≡ x = ap (λ xs. get_or xs k 0) c.queue.ensures in
+    -- only the item's own place of the list is set
     let by = subst (λ y. IsSettledBy y frozen c.settle.new.frozen) here c.settle.ensures.others in
+    -- one more item is settled: it is frozen
     settled_more g order top limits (IsDone g order p k) (IsDone g order p (k + 1)) frozen c.requires.sending.settled x
     (here_within g order top p c.requires.process k c.requires.at)
     (send_later g order top p c.requires.process k c.requires.at)

@@ -1,3 +1,4 @@
+-- Proof of `settle_start`: sets the frozen time of a process, if it is frozen.
 use Rattle.std.proofs.Common.{◌∙◌, refl, sym, subst, arith}
 use Rattle.cpg_base.specs.Order.{place}
 use Rattle.cpg_run.specs.Latest.{IsUnfrozenTime}
@@ -23,6 +24,7 @@ returns-then-not-is_frozen-clause-settled c =
     (start_one g order top p c.requires.process) (start_only g order top p c.requires.process)
     (sym c.is_frozen.ensures ∙ c.if-not-is_frozen.true)
 
+-- a process that isn't frozen leaves the list of frozen times as it is
 pub returns-then-not-is_frozen-clause-others : goal.returns-then-not-is_frozen-clause-others
 returns-then-not-is_frozen-clause-others c = record { others = λ y other. refl; count = refl }
 
@@ -45,6 +47,7 @@ latest_start-latest-requires-clause-lanes c =
     (start_one g order top p c.requires.process) (start_only g order top p c.requires.process))
     c.args.lanes.now c.requires.known.known
 
+-- the process is an item that the list of frozen times has a place for
 pub settle-requires-clause-item : goal.settle-requires-clause-item
 settle-requires-clause-item c = omega (arith, c.requires.process, c.requires.known.settled.count)
 
@@ -71,6 +74,7 @@ returns-clause-settled c =
     let frozen = c.args.frozen.now in
     let top = c.requires.setting.topological in
     let limits = c.requires.setting.admitted.1.limits in
+    -- one more item is settled: the start of the process, which is frozen
     settled_more g order top limits (IsEarlier g order (place order p))
     (IsDone g order p 0) frozen c.requires.known.settled p (omega (arith, c.requires.process))
     (start_later g order top p c.requires.process) (start_grows g order top p c.requires.process)
@@ -88,5 +92,6 @@ returns-clause-settled c =
     c.args.lanes.now c.requires.known.known c.latest_start-latest.result c.latest_start-latest.ensures))
     c.settle.ensures.others.others c.settle.ensures.others.count
 
+-- no other place of the list is changed
 pub returns-clause-others : goal.returns-clause-others
 returns-clause-others c = c.settle.ensures.others

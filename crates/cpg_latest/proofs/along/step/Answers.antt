@@ -1,3 +1,4 @@
+-- Proof of `step`: adds a process and all that it sends to each track.
 use Rattle.std.proofs.Common.{◌∙◌, length, sym, ap, subst}
 use Rattle.cpg_base.specs.Order.{place}
 use Rattle.cpg_bus.specs.Plan.{queue_of}
@@ -31,6 +32,7 @@ settle_start-requires-clause-known c =
     (place c.args.setting.now.order.now c.args.process) c.args.frozen.now)
     (sym c.as_slice-2.ensures.value) c.requires.known)
 
+-- there is still a frozen time, or none, for each item
 pub begin_each-requires-clause-frozen : goal.begin_each-requires-clause-frozen
 begin_each-requires-clause-frozen c = c.settle_start.ensures.settled.count
 

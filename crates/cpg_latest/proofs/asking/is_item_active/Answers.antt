@@ -1,3 +1,5 @@
+-- Proof of `is_item_active`: whether an item that an active process may send is active: each broadcast is, and a
+-- message with its edge.
 use Rattle.std.proofs.Common.{◌∙◌, ◌-◌, sym, ap, length, arith}
 use Rattle.cpg_base.specs.Activity.{live}
 use Rattle.cpg_run.proofs.Senders.{broadcast_active, message_active, queued_above}

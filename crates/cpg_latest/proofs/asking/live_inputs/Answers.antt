@@ -1,3 +1,4 @@
+-- Proof of `live_inputs`: the inputs of a process that are live.
 use Rattle.std.proofs.Common.{get_or, Contains, subst}
 use Rattle.std.proofs.lemmas.List.Elements.{Contains-get_or}
 use Rattle.cpg_base.proofs.Inputs.{inputs_parts}

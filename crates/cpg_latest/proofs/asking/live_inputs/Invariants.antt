@@ -1,3 +1,4 @@
+-- Loops of `live_inputs`: the inputs of a process that are live.
 use Rattle.std.proofs.Common.{◌≡◌, filter, take}
 use Rattle.cpg_base.specs.Activity.{live}
 use Rattle.cpg_latest.proofs.asking.live_inputs.Given as goal

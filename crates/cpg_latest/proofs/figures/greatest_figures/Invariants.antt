@@ -1,3 +1,4 @@
+-- Loops of `greatest_figures`: the greatest figures of these tracks.
 use Rattle.std.proofs.Common.{◌≡◌, map, take}
 use Rattle.cpg_base.specs.Numbers.{greatest}
 use Rattle.cpg_latest.specs.Lanes.{excess_of_course, finish_of, last_course}

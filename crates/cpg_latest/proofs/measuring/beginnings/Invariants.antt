@@ -1,3 +1,4 @@
+-- Loops of `beginnings`: lanes of `count` tracks in which nothing is known.
 use Rattle.std.proofs.Common.{◌≡◌, replicate}
 use Rattle.cpg_latest.specs.Lanes.{no_lane}
 use Rattle.cpg_latest.proofs.measuring.beginnings.Given as goal

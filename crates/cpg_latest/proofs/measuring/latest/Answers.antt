@@ -1,3 +1,5 @@
+-- Proof of `latest`: the greatest excess and the greatest finish of all scenarios under an order, in time units,
+-- given the outcomes of a graph's tracks.
 use Rattle.std.proofs.Common.{◌≡◌, ◌∙◌, ℕ, List, [], Option, length, map, replicate, sym, ap, subst, arith}
 use Rattle.std.proofs.lemmas.List.{length-map}
 use Rattle.cpg_base.specs.Graph.{Graph, condition_count, process_count}
@@ -71,9 +73,11 @@ returns c =
     let order = setting.order.now in
     let lanes = c.loop-place.lanes.items in
     let a = c.problem-problem.ensures.admitted in
+    -- the setting has the graph and the order that were given
     let here : c.args.admitted.now.graph ≡ g = sym c.of-setting.ensures.problem in
     let same : c.problem-problem.result.now ≡ g = c.problem-problem.ensures.problem ∙ here in
     let ordered : c.args.order.now ≡ order = sym c.of-setting.ensures.order in
+    -- the place is behind the last process
     let last : c.loop-place.place ≡ process_count g = omega (
       arith,
       ap length c.processes.ensures.processes,
@@ -83,8 +87,10 @@ returns c =
     ) in
     let known = subst (λ n. AreKnown setting (outcomes_of c.args.tracks.now) n c.loop-place.frozen lanes) last
     c.loop-place.invariant in
+    -- what was required of the order holds in the setting's terms
     let topological = subst (IsTopological g) ordered
     (subst (λ (h : Graph). IsTopological h c.args.order.now) here c.requires.topological) in
+    -- the figures that were found are those of the last courses
     let excess = subst (λ (h : Graph).
     c.greatest_figures.result.excess ≡ greatest (map (λ l. excess_of_course h (last_course h l)) lanes)) same
     (c.greatest_figures.ensures.excess ∙ ap (λ (ls : List (List ProgressState)). greatest
@@ -95,12 +101,14 @@ returns c =
     (c.greatest_figures.ensures.worst ∙ ap (λ (ls : List (List ProgressState)).
     greatest (map (λ l. finish_of c.problem-problem.result.now (last_course c.problem-problem.result.now l)) ls))
     c.as_slice.ensures.value) in
+    -- so they are the figures of the setting's order
     let found = figures_found g c.args.admitted.now.order order c.loop-place.frozen (outcomes_of c.args.tracks.now)
     (subst (λ (h : Graph). IsUrgencyOrder h c.args.admitted.now.order) here a.urgency)
     (subst (λ (h : Graph). IsTopological h c.args.admitted.now.order) here a.topological) topological
     (subst (λ (h : Graph). AreTracks h (outcomes_of c.args.tracks.now)) here c.requires.tracks) lanes
     known.settled known.known
     c.greatest_figures.result.excess c.greatest_figures.result.worst excess worst in
+    -- and of the order that was given
     subst (λ (h : Graph).
     HasFigures h c.args.order.now c.greatest_figures.result.excess c.greatest_figures.result.worst) (sym here)
     (subst (λ o. HasFigures g o c.greatest_figures.result.excess c.greatest_figures.result.worst) (sym ordered) found)

@@ -1,3 +1,5 @@
+-- Loops of `latest`: the greatest excess and the greatest finish of all scenarios under an order, in time units,
+-- given the outcomes of a graph's tracks.
 use Rattle.cpg_latest.specs.Course.{outcomes_of}
 use Rattle.cpg_latest.specs.Lanes.{AreKnown}
 use Rattle.cpg_latest.proofs.measuring.latest.Given as goal

@@ -1,3 +1,5 @@
+-- Proof of `begin`: starts a process if it is active, with a number of faults, and otherwise lets its node wait for
+-- what decides it.
 use Rattle.std.proofs.Common.{◌≡◌, ◌∙◌, ◌<◌, max, false, length, sym, ap, ap₂, subst, inl, inr, refl, arith}
 use Rattle.cpg_base.specs.Activity.{active}
 use Rattle.cpg_base.specs.Graph.{node_of}
@@ -52,6 +54,7 @@ latest_end-end-requires-clause-start c =
     let values = c.args.asked.now.scenario.now.values in
     let on : node_of g p < length g.nodes = omega (arith, c.node_of-node.ensures.node, c.node_of-node.ensures.within) in
     let acts = sym c.requires.asked.acts ∙ c.if-not-asked.false in
+    -- the start that is found is a latest time of the process
     let is_start = c.max-start.ensures ∙ ap₂ max c.unfrozen_start-unfrozen.ensures c.frozen_time.ensures in
     let is = start_is_latest g order c.requires.setting.topological (IsDone g order p 0) c.args.frozen.now values p
     c.requires.process on c.args.faults c.requires.faults c.args.course.now
@@ -60,6 +63,7 @@ latest_end-end-requires-clause-start c =
     (inr (inl refl)) acts c.max-start.result is_start c.args.frozen.now (λ x l d. refl)
     (the_latest g order c.args.frozen.now values c.requires.setting.topological)
     (latest_exist g order c.args.frozen.now values c.requires.setting.topological) in
+    -- and latest times are small
     let small = latest_small g order c.requires.setting.topological (IsDone g order p 0) c.args.frozen.now values
     c.requires.setting.admitted.1.limits c.requires.asked.long c.requires.early
     c.args.faults c.requires.faults in

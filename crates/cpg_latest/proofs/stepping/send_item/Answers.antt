@@ -1,3 +1,4 @@
+-- Proof of `send_item`: sends an active item.
 use Rattle.std.proofs.Common.{◌≡◌, ◌∙◌, max, ap₂, arith}
 use Rattle.cpg_base.proofs.Bounds.{round-le}
 use Rattle.cpg_latest.specs.Lanes.{send_at}

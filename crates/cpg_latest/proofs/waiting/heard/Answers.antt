@@ -1,3 +1,4 @@
+-- Proof of `heard`: when the node of a process has heard each condition that decides the process.
 use Rattle.std.proofs.Common.{◌∙◌, ap₂, map, Contains, subst}
 use Rattle.cpg_base.specs.Numbers.{greatest}
 use Rattle.cpg_base.specs.Graph.{node_of}

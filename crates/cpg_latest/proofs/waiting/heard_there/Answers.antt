@@ -1,3 +1,4 @@
+-- Proof of `heard_there`: when a node has heard a condition.
 use Rattle.std.proofs.Common.{◌≡◌, ◌∙◌, sym, ap, subst, length, arith}
 use Rattle.cpg_base.specs.Graph.{node_of, process_of}
 use Rattle.cpg_base.proofs.Items.{process_of_below}

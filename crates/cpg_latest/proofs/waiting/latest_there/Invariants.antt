@@ -1,3 +1,4 @@
+-- Loops of `latest_there`: when all of these inputs are there.
 use Rattle.std.proofs.Common.{◌≡◌, map, take}
 use Rattle.cpg_base.specs.Numbers.{greatest}
 use Rattle.cpg_run.specs.Run.{input_there}

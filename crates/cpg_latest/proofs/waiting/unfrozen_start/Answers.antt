@@ -1,3 +1,5 @@
+-- Proof of `unfrozen_start`: when an active process could start if it were not frozen, given when its node is ready
+-- for it.
 use Rattle.std.proofs.Common.{◌∙◌, Contains, subst}
 use Rattle.cpg_base.specs.Activity.{live}
 use Rattle.cpg_base.specs.Graph.{inputs}

@@ -1,3 +1,4 @@
+-- Proof of `narrow`: narrows a cube by the literals of another.
 use Rattle.std.proofs.Common.{◌++◌, sym, ap₂, subst}
 use Rattle.cpg_cube.specs.Cube.{IsRising}
 use Rattle.cpg_list.specs.Narrowing.{met}

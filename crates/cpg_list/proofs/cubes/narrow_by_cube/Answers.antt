@@ -1,3 +1,4 @@
+-- Proof of `narrow_by_cube`: narrows a cube by another that is one of some literals.
 use Rattle.std.proofs.Common.{◌∙◌, sym, ap, subst}
 use Rattle.cpg_list.specs.Narrowing.{met, IsNarrowed}
 use Rattle.cpg_list.proofs.CodeCubes.{cube_narrowed}

@@ -1,3 +1,4 @@
+-- Proof of `narrow_to_number`: narrows a cube to the number that a variable has in a scenario.
 use Rattle.std.proofs.Common.{◌≡◌, ◌∙◌, ◌≤◌, ◌∷◌, [], sym, ap, subst}
 use Rattle.cpg_base.specs.Variable.{top}
 use Rattle.cpg_cube.specs.declared.literal.Literal.{Literal}

@@ -1,3 +1,4 @@
+-- Loops of `push_all`: adds literals on variables above all others.
 use Rattle.std.proofs.Common.{◌≡◌, ◌++◌, take}
 use Rattle.cpg_list.proofs.cubes.push_all.Given as goal
 

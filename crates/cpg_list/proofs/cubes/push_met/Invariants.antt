@@ -1,3 +1,4 @@
+-- Loops of `push_met`: adds the literals of two cubes, those on one variable met.
 use Rattle.std.proofs.Common.{◌≡◌, ◌++◌, ◌+◌, length}
 use Rattle.cpg_cube.specs.Cube.{IsRising}
 use Rattle.cpg_list.specs.Narrowing.{met}

@@ -1,3 +1,4 @@
+-- Proof of `deciding`: the conditions that decide a process.
 use Rattle.std.proofs.Common.{◌≡◌, sym, subst}
 use Rattle.cpg_base.specs.Graph.{condition_count}
 use Rattle.cpg_base.specs.Numbers.{numbers_below}
@@ -18,9 +19,11 @@ returns c =
     let order = a.order in
     let is = c.order-order.ensures.admitted in
     let test = decides g c.args.scenario.now.values c.args.process in
+    -- what is listed is the conditions that decide, along the order
     let along : c.in_ok-conditions.conditions.items ≡ deciding_along g order c.args.scenario.now.values c.args.process =
     c.in_ok-conditions.ensures.deciding g order is.urgency is.topological
     (subst (AreGuardsOf g order) (sym c.guards-guards.ensures.guards) is.guards) in
+    -- each listed condition decides the process, and each that does is listed
     subst (AreDeciding g c.args.scenario.now c.args.process) (sym along) (record {
       each = λ x j.
           let r = Contains-filter_parts test (conditions_along g order) x j in

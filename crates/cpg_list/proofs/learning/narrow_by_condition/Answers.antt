@@ -1,3 +1,4 @@
+-- Proof of `narrow_by_condition`: narrows a cube by what a node hears of a condition.
 use Rattle.std.proofs.Common.{arith}
 use Rattle.cpg_base.proofs.Items.{process_of_below}
 use Rattle.cpg_list.proofs.learning.narrow_by_condition.Goals as goal

@@ -1,3 +1,4 @@
+-- Proof of `narrow_by_conditions`: narrows a cube by what a node hears of conditions.
 use Rattle.std.proofs.Common.{get_or, flat_map, subst}
 use Rattle.std.proofs.lemmas.List.{take_all}
 use Rattle.std.proofs.lemmas.List.Elements.{Contains-get_or}

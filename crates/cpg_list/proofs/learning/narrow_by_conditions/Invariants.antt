@@ -1,3 +1,4 @@
+-- Loops of `narrow_by_conditions`: narrows a cube by what a node hears of conditions.
 use Rattle.std.proofs.Common.{flat_map, take}
 use Rattle.cpg_list.specs.Learning.{heard_of}
 use Rattle.cpg_run.specs.Found.{columns_of_rows}

@@ -1,3 +1,4 @@
+-- Proof of `narrow_by_inputs`: narrows a cube by the literals that inputs carry.
 use Rattle.std.proofs.Common.{get_or, flat_map, subst}
 use Rattle.std.proofs.lemmas.List.{take_all}
 use Rattle.std.proofs.lemmas.List.Elements.{Contains-get_or}

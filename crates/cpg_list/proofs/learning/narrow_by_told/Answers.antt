@@ -1,3 +1,4 @@
+-- Proof of `narrow_by_told`: narrows a cube by the column that matches, if there is one, at the time of the item.
 use Rattle.std.proofs.Common.{◌≡◌, ◌∙◌, get_or, sym, ap, subst}
 use Rattle.std.specs.Option.{option_to_list}
 use Rattle.cpg_cube.specs.Cube.{matches}

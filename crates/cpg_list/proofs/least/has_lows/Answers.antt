@@ -1,3 +1,5 @@
+-- Proof of `has_lows`: whether each of the variables from `first` up to `end`, which it leaves out, has in a scenario
+-- the least number that the literals allow.
 use Rattle.std.proofs.Common.{◌≡◌, ◌∙◌, sym, ap, inl, inr, subst, arith}
 use Rattle.std.proofs.lemmas.Bool.{cases_lt, false≢true}
 use Rattle.cpg_base.specs.Scenario.{number_of}
@@ -23,12 +25,14 @@ returns-then-number-as_number c =
 pub loop-variable-preserved : goal.loop-variable-preserved
 loop-variable-preserved c =
     let v = c.loop-variable.variable in
+    -- the front of the literals has the low of this variable, and the scenario's number is that
     let front = ap (as_number v)
     (c.front_low.ensures ∙ ap (Rattle.cpg_list.specs.Narrowing.front_low v) c.from_variable-rest.ensures
     ∙ from-front v c.loop-variable.rest.now c.loop-variable.invariant.rising
     ∙ c.loop-variable.invariant.later v (omega arith)) in
     let here : number_of c.args.scenario.now v ≡ as_number v (low_in c.args.literals.now v) =
     sym c.number.ensures ∙ c.if-number-as_number.false ∙ c.as_number.ensures ∙ front in
+    -- the rest is rising, has the lows of later variables, and all up to this one are at their lows
     record {
       rising = subst Rattle.cpg_cube.specs.Cube.IsRising (sym c.from_variable-rest.ensures)
           (from-rising v c.loop-variable.rest.now c.loop-variable.invariant.rising);

@@ -1,3 +1,5 @@
+-- Loops of `has_lows`: whether each of the variables from `first` up to `end`, which it leaves out, has in a scenario
+-- the least number that the literals allow.
 use Rattle.std.proofs.Common.{◌≡◌, ℕ, ◌<◌, ◌≤◌}
 use Rattle.cpg_base.specs.Scenario.{number_of}
 use Rattle.cpg_cube.specs.Cube.{IsRising, low_in}

@@ -1,3 +1,4 @@
+-- Proof of `measured`: the tables with the greatest finish and the greatest excess of all runs.
 use Rattle.cpg_run.proofs.BuiltTables.{found_tables_are_built}
 use Rattle.cpg_list.proofs.CodeMade.{timed_of}
 use Rattle.cpg_list.proofs.listing.measured.Goals as goal
@@ -8,6 +9,7 @@ returns c =
     let g = c.args.admitted.now.graph in
     let urgency = c.args.admitted.now.order in
     let order = c.args.order.now in
+    -- a builder's answer: the tables, the frozen times, and the scenarios with the greatest finish and excess
     found_tables_are_built g urgency order c.requires.tables.rows
     (record {
       tables = c.args.tables;

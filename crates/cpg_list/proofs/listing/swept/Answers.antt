@@ -1,3 +1,4 @@
+-- Proof of `swept`: the tables and measures of all scenarios.
 use Rattle.std.proofs.Common.{ℕ, List, All, Contains, sym, subst}
 use Rattle.std.proofs.lemmas.List.Elements.{All-weaker, All-contains_itself}
 use Rattle.cpg_base.specs.Scenario.{Scenario, IsScenario}

@@ -1,3 +1,4 @@
+-- Proof of `tables`: the tables of the rows of all items, given all scenarios and their runs.
 use Rattle.std.proofs.Common.{ℕ, List, Option, sym, subst}
 use Rattle.cpg_base.specs.Graph.{Graph}
 use Rattle.cpg_table.specs.Table.{Row}

@@ -1,3 +1,4 @@
+-- Proof of `make`: makes the rows of the process at a place and of what it sends.
 use Rattle.std.proofs.Common.{◌≡◌, ◌∙◌, ◌+◌, ◌<◌, ◌∷◌, [], ◌++◌, length, get_or, set, sym, ap, subst, arith}
 use Rattle.std.proofs.lemmas.List.{get_or_default}
 use Rattle.cpg_base.specs.Graph.{Graph, process_count, node_of}
@@ -78,14 +79,17 @@ make_sends_after-requires-clause-sent c =
     (arith, c.at-process.ensures.within, length_order (process_count g) order c.requires.listed.topological.all) in
     let rows = columns_of_rows c.args.rows.now.items in
     let next = columns_of_rows c.make_start.new.rows.items in
+    -- the node is that of the process, and one of the graph
     let node : c.node_of-node.result ≡ node_of g p =
     c.node_of-node.ensures.node ∙ ap (λ (h : Graph). node_of h p) c.problem.ensures.problem in
     let on : node_of g p < length g.nodes = omega
     (arith, node, c.node_of-node.ensures.within, ap (λ (h : Graph). length h.nodes) c.problem.ensures.problem) in
+    -- the queue that is read is the node's
     let read : get_or c.args.sent.now.items (node_of g p) [] ≡ c.index_mut-2.result.now =
     ap (λ n. get_or c.args.sent.now.items n []) (sym node) ∙
     sym (c.index_mut-2.ensures.value ∙ get_or_default c.args.sent.now.items c.node_of-node.result
     c.index_mut-2.result.now [] (omega (arith, node, on, c.requires.carried.sent_count))) in
+    -- its cubes are those from before, since no earlier row was changed
     subst (AreCubesOf g.faults c.args.listed.now.scenarios.now
     (queued_by g order next (sent_before g order (node_of g p) (place order p)))) read
     (queued_cubes g order c.requires.listed.topological rows next
@@ -110,18 +114,22 @@ returns-clause-carried c =
     let next = columns_of_rows c.make_start.new.rows.items in
     let last = columns_of_rows c.make_sends_after.new.rows.items in
     let back = c.at-process.ensures.back in
+    -- the node is that of the process, and one of the graph
     let node : c.node_of-node.result ≡ node_of g p =
     c.node_of-node.ensures.node ∙ ap (λ (h : Graph). node_of h p) c.problem.ensures.problem in
     let on : node_of g p < length g.nodes = omega
     (arith, node, c.node_of-node.ensures.within, ap (λ (h : Graph). length h.nodes) c.problem.ensures.problem) in
+    -- the processes of the node up to this one, and the rows that stay as they were
     let after = before_on_node g order p ++ p ∷ [] in
     let same : SameRowsBefore g order (place order p) rows last =
     λ y e. c.in_ok-make_start.ensures.same y e ∙ c.in_ok-make_sends_after.ensures.same y e in
+    -- the node's cubes are those of its processes up to this one
     let own = passed_cubes g order top next last
     (place order p) c.in_ok-make_sends_after.ensures.same g.faults scenarios c.make_start.new.known after
     (own_early g order top p l) c.in_ok-make_start.ensures.known in
     let carried = subst (λ i. AreCarried g order rows scenarios i c.args.known.now.items c.args.sent.now.items)
     (sym back) c.requires.carried in
+    -- so all nodes carry what they carry before the next place
     let all = carried_next g order top p l rows last same scenarios c.args.known.now.items c.args.sent.now.items carried
     on c.make_start.new.known c.make_sends_after.new.sent own
     c.in_ok-make_sends_after.ensures.sent in

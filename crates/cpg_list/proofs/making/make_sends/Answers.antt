@@ -1,3 +1,4 @@
+-- Proof of `make_sends`: makes the rows of what a process sends.
 use Rattle.std.proofs.Common.{◌≡◌, ◌∙◌, ◌+◌, ◌<◌, ◌⊎◌, ◌∷◌, [], ◌++◌, List, length, get_or, take, Contains, sym, ap}
 use Rattle.std.proofs.Common.{subst, arith}
 use Rattle.std.proofs.lemmas.List.{take_all}
@@ -49,11 +50,13 @@ send_entries-requires-clause-sent c =
     let p = c.args.process in
     let m = c.loop-item.item-index in
     let scenarios = c.args.listed.now.scenarios.now in
+    -- the item is the one at place m of the process's queue
     let all : c.queue-item-items.result.now ≡ queue_of g p =
     c.queue-item-items.ensures ∙ ap (λ (h : Graph). queue_of h p) c.problem.ensures.problem in
     let inside : m < length (queue_of g p) = omega (arith, ap length all, c.loop-item-test.true) in
     let rows = columns_of_rows c.loop-item.rows.items in
     let nth = get_or (queue_of g p) m 0 in
+    -- the cubes of the queue are those of the items before this one, since the same items are in both
     subst (λ (rs : List Row). AreCubesOf g.faults scenarios (queued_by g order (columns_of_rows rs)
     (queued_before g order (get_or c.queue-item-items.result.now m 0))) c.loop-item.sent)
     (sym c.as_slice.ensures.value)
@@ -90,16 +93,19 @@ set_row-requires-clause-entries c =
     let p = c.args.process in
     let m = c.loop-item.item-index in
     let entries = c.in_ok-entries.entries.items in
+    -- the item is the one at place m of the process's queue
     let all : c.queue-item-items.result.now ≡ queue_of g p =
     c.queue-item-items.ensures ∙ ap (λ (h : Graph). queue_of h p) c.problem.ensures.problem in
     let inside : m < length (queue_of g p) = omega (arith, ap length all, c.loop-item-test.true) in
     let nth = get_or (queue_of g p) m 0 in
     let timed = timed_of g a.order order a.guards frozen c.problem.ensures.admitted c.requires.listed.topological
     c.requires.listed.frozen in
+    -- the entries are those of this item
     let found = subst (λ x. AreEntriesOf g order frozen (columns_of_rows c.loop-item.rows.items) x entries)
     (ap (λ xs. get_or xs m 0) all)
     (subst (λ (rs : List Row). AreEntriesOf g order frozen (columns_of_rows rs)
     (get_or c.queue-item-items.result.now m 0) entries) c.as_slice.ensures.value c.in_ok-entries.ensures.entries) in
+    -- so they can be merged, as it is of the graph and earlier rows are made
     mergeable g a.order order frozen timed (IsSent g order p m) c.loop-item.rows.items c.loop-item.invariant.made nth
     (nth_within g order c.requires.listed.topological p c.requires.process m inside)
     (nth_earlier g order c.requires.listed.topological p c.requires.process m inside) entries found
@@ -119,16 +125,19 @@ loop-item-preserved c =
     let l = c.requires.process in
     let rows = c.loop-item.rows.items in
     let next = c.set_row.new.rows.items in
+    -- the item is the one at place m of the process's queue
     let all : c.queue-item-items.result.now ≡ queue_of g p =
     c.queue-item-items.ensures ∙ ap (λ (h : Graph). queue_of h p) c.problem.ensures.problem in
     let inside : m < length (queue_of g p) = omega (arith, ap length all, c.loop-item-test.true) in
     let nth = get_or (queue_of g p) m 0 in
     let here : get_or c.queue-item-items.result.now m 0 ≡ nth = ap (λ xs. get_or xs m 0) all in
     let timed = timed_of g a.order order a.guards frozen c.problem.ensures.admitted top c.requires.listed.frozen in
+    -- the entries are those of this item, and its row is set by them
     let found = subst (λ x. AreEntriesOf g order frozen (columns_of_rows rows) x entries) here
     (subst (λ (rs : List Row). AreEntriesOf g order frozen (columns_of_rows rs)
     (get_or c.queue-item-items.result.now m 0) entries) c.as_slice.ensures.value c.in_ok-entries.ensures.entries) in
     let is = subst (λ x. IsRowSet g a.order x entries rows next) here c.in_ok-set_row.ensures in
+    -- the rows up to this one are made, and no earlier one is changed
     let made = one_made g a.order order frozen timed (IsSent g order p m) rows c.loop-item.invariant.made nth
     (nth_within g order top p l m inside) (nth_earlier g order top p l m inside) entries found
     (nth_new g order top p l m inside) (nth_late g order top p l m inside) next is in
@@ -137,14 +146,17 @@ loop-item-preserved c =
     (nth_earlier g order top p l m inside) entries found
     (nth_new g order top p l m inside) (nth_late g order top p l m inside) next is (place order p)
     (omega (arith, nth_place g order top p l m inside)) in
+    -- what stands before the item in its node's queue, with the item, is what was sent before
     let items = queued_before g order nth ++ nth ∷ [] in
     let after = sent_before g order (node_of g p) (place order p) ++ take (m + 1) (queue_of g p) in
+    -- the cubes that are left are those of the queue up to the item
     let left = subst (λ x. AreCubesOf g.faults scenarios
     (queued_by g order (columns_of_rows rows) (queued_before g order x ++ x ∷ [])) c.send_entries.new.sent) here
     (subst (λ (rs : List Row). AreCubesOf g.faults scenarios
     (queued_by g order (columns_of_rows rs) (queued_before g order (get_or c.queue-item-items.result.now m 0)
     ++ get_or c.queue-item-items.result.now m 0 ∷ [])) c.send_entries.new.sent)
     c.as_slice.ensures.value c.in_ok-entries.ensures.sent) in
+    -- the rows made, the queue with one item more, and the rows that stay as they were
     record {
       made = made_same g a.order order frozen (λ y. IsSent g order p m y ⊎ (y ≡ nth)) (IsSent g order p (m + 1)) next
           made (sent_back g order top p l m inside) (sent_next g order top p l m inside);

@@ -1,3 +1,4 @@
+-- Loops of `make_sends`: makes the rows of what a process sends.
 use Rattle.std.proofs.Common.{◌++◌, take}
 use Rattle.cpg_base.specs.Graph.{node_of}
 use Rattle.cpg_base.specs.Order.{place}

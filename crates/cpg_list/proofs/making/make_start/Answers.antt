@@ -1,3 +1,4 @@
+-- Proof of `make_start`: makes the row of the start of a process.
 use Rattle.std.proofs.Common.{◌∷◌, [], ◌++◌, List, sym, subst, arith}
 use Rattle.cpg_base.specs.Graph.{item_count}
 use Rattle.cpg_base.specs.Scenario.{Scenario, IsScenario}

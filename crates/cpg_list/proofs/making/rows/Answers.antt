@@ -1,3 +1,5 @@
+-- Proof of `rows`: the rows of all items of a graph, given all scenarios, each once, and their runs: one entry for
+-- each group of scenarios in which the item's node has learnt the same, merged.
 use Rattle.std.proofs.Common.{◌≡◌, ◌∙◌, length, map, replicate, [], List, sym, ap, subst, arith}
 use Rattle.cpg_base.specs.Graph.{Graph, process_count, item_count}
 use Rattle.cpg_base.specs.Numbers.{numbers_below}

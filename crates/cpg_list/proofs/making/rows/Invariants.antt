@@ -1,3 +1,5 @@
+-- Loops of `rows`: the rows of all items of a graph, given all scenarios, each once, and their runs: one entry for
+-- each group of scenarios in which the item's node has learnt the same, merged.
 use Rattle.cpg_list.specs.Made.{AreCarried, AreMade, IsBefore}
 use Rattle.cpg_run.specs.Found.{columns_of_rows}
 use Rattle.cpg_list.proofs.making.rows.Given as goal

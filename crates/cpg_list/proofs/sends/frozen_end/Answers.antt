@@ -1,3 +1,4 @@
+-- Proof of `frozen_end`: what is carried at the end of a frozen process in a scenario.
 use Rattle.std.proofs.Common.{◌∷◌, [], ◌++◌, subst}
 use Rattle.cpg_base.specs.Graph.{Graph}
 use Rattle.cpg_run.specs.Carried.{decided, number_known}

@@ -1,3 +1,4 @@
+-- Proof of `frozen_ends`: what is carried at the ends of a frozen process.
 use Rattle.std.proofs.Common.{◌∙◌, ◌∷◌, [], ◌++◌, length, length-append, ap, arith}
 use Rattle.cpg_base.specs.Scenario.{Scenario}
 use Rattle.cpg_run.specs.Carried.{decided, number_known}

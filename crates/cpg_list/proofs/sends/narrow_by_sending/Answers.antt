@@ -1,3 +1,5 @@
+-- Proof of `narrow_by_sending`: narrows a cube by what decides a process, and by the value that decides whether an
+-- item that it sends is sent.
 use Rattle.std.proofs.Common.{Contains, sym, subst}
 use Rattle.cpg_base.specs.Graph.{Graph}
 use Rattle.cpg_bus.specs.Plan.{queue_of}

@@ -1,3 +1,4 @@
+-- Proof of `pass_over`: narrows what stands in the queue by an item that isn't sent in the scenario.
 use Rattle.std.proofs.Common.{◌≡◌, ◌∙◌, true, false, is_some, [], sym, ap, subst}
 use Rattle.cpg_base.specs.Graph.{Graph}
 use Rattle.cpg_base.specs.Activity.{active}

@@ -1,3 +1,5 @@
+-- Proof of `send_entries`: the entries of an item that a process sends, for the scenarios that are the least of the
+-- cubes carried there.
 use Rattle.std.proofs.Common.{◌≡◌, ◌++◌, ◌∷◌, [], get_or, take, None, sym, subst, arith}
 use Rattle.std.proofs.lemmas.List.{take_all}
 use Rattle.cpg_order.specs.Queue.{queued_before}
@@ -58,22 +60,27 @@ loop-at-preserved c =
     let x = c.args.item in
     let s = c.index-scenarios-at.result in
     let t = c.index-runs-at.result in
+    -- what the queue and the end of the process carry in the scenario
     let before = queued_before g order x in
     let queue = queued_by g order rows before s in
     let ends = carried_at_end g order rows s p in
     let cubes = c.loop-at.sent-inside.cubes.items in
+    -- the cube of the queue for this scenario
     let is = cube_here g.faults c.args.listed.now.scenarios.now (queued_by g order rows before)
     (queued_by g order rows (before ++ x ∷ [])) c.loop-at.at cubes s c.index_mut.result.now c.loop-at-test.true
     c.index-scenarios-at.is
     c.loop-at.invariant.carried c.index_mut.ensures.value in
+    -- the cube of the end for this scenario
     let end = end_here g order rows c.args.listed.now.scenarios.now p c.ends.inside.cubes.items
     (subst (AreEndsOf g order rows c.args.listed.now.scenarios.now p) (sym c.ends.view_is) c.requires.ends) c.loop-at.at
     s c.index.result.now
     c.loop-at-test.true c.index-scenarios-at.is c.index.ensures in
+    -- the entry is kept if the scenario is the least of what is carried at the send
     let entry = subst (λ ls. IsKeptAt g s (get_or t.times x None) ls c.in_ok-entry.entry)
     (sym (carried_send g order rows s p x c.requires.item)) (c.in_ok-entry.ensures.entry queue ends is end) in
     let left = subst (λ ls. IsNarrowed g.faults ls c.index_mut.result.now c.send_in.new.sent)
     (sym (queued_is g order rows s p x c.requires.item)) (c.in_ok-entry.ensures.sent ends end) in
+    -- the entries with this one, and the cubes with what the item leaves in the queue
     record {
       found = found_more g order c.requires.listed.topological c.args.listed.now.frozen.now rows x
           (queue_within g p x c.requires.item) c.args.listed.now.scenarios.now c.args.listed.now.runs.now

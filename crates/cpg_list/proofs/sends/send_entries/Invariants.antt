@@ -1,3 +1,5 @@
+-- Loops of `send_entries`: the entries of an item that a process sends, for the scenarios that are the least of the
+-- cubes carried there.
 use Rattle.std.proofs.Common.{◌++◌, ◌∷◌, [], take}
 use Rattle.cpg_order.specs.Queue.{queued_before}
 use Rattle.cpg_list.specs.Made.{queued_by, AreCubesUpTo}

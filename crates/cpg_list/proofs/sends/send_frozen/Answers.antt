@@ -1,3 +1,5 @@
+-- Proof of `send_frozen`: the entry of a frozen message that is sent in the scenario, if that is the least of the
+-- cube carried there.
 use Rattle.std.proofs.Common.{◌≡◌, ◌∙◌, ◌++◌, true, sym, ap, subst}
 use Rattle.cpg_base.specs.Graph.{Graph, item_at}
 use Rattle.cpg_base.specs.Activity.{active}

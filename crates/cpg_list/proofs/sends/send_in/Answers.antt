@@ -1,3 +1,5 @@
+-- Proof of `send_in`: the entry of an item that a process sends in a scenario, if it is active there and the scenario
+-- is the least of the cube carried there.
 use Rattle.std.proofs.Common.{◌≡◌, ◌∙◌, ◌<◌, Contains, true, is_some, sym, ap, subst}
 use Rattle.cpg_base.specs.Graph.{Graph, item_count, item_at}
 use Rattle.cpg_base.specs.Activity.{active, item_active}

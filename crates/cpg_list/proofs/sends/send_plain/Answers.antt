@@ -1,3 +1,5 @@
+-- Proof of `send_plain`: the entry of an item that is sent in the scenario, if that is the least of the cube carried
+-- there.
 use Rattle.std.proofs.Common.{◌≡◌, ◌∙◌, ◌++◌, true, sym, ap, subst}
 use Rattle.cpg_base.specs.Graph.{item_at}
 use Rattle.cpg_base.specs.Activity.{active}

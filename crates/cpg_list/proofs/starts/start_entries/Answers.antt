@@ -1,3 +1,5 @@
+-- Proof of `start_entries`: the entries of the start of a process, for the scenarios that are the least of the cubes
+-- carried there.
 use Rattle.std.proofs.Common.{◌≡◌, ◌++◌, ◌∷◌, [], get_or, take, None, sym, subst, arith}
 use Rattle.std.proofs.lemmas.List.{take_all}
 use Rattle.cpg_base.specs.Order.{before_on_node}
@@ -73,15 +75,19 @@ loop-at-preserved c =
     let p = c.args.process in
     let s = c.index-scenarios-at.result in
     let t = c.index-runs-at.result in
+    -- what the processes before on the node pass on in the scenario
     let before = before_on_node g order p in
     let earlier = passed_by g rows before s in
     let cubes = c.loop-at.known-inside.cubes.items in
+    -- the cube of that for this scenario
     let is = cube_here g.faults c.args.listed.now.scenarios.now (passed_by g rows before)
     (passed_by g rows (before ++ p ∷ [])) c.loop-at.at cubes s c.index_mut.result.now c.loop-at-test.true
     c.index-scenarios-at.is
     c.loop-at.invariant.carried c.index_mut.ensures.value in
+    -- the entry is kept if the scenario is the least of what is carried at the start
     let entry = subst (λ ls. IsKeptAt g s (get_or t.times p None) ls c.in_ok-entry.entry)
     (sym (carried_start g order rows s p c.requires.process)) (c.in_ok-entry.ensures.entry earlier is) in
+    -- the entries with this one, and the cubes with what the process passes on
     record {
       found = found_more g order c.requires.listed.topological c.args.listed.now.frozen.now rows p
           (omega (arith, c.requires.process)) c.args.listed.now.scenarios.now c.args.listed.now.runs.now

@@ -1,3 +1,5 @@
+-- Proof of `start_in`: the entry of the start of a process in a scenario, if it is active there and the scenario is
+-- the least of the cube carried there.
 use Rattle.std.proofs.Common.{◌≡◌, ◌∙◌, ℕ, ◌++◌, ◌∷◌, [], true, false, is_some, Contains, sym, ap, subst}
 use Rattle.cpg_base.specs.Graph.{Graph, inputs, broadcast_item, message_item}
 use Rattle.cpg_base.specs.Activity.{active}
@@ -74,6 +76,7 @@ returns-clause-carried c =
     let p = c.args.process in
     let rows = columns_of_rows c.args.frames.now.rows.now in
     let e = c.requires.graph in
+    -- the cube is narrowed by what decides the process, by what is heard, by what is received, and by its count
     let first = subst (λ (h : Graph). IsNarrowed h.faults (decided h s p) c.args.cube.now c.narrow_by_decided.new.cube)
     e c.in_ok-narrow_by_decided.ensures in
     let second = subst
@@ -84,9 +87,11 @@ returns-clause-carried c =
     let fourth = subst
     (λ (h : Graph). IsNarrowed h.faults (number_known s p ∷ []) c.started.new.cube c.narrow_to_number.new.cube) e
     c.in_ok-narrow_to_number.ensures in
+    -- the process is active, since it has a time
     let on : active g s.values p ≡ true =
     sym (process_active g rows s p c.requires.process c.args.frames.now.times.now c.requires.active)
     ∙ ap is_some (sym c.time.ensures ∙ c.in-Some.is) in
+    -- together these are what an active process passes on
     subst (λ ls. IsNarrowed g.faults ls c.args.cube.now c.narrow_to_number.new.cube) (sym (passed_active g rows s p on))
     (narrowed_then g.faults (decided g s p ++ heard g rows s p) (received_unless_frozen g rows s p
     ++ number_known s p ∷ []) c.args.cube.now c.narrow_by_heard.new.cube c.narrow_to_number.new.cube

@@ -1,3 +1,5 @@
+-- Proof of `started`: the entry of the start of an active process, if the scenario is the least of the cube carried
+-- there.
 use Rattle.std.proofs.Common.{◌≡◌, ◌∙◌, ◌++◌, false, sym, subst}
 use Rattle.cpg_base.specs.Graph.{process_at}
 use Rattle.cpg_run.specs.Carried.{decided, heard, received}

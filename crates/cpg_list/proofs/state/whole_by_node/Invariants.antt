@@ -1,3 +1,4 @@
+-- Loops of `whole_by_node`: makes for each node `count` cubes that match every scenario.
 use Rattle.std.proofs.Common.{◌≡◌, [], replicate}
 use Rattle.cpg_list.proofs.state.whole_by_node.Given as goal
 

@@ -1,3 +1,4 @@
+-- Proof of `hit`: the place of a column of a time that matches.
 use Rattle.std.proofs.Common.{◌∙◌, ◌<◌, length, get_or, sym, ap, rules, []}
 use Rattle.std.proofs.lemmas.List.{get_or_default}
 use Rattle.cpg_cube.specs.Cube.{matches}

@@ -1,3 +1,4 @@
+-- Loops of `hit`: the place of a column of a time that matches.
 use Rattle.cpg_list.proofs.CodeTimes.{ArePassed}
 use Rattle.cpg_list.proofs.timed.hit.Given as goal
 

@@ -1,3 +1,4 @@
+-- Proof of `ordered_by_time`: the times and places of columns, by time.
 use Rattle.std.proofs.Common.{◌≡◌, length, refl, subst, arith, rules}
 use Rattle.std.proofs.lemmas.List.Sorted.{IsNonDecreasingBy-from_sort_by_key}
 use Rattle.cpg_list.specs.TimeOrder.{TimedColumn}

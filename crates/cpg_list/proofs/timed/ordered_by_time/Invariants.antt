@@ -1,3 +1,4 @@
+-- Loops of `ordered_by_time`: the times and places of columns, by time.
 use Rattle.cpg_list.proofs.CodeTimes.{AreTimes}
 use Rattle.cpg_list.proofs.timed.ordered_by_time.Given as goal
 

@@ -1,3 +1,4 @@
+-- Loops of `to_rows`: the rows as tables have them.
 use Rattle.std.proofs.Common.{◌≡◌, take}
 use Rattle.cpg_list.proofs.timed.to_rows.Given as goal
 

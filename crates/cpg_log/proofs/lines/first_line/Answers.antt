@@ -1,3 +1,4 @@
+-- Proof of `first_line`: the first line of some bytes, and the bytes after its line feed.
 use Rattle.cpg_log.proofs.LineLaws.{lines_parted, lines_whole}
 use Rattle.cpg_log.proofs.lines.first_line.Goals as goal
 

@@ -1,3 +1,4 @@
+-- Proof of `number`: the number below 2^60 that some digits write, if they are those of a time.
 use Rattle.std.proofs.Common.{ℕ, ◌≡◌, ◌<◌, ◌^◌, List, Some, Result, Ok, Err, arith, sym, ap, ◌∙◌, subst}
 use Rattle.std.specs.Fmt.{decimal}
 use Rattle.std.specs.Str.{IsUtf8}
@@ -9,6 +10,7 @@ use Rattle.cpg_log.proofs.number.number.Goals as goal
 utf8 : (digits : List ℕ) (n : ℕ) → n < 2 ^ 60 → digits ≡ decimal n → IsUtf8 digits
 utf8 digits n l e = subst IsUtf8 (sym e) (IsUtf8-from_ascii (decimal n) (IsAscii-decimal n (omega arith)))
 
+-- the value of a result, and 0 if it is an error
 abbrev given : {E : Type 0} → Result ℕ E → ℕ
 given (Ok x) = x
 given (Err e) = 0

@@ -1,3 +1,4 @@
+-- Proof of `act_of`: the act of a line that a log may go on with, and `None` exactly if there is none.
 use Rattle.std.proofs.Common.{◌<◌, ◌^◌, ◌∙◌, sym, ap, arith}
 use Rattle.std.proofs.lemmas.Fmt.{decimal_injective}
 use Rattle.cpg_log.specs.Log.{Log}

@@ -1,3 +1,4 @@
+-- Proof of `read_log`: the log that a file spells.
 use Rattle.std.proofs.Common.{◌≡◌, Err, rules, sym, subst}
 use Rattle.cpg_log.specs.Lines.{lines}
 use Rattle.cpg_log.specs.Reading.{IsBadLine}

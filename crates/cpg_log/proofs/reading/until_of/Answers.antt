@@ -1,3 +1,4 @@
+-- Proof of `until_of`: the time until which a line says that a log goes, and `None` exactly if it says no time.
 use Rattle.cpg_log.proofs.ReadingLaws.{until_parts}
 use Rattle.cpg_log.proofs.reading.until_of.Goals as goal
 

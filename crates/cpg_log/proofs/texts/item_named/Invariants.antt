@@ -1,3 +1,5 @@
+-- Loops of `item_named`: the item that a text names, of those that a node starts or sends and a log doesn't name yet;
+-- `None` exactly if there is none.
 use Rattle.std.proofs.Common.{◌<◌, ℕ}
 use Rattle.cpg_log.specs.Reading.{IsNew}
 use Rattle.cpg_log.proofs.texts.item_named.Given as goal

@@ -1,3 +1,4 @@
+-- Proof of `text_of`: the text of an item.
 use Rattle.std.proofs.Common.{◌∙◌, ap, arith, string_bytes}
 use Rattle.cpg_log.proofs.TextLaws.{texts_long, text_at}
 use Rattle.cpg_log.proofs.texts.text_of.Goals as goal

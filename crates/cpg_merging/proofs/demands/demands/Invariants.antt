@@ -1,3 +1,4 @@
+-- Loops of `demands`: the demands of columns.
 use Rattle.std.proofs.Common.{◌≡◌, map, take}
 use Rattle.cpg_merging.specs.Demands.{demand_of}
 use Rattle.cpg_merging.proofs.demands.demands.Given as goal

@@ -1,3 +1,4 @@
+-- Proof of `do_any_differ`: whether any two demands of one time differ.
 use Rattle.std.proofs.Common.{arith}
 use Rattle.cpg_merging.proofs.MergingDemands.{all_agree}
 use Rattle.cpg_merging.proofs.demands.do_any_differ.Goals as goal

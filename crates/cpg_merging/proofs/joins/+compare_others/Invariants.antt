@@ -1,3 +1,4 @@
+-- Recursion of `compare_others`: compares the literals on other variables.
 use Rattle.std.proofs.Common.{◌+◌, length}
 use Rattle.cpg_merging.proofs.joins.+compare_others.Given as goal
 

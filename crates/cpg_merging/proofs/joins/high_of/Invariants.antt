@@ -1,3 +1,4 @@
+-- Loops of `high_of`: the greatest number of a variable that literals allow.
 use Rattle.std.proofs.Common.{◌≡◌, drop}
 use Rattle.cpg_cube.specs.Cube.{high_in}
 use Rattle.cpg_merging.proofs.joins.high_of.Given as goal

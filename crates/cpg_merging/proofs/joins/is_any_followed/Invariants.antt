@@ -1,3 +1,4 @@
+-- Loops of `is_any_followed`: whether some column follows the one before it.
 use Rattle.std.proofs.Common.{◌≡◌, drop}
 use Rattle.cpg_merging.specs.Merging.{is_any_followed, is_any_followed_from}
 use Rattle.cpg_merging.proofs.joins.is_any_followed.Given as goal

@@ -1,3 +1,5 @@
+-- Proof of `joined_columns`: joins neighbours if the second follows the first, and leaves the columns as they are if
+-- none does.
 use Rattle.std.proofs.Common.{◌≡◌, false, sym, rules}
 use Rattle.cpg_merging.specs.Merging.{is_any_followed}
 use Rattle.cpg_merging.proofs.MergingSteps.{not_walked_over}

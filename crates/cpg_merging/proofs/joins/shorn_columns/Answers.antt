@@ -1,3 +1,4 @@
+-- Proof of `shorn_columns`: columns without the literals of the whole range.
 use Rattle.std.proofs.Common.{◌≡◌, false, sym, rules}
 use Rattle.std.specs.List.{list_any}
 use Rattle.cpg_cube.specs.Cube.{is_whole}

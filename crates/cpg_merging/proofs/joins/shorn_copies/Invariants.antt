@@ -1,3 +1,4 @@
+-- Loops of `shorn_copies`: copies of columns without the literals of the whole range.
 use Rattle.std.proofs.Common.{◌≡◌, take}
 use Rattle.cpg_merging.specs.Merging.{all_shorn}
 use Rattle.cpg_merging.proofs.joins.shorn_copies.Given as goal

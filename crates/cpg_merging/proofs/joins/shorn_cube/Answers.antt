@@ -1,3 +1,4 @@
+-- Proof of `shorn_cube`: the cube without the literals of the whole range.
 use Rattle.std.proofs.Common.{arith, sym, subst}
 use Rattle.cpg_cube.specs.Cube.{IsRising}
 use Rattle.cpg_merging.proofs.MergingCubes.{shorn_before}

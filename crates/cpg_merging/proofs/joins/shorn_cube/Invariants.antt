@@ -1,3 +1,4 @@
+-- Loops of `shorn_cube`: the cube without the literals of the whole range.
 use Rattle.std.proofs.Common.{◌≡◌, take}
 use Rattle.cpg_merging.specs.Merging.{shorn}
 use Rattle.cpg_merging.proofs.joins.shorn_cube.Given as goal

@@ -1,3 +1,4 @@
+-- Proof of `candidates`: columns that include all those that touch another column.
 use Rattle.std.proofs.Common.{◌≡◌, ◌∙◌, Bool, Bor, List, ap, filter, map, subst, sym}
 use Rattle.cpg_cube.specs.declared.column.Column.{Column}
 use Rattle.cpg_merging.specs.Kinds.{AreTold, HoldCandidates, is_candidate}

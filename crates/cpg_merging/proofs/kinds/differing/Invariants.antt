@@ -1,3 +1,4 @@
+-- Loops of `differing`: the places where some column asks for something else than another column of the place.
 use Rattle.std.proofs.Common.{◌≡◌, length, take}
 use Rattle.cpg_merging.specs.Kinds.{AreTold}
 use Rattle.cpg_merging.proofs.kinds.differing.Given as goal

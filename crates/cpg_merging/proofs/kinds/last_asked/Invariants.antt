@@ -1,3 +1,4 @@
+-- Loops of `last_asked`: how much the last column of each place asks.
 use Rattle.std.proofs.Common.{◌≡◌, length}
 use Rattle.cpg_merging.proofs.kinds.last_asked.Given as goal
 

@@ -1,3 +1,4 @@
+-- Proof of `mark`: marks as `mark_each` does, for any number of literals.
 use Rattle.std.proofs.Common.{rules, ◌≡◌, ◌++◌, inl, inr}
 use Rattle.cpg_cube.specs.declared.literal.Literal.{Literal}
 use Rattle.cpg_merging.specs.Totals.{HasNoPartner, IsMarked}

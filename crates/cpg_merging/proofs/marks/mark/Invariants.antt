@@ -1,3 +1,4 @@
+-- Loops of `mark`: marks as `mark_each` does, for any number of literals.
 use Rattle.std.proofs.Common.{ℕ, ◌⊎◌, Contains, length}
 use Rattle.cpg_cube.specs.declared.literal.Literal.{Literal}
 use Rattle.cpg_merging.specs.Totals.{HasNoPartner, IsMarked}

@@ -1,3 +1,4 @@
+-- Proof of `mark_at`: marks the variable of a literal if a column with this sum may follow another column there.
 use Rattle.std.proofs.Common.{rules}
 use Rattle.cpg_merging.proofs.MergingTotals.{mark_kept, mark_off, from_off}
 use Rattle.cpg_merging.proofs.marks.mark_at.Goals as goal

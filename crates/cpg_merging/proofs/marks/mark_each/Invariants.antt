@@ -1,3 +1,4 @@
+-- Loops of `mark_each`: marks the variables of literals at which a column with this sum may follow another.
 use Rattle.std.proofs.Common.{ℕ, Contains, take}
 use Rattle.cpg_cube.specs.declared.literal.Literal.{Literal}
 use Rattle.cpg_merging.specs.Totals.{HasNoPartner, IsMarked}

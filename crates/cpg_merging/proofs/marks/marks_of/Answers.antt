@@ -1,3 +1,4 @@
+-- Proof of `marks_of`: the variables at which some column may follow another, marked by number.
 use Rattle.std.proofs.Common.{◌≡◌, Bor, List, length, map, rules, subst}
 use Rattle.cpg_cube.specs.declared.column.Column.{Column}
 use Rattle.cpg_merging.specs.Totals.{AreMarkedBy, total_of}

@@ -1,3 +1,4 @@
+-- Proof of `joined_on`: joins columns that touch at a variable.
 use Rattle.std.proofs.Common.{◌≡◌, sym, subst, rules}
 use Rattle.std.specs.Ordering.{is_lt}
 use Rattle.std.specs.List.Sorted.{IsSortedBy}

@@ -1,3 +1,4 @@
+-- Proof of `joined_once`: joins columns that touch at any variable.
 use Rattle.std.proofs.Common.{◌+◌, ◌<◌, ◌≤◌, length, ⊎_elim, inl, inr, ap, arith, refl, rules, sym, ◌∙◌}
 use Rattle.std.proofs.lemmas.Result.{IfOk-weaker}
 use Rattle.cpg_base.specs.Graph.{IsVariable, process_count, condition_count, value_variable}

@@ -1,3 +1,5 @@
+-- Proof of `joined_over`: joins columns that touch at one of the variables from `first` up to, but not including,
+-- `end`.
 use Rattle.std.proofs.Common.{◌≡◌, ◌+◌, ◌<◌, ◌≤◌, ⊎_elim, inl, inr, arith, refl}
 use Rattle.std.proofs.lemmas.Bool.{cases_lt}
 use Rattle.cpg_merging.specs.Merging.{IsBetween}

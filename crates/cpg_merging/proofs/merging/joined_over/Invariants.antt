@@ -1,3 +1,5 @@
+-- Loops of `joined_over`: joins columns that touch at one of the variables from `first` up to, but not including,
+-- `end`.
 use Rattle.cpg_merging.specs.Merging.{IsPassed, IsBetween, IsSortedAs}
 use Rattle.cpg_merging.specs.Totals.{AreMarked}
 use Rattle.cpg_merging.proofs.merging.joined_over.Given as goal

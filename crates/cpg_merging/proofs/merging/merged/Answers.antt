@@ -1,3 +1,5 @@
+-- Proof of `merged`: the columns of a row that have the times of the given ones in every scenario of at most as many
+-- faults as the problem has, and are as few as can be.
 use Rattle.std.proofs.Common.{IsPermutation, sym, ap, ◌∙◌, subst, true≢false}
 use Rattle.std.proofs.lemmas.Bool.{OnTrue_from}
 use Rattle.cpg_cube.specs.declared.listing.Listing.{Listing}

@@ -1,3 +1,4 @@
+-- Proof of `settled`: joins columns until no two of one time touch at any variable.
 use Rattle.std.proofs.Common.{◌≡◌, ◌<◌, ◌∙◌, length, sym, ap, arith, rules}
 use Rattle.std.specs.Vec.{vec_len}
 use Rattle.cpg_base.specs.Graph.{IsVariable}

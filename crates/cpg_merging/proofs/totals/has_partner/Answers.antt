@@ -1,3 +1,4 @@
+-- Proof of `has_partner`: whether a column with this sum may follow another at a literal.
 use Rattle.std.proofs.Common.{ℕ, ◌+◌, ◌%◌, ◌^◌, ◌∙◌, Contains, arith, sym, ap, subst, inl, inr}
 use Rattle.std.proofs.lemmas.Bool.{cases_eq}
 use Rattle.cpg_merging.specs.Totals.{hash_of, ended}

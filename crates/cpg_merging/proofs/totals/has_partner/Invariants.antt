@@ -1,3 +1,4 @@
+-- Loops of `has_partner`: whether a column with this sum may follow another at a literal.
 use Rattle.std.proofs.Common.{ℕ, ◌<◌, ◌+◌, ◌%◌, ◌^◌, Contains}
 use Rattle.cpg_merging.specs.Totals.{hash_of, ended}
 use Rattle.cpg_merging.proofs.totals.has_partner.Given as goal

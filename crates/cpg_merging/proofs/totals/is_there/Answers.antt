@@ -1,3 +1,4 @@
+-- Proof of `is_there`: whether a number is among the sums.
 use Rattle.std.proofs.Common.{Bool, Contains, subst, sym}
 use Rattle.std.specs.Bool.{OnFalse}
 use Rattle.cpg_merging.proofs.MergingTotals.{not_there}

@@ -1,3 +1,4 @@
+-- Proof of `put_each`: marks the place of each number.
 use Rattle.std.proofs.Common.{ℕ, length, arith, rules, subst, sym}
 use Rattle.cpg_merging.specs.Totals.{IsMarked, place_in}
 use Rattle.cpg_merging.proofs.MergingTotals.{all_of, sieve_more}

@@ -1,3 +1,4 @@
+-- Loops of `append_acts`: adds acts to those so far.
 use Rattle.std.proofs.Common.{◌≡◌, ◌++◌, drop}
 use Rattle.std.specs.Vec.{vec_capacity}
 use Rattle.cpg_node.proofs.act.append_acts.Given as goal

@@ -1,3 +1,4 @@
+-- Proof of `earliest_end`: the first possible end on the node after the last turn.
 use Rattle.std.proofs.Common.{ap, ◌∙◌, Some}
 use Rattle.cpg_node.specs.Dispatcher.{is_after, possible_ends}
 use Rattle.cpg_node.specs.State.{earlier}

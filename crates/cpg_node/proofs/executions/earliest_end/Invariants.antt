@@ -1,3 +1,4 @@
+-- Loops of `earliest_end`: the first possible end on the node after the last turn.
 use Rattle.std.proofs.Common.{◌≡◌, Some, filter, drop}
 use Rattle.std.specs.List.{flat_map}
 use Rattle.cpg_node.specs.Dispatcher.{least_of, is_after, possible_ends, zip_with}

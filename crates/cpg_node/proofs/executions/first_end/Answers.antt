@@ -1,3 +1,4 @@
+-- Proof of `first_end`: the first possible end of an execution after the last turn.
 use Rattle.std.proofs.Common.{◌+◌, Some}
 use Rattle.cpg_node.specs.Dispatcher.{is_after}
 use Rattle.cpg_node.proofs.Least.{least_map}

@@ -1,3 +1,4 @@
+-- Loops of `first_end`: the first possible end of an execution after the last turn.
 use Rattle.std.proofs.Common.{◌≡◌, ◌+◌, Some, map, filter, drop}
 use Rattle.cpg_node.specs.Dispatcher.{least_of, is_after}
 use Rattle.cpg_node.specs.State.{earlier}

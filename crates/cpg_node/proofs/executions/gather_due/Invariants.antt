@@ -1,3 +1,4 @@
+-- Loops of `gather_due`: gathers the reports whose planned end is at the time.
 use Rattle.std.proofs.Common.{◌≡◌, ◌≤◌, ◌++◌, drop}
 use Rattle.std.specs.List.{flat_map}
 use Rattle.std.specs.Vec.{vec_len, vec_capacity}

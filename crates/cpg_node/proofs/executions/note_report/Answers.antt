@@ -1,8 +1,10 @@
+-- Proof of `note_report`: notes a report: the execution that it belongs to keeps it.
 use Rattle.std.proofs.Common.{arith, refl}
 use Rattle.cpg_node.specs.Dispatcher.{with_report}
 use Rattle.cpg_node.proofs.Places.{zip_front-done, zip_front-next}
 use Rattle.cpg_node.proofs.executions.note_report.Goals as goal
 
+-- before the first place nothing has changed
 pub loop-place-init : goal.loop-place-init
 loop-place-init c = refl
 

@@ -1,3 +1,4 @@
+-- Loops of `note_report`: notes a report: the execution that it belongs to keeps it.
 use Rattle.std.proofs.Common.{◌≡◌}
 use Rattle.cpg_node.specs.Dispatcher.{with_report}
 use Rattle.cpg_node.proofs.Places.{zip_front}

@@ -1,3 +1,4 @@
+-- Proof of `running_in`: the execution of a process, if it runs here.
 use Rattle.std.proofs.Common.{◌∙◌}
 use Rattle.cpg_node.proofs.Places.{running_in-next}
 use Rattle.cpg_node.proofs.executions.running_in.Goals as goal

@@ -1,3 +1,4 @@
+-- Loops of `running_in`: the execution of a process, if it runs here.
 use Rattle.std.proofs.Common.{◌≡◌, drop}
 use Rattle.cpg_node.specs.State.{running_in}
 use Rattle.cpg_node.proofs.executions.running_in.Given as goal

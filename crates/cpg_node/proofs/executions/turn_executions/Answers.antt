@@ -1,8 +1,10 @@
+-- Proof of `turn_executions`: what runs after a turn.
 use Rattle.std.proofs.Common.{arith, refl, ◌++◌}
 use Rattle.cpg_node.specs.Dispatcher.{running_after}
 use Rattle.cpg_node.proofs.Places.{zip_front-done, zip_front-next}
 use Rattle.cpg_node.proofs.executions.turn_executions.Goals as goal
 
+-- before the first place nothing has changed
 pub loop-place-init : goal.loop-place-init
 loop-place-init c = refl
 

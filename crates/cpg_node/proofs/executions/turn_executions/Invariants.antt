@@ -1,3 +1,4 @@
+-- Loops of `turn_executions`: what runs after a turn.
 use Rattle.std.proofs.Common.{◌≡◌, ◌++◌}
 use Rattle.cpg_node.specs.Dispatcher.{running_after}
 use Rattle.cpg_node.proofs.Places.{zip_front}

@@ -1,3 +1,4 @@
+-- Proof of `arrives`: whether the node hears the item of a frame, by the column that it names, at this time.
 use Rattle.std.proofs.Common.{◌≡◌, ◌≤◌, ◌∙◌, Some, None, length, ap, sym, rules}
 use Rattle.std.specs.Prelude.{slice_get}
 use Rattle.std.proofs.lemmas.Option.{slice_get-get_or, slice_get_past}

@@ -1,3 +1,4 @@
+-- Loops of `cut_all`: notes that literals hold.
 use Rattle.std.proofs.Common.{◌≡◌, drop}
 use Rattle.cpg_node.specs.Dispatcher.{cut_all}
 use Rattle.cpg_node.proofs.heard.cut_all.Given as goal

@@ -1,3 +1,4 @@
+-- Loops of `hear_ends`: hears ends, one after another.
 use Rattle.std.proofs.Common.{◌≡◌, drop, fold}
 use Rattle.cpg_node.specs.Dispatcher.{hear_end}
 use Rattle.cpg_node.proofs.heard.hear_ends.Given as goal

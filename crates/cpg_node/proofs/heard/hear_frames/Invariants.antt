@@ -1,3 +1,4 @@
+-- Loops of `hear_frames`: hears frames, one after another.
 use Rattle.std.proofs.Common.{◌≡◌, drop, fold}
 use Rattle.cpg_node.specs.Dispatcher.{hear_frame}
 use Rattle.cpg_node.proofs.heard.hear_frames.Given as goal

@@ -1,3 +1,5 @@
+-- Proof of `whole_ranges`: the ranges of all variables before anything is heard: each may have any number that the
+-- faults allow.
 use Rattle.cpg_base.proofs.Lists.{map_below_push}
 use Rattle.cpg_node.specs.Dispatcher.{whole_range}
 use Rattle.cpg_node.proofs.heard.whole_ranges.Goals as goal

@@ -1,3 +1,5 @@
+-- Loops of `whole_ranges`: the ranges of all variables before anything is heard: each may have any number that the
+-- faults allow.
 use Rattle.std.proofs.Common.{◌≡◌, map}
 use Rattle.cpg_base.specs.Numbers.{numbers_below}
 use Rattle.cpg_node.specs.Dispatcher.{whole_range}

@@ -1,3 +1,4 @@
+-- Loops of `own_of`: the node's own process with this number, if there is one.
 use Rattle.std.proofs.Common.{◌≡◌, [], ◌==◌, None, filter, drop, get_or}
 use Rattle.cpg_table.specs.declared.own.Own.{Own}
 use Rattle.cpg_node.proofs.own.own_of.Given as goal

@@ -1,3 +1,4 @@
+-- Loops of `add_times`: adds the times of a row.
 use Rattle.std.proofs.Common.{◌≡◌, ◌++◌, map, drop}
 use Rattle.cpg_node.proofs.plan.add_times.Given as goal
 

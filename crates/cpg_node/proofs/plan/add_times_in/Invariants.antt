@@ -1,3 +1,4 @@
+-- Loops of `add_times_in`: adds the times of rows.
 use Rattle.std.proofs.Common.{◌≡◌, ◌++◌, drop}
 use Rattle.cpg_node.specs.Dispatcher.{times_in}
 use Rattle.cpg_node.proofs.plan.add_times_in.Given as goal

@@ -1,3 +1,4 @@
+-- Proof of `gather_acts`: gathers the acts of entries whose literals have all been heard.
 use Rattle.std.proofs.Common.{arith, ◌∙◌, ◌++◌}
 use Rattle.cpg_node.specs.Plan.{takes}
 use Rattle.cpg_node.proofs.Planning.{acts_next}

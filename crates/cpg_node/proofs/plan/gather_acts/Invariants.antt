@@ -1,3 +1,4 @@
+-- Loops of `gather_acts`: gathers the acts of entries whose literals have all been heard.
 use Rattle.std.proofs.Common.{◌≡◌, ◌≤◌, ◌++◌, map, filter, drop}
 use Rattle.std.specs.Vec.{vec_len, vec_capacity}
 use Rattle.cpg_node.specs.Plan.{act_of, takes}

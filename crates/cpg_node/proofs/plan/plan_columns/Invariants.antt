@@ -1,3 +1,4 @@
+-- Loops of `plan_columns`: adds the columns of a row.
 use Rattle.std.proofs.Common.{◌≡◌, ◌++◌, drop}
 use Rattle.cpg_node.specs.Plan.{plan_of_columns}
 use Rattle.cpg_node.proofs.plan.plan_columns.Given as goal

@@ -1,3 +1,4 @@
+-- Proof of `plan_of`: all columns of what a node sends and starts, in order of time.
 use Rattle.std.proofs.Common.{rules, length, ap, subst, sym}
 use Rattle.std.specs.Prelude.{All, ◌≤◌}
 use Rattle.std.proofs.lemmas.Fn.{always_returns_same}

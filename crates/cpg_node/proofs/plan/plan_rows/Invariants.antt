@@ -1,3 +1,4 @@
+-- Loops of `plan_rows`: adds the columns of rows, the first of which has this place.
 use Rattle.std.proofs.Common.{◌≡◌, ◌+◌, ◌++◌, drop}
 use Rattle.cpg_node.specs.Plan.{plan_from}
 use Rattle.cpg_node.proofs.plan.plan_rows.Given as goal

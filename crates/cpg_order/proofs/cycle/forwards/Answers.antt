@@ -1,3 +1,4 @@
+-- Proof of `forwards`: a cycle in the direction of its edges, from the least process on.
 use Rattle.std.proofs.Common.{ℕ, ◌+◌, ◌-◌, ◌<◌, ◌≡◌, inl, inr, ◌∙◌, sym, ap, get_or, length, map, arith}
 use Rattle.cpg_base.specs.Numbers.{numbers_below}
 use Rattle.cpg_base.proofs.Lists.{map_below_push}
@@ -18,6 +19,7 @@ pub loop-preserved : goal.loop-preserved
 loop-preserved c =
     let n = next_place c.least_place-place.result (length c.args.back.now) c.loop.counter c.loop.place
     c.least_place-place.ensures.within c.loop-test.true c.loop.invariant.place in
+    -- one place more is walked; the place then is one further down, or the last
     record {
       walk = map_below_push
           (λ k. get_or c.args.back.now (place_down c.least_place-place.result (length c.args.back.now) k) 0)

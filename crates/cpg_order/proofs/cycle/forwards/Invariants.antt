@@ -1,3 +1,4 @@
+-- Loops of `forwards`: a cycle in the direction of its edges, from the least process on.
 use Rattle.std.proofs.Common.{◌≡◌, ◌<◌, get_or, length, map}
 use Rattle.cpg_base.specs.Numbers.{numbers_below}
 use Rattle.cpg_order.proofs.Cycles.{place_down}

@@ -1,3 +1,4 @@
+-- Loops of `least_place`: the place of the least number.
 use Rattle.std.proofs.Common.{ℕ, ◌<◌, ◌≤◌, get_or, length}
 use Rattle.cpg_order.proofs.cycle.least_place.Given as goal
 

@@ -1,3 +1,4 @@
+-- Proof of `waiting_source`: a waiting process with an edge to this waiting process.
 use Rattle.std.proofs.Common.{◌<◌, ◌≡◌, ◌∙◌, sym, ap, subst, get_or, length, Contains, true, arith}
 use Rattle.std.proofs.lemmas.List.{get_or_default}
 use Rattle.std.proofs.lemmas.List.Elements.{Contains-get_or}

@@ -1,3 +1,4 @@
+-- Loops of `waiting_source`: a waiting process with an edge to this waiting process.
 use Rattle.std.proofs.Common.{ℕ, ◌<◌, ◌≡◌, get_or}
 use Rattle.cpg_base.specs.Graph.{inputs, source}
 use Rattle.cpg_order.proofs.cycle.waiting_source.Given as goal

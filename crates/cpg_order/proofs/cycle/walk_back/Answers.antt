@@ -1,3 +1,4 @@
+-- Proof of `walk_back`: walks against the edges until the walk meets itself.
 use Rattle.std.proofs.Common.{ℕ, List, Option, ◌≡◌, ◌∙◌, ◌==◌, sym, ap, length, false, Some, position, arith, eqb-true}
 use Rattle.std.proofs.Common.{length-append, ◌∷◌, []}
 use Rattle.std.proofs.lemmas.Bool.{false_from_ne_true}

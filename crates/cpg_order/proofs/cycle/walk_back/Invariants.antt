@@ -1,3 +1,4 @@
+-- Loops of `walk_back`: walks against the edges until the walk meets itself.
 use Rattle.std.proofs.Common.{◌+◌, ◌-◌, ◌<◌, get_or, length}
 use Rattle.cpg_base.specs.Graph.{process_count}
 use Rattle.cpg_order.proofs.Cycles.{IsWalkBack}

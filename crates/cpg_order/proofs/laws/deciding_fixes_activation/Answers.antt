@@ -1,3 +1,5 @@
+-- Proof of `deciding_fixes_activation`: two outcomes that agree on each condition that decides a process in the first
+-- give it the same activation.
 use Rattle.cpg_order.proofs.DecidingLaws.{deciding_fixes}
 use Rattle.cpg_order.proofs.laws.deciding_fixes_activation.Goals as goal
 

@@ -1,3 +1,4 @@
+-- Proof of `has_one_urgency_order`: each graph has one urgency order.
 use Rattle.cpg_order.proofs.Urgent.{urgency_exists, one_urgency_order}
 use Rattle.cpg_order.proofs.laws.has_one_urgency_order.Goals as goal
 

@@ -1,3 +1,4 @@
+-- Proof of `order_leaves_no_cycle`: a graph with a topological order has no cycle.
 use Rattle.cpg_order.proofs.Cycles.{no_cycle}
 use Rattle.cpg_order.proofs.laws.order_leaves_no_cycle.Goals as goal
 

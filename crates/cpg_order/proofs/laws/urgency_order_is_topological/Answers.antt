@@ -1,3 +1,4 @@
+-- Proof of `urgency_order_is_topological`: if a graph has a topological order, its urgency order is one.
 use Rattle.cpg_order.proofs.UrgencyIsTopological.{work_within, urgency_goes_forward}
 use Rattle.cpg_order.proofs.laws.urgency_order_is_topological.Goals as goal
 

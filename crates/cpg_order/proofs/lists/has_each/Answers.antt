@@ -1,8 +1,10 @@
+-- Proof of `has_each`: whether a list has each number below its length once.
 use Rattle.std.proofs.Common.{◌≡◌, ◌∙◌, ◌<◌, sym, subst, refl, false, true≢false, get_or, length, arith, rules}
 use Rattle.std.proofs.lemmas.List.{get_or_default}
 use Rattle.cpg_order.proofs.ListChecks.{AreSeen, seen_none, seen_more, not_great, not_twice, all_seen}
 use Rattle.cpg_order.proofs.lists.has_each.Goals as goal
 
+-- before the first number none is marked as seen
 pub loop-number-init : goal.loop-number-init
 loop-number-init c = seen_none c.args.list.now c.in_ok-seen.seen.items (search rules)
 

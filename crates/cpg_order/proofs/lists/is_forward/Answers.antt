@@ -1,3 +1,4 @@
+-- Proof of `is_forward`: whether each edge leads to a later place.
 use Rattle.std.proofs.Common.{◌≡◌, ◌<◌, sym, ap, subst, refl, true, true≢false, length, inl, inr, arith}
 use Rattle.std.proofs.lemmas.Bool.{cases_eq}
 use Rattle.cpg_base.specs.Graph.{source, target, edge_count, process_count}

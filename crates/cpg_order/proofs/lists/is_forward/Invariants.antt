@@ -1,3 +1,4 @@
+-- Loops of `is_forward`: whether each edge leads to a later place.
 use Rattle.std.proofs.Common.{ℕ, ◌<◌, ◌≡◌, true}
 use Rattle.cpg_base.specs.Graph.{source, target}
 use Rattle.cpg_base.specs.Order.{comes_before}

@@ -1,3 +1,4 @@
+-- Loops of `input_counts`: how many inputs each process has.
 use Rattle.std.proofs.Common.{◌≡◌, length, map}
 use Rattle.cpg_base.specs.Numbers.{numbers_below}
 use Rattle.cpg_base.specs.Graph.{inputs}

@@ -1,3 +1,4 @@
+-- Proof of `ready`: the processes that wait for no input.
 use Rattle.std.proofs.Common.{◌≡◌, ◌∙◌, ◌==◌, ap, filter, get_or, length, arith, eq-eqb}
 use Rattle.std.proofs.lemmas.Bool.{ne_eqb}
 use Rattle.cpg_base.specs.Numbers.{numbers_below}

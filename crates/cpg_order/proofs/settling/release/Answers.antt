@@ -1,3 +1,4 @@
+-- Proof of `release`: counts one input of a process as settled.
 use Rattle.std.proofs.Common.{◌-◌}
 use Rattle.cpg_order.proofs.Readiness.{ready_more, ready_kept, within_waiting}
 use Rattle.cpg_order.proofs.settling.release.Goals as goal

@@ -1,3 +1,4 @@
+-- Proof of `release_all`: counts these edges as settled inputs of their targets.
 use Rattle.std.proofs.Common.{ℕ, List, ◌+◌, ◌<◌, ◌≤◌, ◌≡◌, ◌==◌, ◌∙◌, ◌++◌, sym, ap, length, get_or, take, arith}
 use Rattle.std.proofs.Common.{eq-eqb, append_assoc, length-set}
 use Rattle.std.proofs.lemmas.List.{take_all}

@@ -1,3 +1,4 @@
+-- Loops of `release_all`: counts these edges as settled inputs of their targets.
 use Rattle.std.proofs.Common.{ℕ, List, ◌+◌, ◌≡◌, ◌==◌, ◌++◌, length, take, filter, get_or}
 use Rattle.cpg_base.specs.Graph.{target}
 use Rattle.cpg_order.specs.Settling.{AreReady}

@@ -1,3 +1,4 @@
+-- Loops of `settle`: settles all processes that can be settled: each after the sources of its inputs.
 use Rattle.std.proofs.Common.{◌-◌}
 use Rattle.cpg_base.specs.Graph.{process_count}
 use Rattle.cpg_order.specs.Settling.{AreSettled}

@@ -1,3 +1,4 @@
+-- Proof of `longest`: the longest way over these edges, given how long the ways from their targets are.
 use Rattle.std.proofs.Common.{get_or}
 use Rattle.std.proofs.lemmas.List.Elements.{Contains-get_or}
 use Rattle.cpg_order.proofs.tails.longest.Goals as goal

@@ -1,3 +1,4 @@
+-- Loops of `longest`: the longest way over these edges, given how long the ways from their targets are.
 use Rattle.std.proofs.Common.{◌≡◌, ◌+◌, if◌then◌else◌, get_or, map, take}
 use Rattle.cpg_base.specs.Numbers.{greatest}
 use Rattle.cpg_base.specs.Graph.{is_message, target}

@@ -1,3 +1,4 @@
+-- Proof of `tails`: the length of the longest way from each process to an end.
 use Rattle.std.proofs.Common.{◌+◌, ◌<◌, ◌≡◌, ◌∙◌, sym, ap, ap₂, subst, get_or, length, Contains, set, arith, replicate}
 use Rattle.std.proofs.Common.{rules}
 use Rattle.std.proofs.lemmas.List.{get_or-replicate, length-replicate}
@@ -39,6 +40,7 @@ longest-way-requires-clause-outputs c e k =
     (outputs_parts c.args.problem.now c.at-process.result e
     (subst (λ xs. Contains xs e) (c.outputs.ensures.of_graph c.args.problem.now c.requires.links) k)).0
 
+-- a round of the bus is within the limits
 pub longest-way-requires-clause-turn : goal.longest-way-requires-clause-turn
 longest-way-requires-clause-turn c =
     omega (arith, c.round-turn.ensures, round-le c.args.problem.now c.processes-count.ensures.within)
@@ -50,6 +52,7 @@ longest-way-requires-clause-low c p =
     rw c.as_slice.ensures.value
     (omega (arith, ap length c.processes-count.ensures.processes, c.processes-count.ensures.within.few_processes))
 
+-- an order names processes of the graph alone
 pub duration-requires-clause-process : goal.duration-requires-clause-process
 duration-requires-clause-process c =
     omega (arith, length_order (process_count c.args.problem.now) c.args.order.now c.requires.order.all)

@@ -1,3 +1,4 @@
+-- Proof of `urgency`: the urgency order: by falling length of the longest way to an end, then by number.
 use Rattle.std.proofs.Common.{◌∙◌, sym, ap, subst, length, arith}
 use Rattle.std.proofs.lemmas.List.FromFn.{length-map-range_with_len}
 use Rattle.cpg_base.specs.Graph.{process_count}
@@ -40,5 +41,6 @@ returns-clause-topological c = subst (IsTopological c.args.problem.now) (sym c.i
     c.in_ok-tails.ensures
     (subst (λ xs. AreRanked xs c.in_ok-processes.processes.items) c.as_slice.ensures.value c.in_ok-processes.ensures)))
 
+-- a graph with a topological order has no cycle
 pub returns-clause-acyclic : goal.returns-clause-acyclic
 returns-clause-acyclic c = no_cycle c.args.problem.now c.in_ok-order.order c.in_ok-order.ensures.order

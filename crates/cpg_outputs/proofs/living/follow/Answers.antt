@@ -1,3 +1,4 @@
+-- Proof of `follow`: lets a node follow a stream, and ends the run.
 use Rattle.std.proofs.Common.{◌≡◌, ◌∙◌, ap, inl, inr, refl}
 use Rattle.std.specs.Prelude.{◌⊎◌, Err}
 use Rattle.cpg_io.specs.Causes.{Rose}

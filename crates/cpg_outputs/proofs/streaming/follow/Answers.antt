@@ -1,3 +1,4 @@
+-- Proof of `follow`: follows the named stream to its close.
 use Rattle.std.proofs.Common.{◌∙◌, arith, ap, subst, sym}
 use Rattle.cpg_io.proofs.Agreeing.{fetch_rest, fetched_none, fetched_one}
 use Rattle.cpg_io.specs.Shelf.{SameNames}
@@ -7,6 +8,7 @@ use Rattle.cpg_live.proofs.Along.{along_open, on_match_err, on_match_ok, unfetch
 use Rattle.cpg_outputs.proofs.StreamFetch.{fetch_of}
 use Rattle.cpg_outputs.proofs.streaming.follow.Goals as goal
 
+-- an opened follower has read nothing yet
 pub follow_rest-requires : goal.follow_rest-requires
 follow_rest-requires g c = omega (arith, ap (λ (f : Follower). f.read) c.requires.opened)
 
@@ -34,6 +36,7 @@ returns-in-Ok-clause-broken g c =
     (subst (IsAlong name past history now now) (sym c.requires.opened)
     (along_open name past history now f.head f.table c.in-Ok.ensures.history)))
 
+-- the fetch of the stream failed, so nothing was followed
 pub returns-in-Err-clause-broken : goal.returns-in-Err-clause-broken
 returns-in-Err-clause-broken g c =
     let f = c.args.follower.now in
@@ -58,6 +61,7 @@ returns-in-Ok-clause-fetched g c =
     fetched_one old new names one.0 one.1 (c.follow_rest.ensures.rest
     (fetch_rest old mid c.in-Ok.ensures.names name c.in-Ok.ensures.history c.in-Ok.ensures.started))
 
+-- the fetch that failed has brought no bytes
 pub returns-in-Err-clause-fetched : goal.returns-in-Err-clause-fetched
 returns-in-Err-clause-fetched g c = fetched_none (g.S.Shelf.state c.args.shelf.now)
     (g.S.Shelf.state c.fetch.new.self) c.args.name.now c.in-Err.ensures.history

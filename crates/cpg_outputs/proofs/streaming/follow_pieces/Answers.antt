@@ -1,3 +1,4 @@
+-- Proof of `follow_pieces`: follows all pieces to the end of the stream.
 use Rattle.std.proofs.Common.{◌∙◌, arith, subst}
 use Rattle.cpg_live.specs.Following.{IsAlongAt}
 use Rattle.cpg_live.proofs.Along.{breaks_on}
@@ -12,6 +13,7 @@ returns-in-Err-clause-along g c start name past a =
     (g.O.Sink.state c.follow_piece.new.out) c.in-Err.broken before.same before.out_kept
     (c.in-Err.ensures.along start name past (before.along start name past a))
 
+-- the piece is empty, so the stream has come to its end
 pub returns-then-count-eq0-clause-along : goal.returns-then-count-eq0-clause-along
 returns-then-count-eq0-clause-along g c start name past a =
     subst (λ n. IsAlongAt n name past (g.S.Shelf.state c.follow_piece.new.shelf).history start
@@ -37,8 +39,10 @@ loop-count-preserved g c =
       out_kept = after.out_kept ∙ before.out_kept;
     }
 
+-- if the shelf left the rest of the stream before, it does so after the piece that fails
 pub returns-in-Err-clause-rest : goal.returns-in-Err-clause-rest
 returns-in-Err-clause-rest g c r = c.in-Err.ensures.rest (c.loop-count.invariant.rest r)
 
+-- if the shelf left the rest of the stream before, it does so after the empty piece at the end
 pub returns-then-count-eq0-clause-rest : goal.returns-then-count-eq0-clause-rest
 returns-then-count-eq0-clause-rest g c r = c.in-Ok.ensures.rest (c.loop-count.invariant.rest r)

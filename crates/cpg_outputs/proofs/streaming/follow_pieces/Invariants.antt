@@ -1,3 +1,4 @@
+-- Loops of `follow_pieces`: follows all pieces to the end of the stream.
 use Rattle.std.proofs.Common.{ℕ, List, ◌≡◌, ◌≤◌, ◌-◌}
 use Rattle.cpg_history.specs.Fetch.{Fetch}
 use Rattle.cpg_io.specs.Agreement.{LeavesRest}

@@ -1,3 +1,4 @@
+-- Proof of `follow_rest`: follows the rest of a stream to its close.
 use Rattle.cpg_live.proofs.Along.{end_of_all}
 use Rattle.cpg_outputs.proofs.streaming.follow_rest.Goals as goal
 
@@ -11,5 +12,6 @@ returns-in-Ok-clause-along g c start name past a =
     (g.O.Sink.state c.close.new.out) c.close.result all.same all.out_kept (all.along start name past a)
     c.close.ensures.closes
 
+-- what has been followed up to the piece that breaks off
 pub returns-in-Err-clause-along : goal.returns-in-Err-clause-along
 returns-in-Err-clause-along g c start name past a = c.in-Err.ensures.along start name past a

@@ -1,3 +1,4 @@
+-- Loops of `write_parts`: writes the best parts of each process.
 use Rattle.std.proofs.Common.{◌≡◌, ◌++◌, string_bytes}
 use Rattle.std.specs.Slice.Iter.{iter_rest}
 use Rattle.cpg_outputs.specs.Tunes.{parts_lines}

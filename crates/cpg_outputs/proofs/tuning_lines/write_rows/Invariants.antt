@@ -1,3 +1,4 @@
+-- Loops of `write_rows`: writes the answer for each fault number.
 use Rattle.std.proofs.Common.{◌≡◌, ◌++◌, drop, string_bytes}
 use Rattle.cpg_outputs.specs.Tunes.{row_lines}
 use Rattle.cpg_outputs.proofs.tuning_lines.write_rows.Given as goal

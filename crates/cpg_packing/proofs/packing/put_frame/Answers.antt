@@ -8,11 +8,13 @@ use Rattle.cpg_packing.specs.PackBytes.{AreItemsWithin, items_of_nodes, node_byt
 use Rattle.cpg_packing.proofs.Fitting.{nodes_within}
 use Rattle.cpg_packing.proofs.packing.put_frame.Goals as goal
 
+-- the items of each node are items of the graph
 pub put_nodes-requires-clause-items : goal.put_nodes-requires-clause-items
 put_nodes-requires-clause-items g c =
     subst (All (AreItemsWithin c.args.problem.now)) (sym (c.as_slice.ensures.value ∙ c.requires.nodes))
     (nodes_within c.args.problem.now c.nodes-nodes.ensures.within)
 
+-- the sink fails at the head: it took a front of the bytes
 pub returns-in_err-put_head-clause-put : goal.returns-in_err-put_head-clause-put
 returns-in_err-put_head-clause-put g c =
     let h = c.args.problem.now in
@@ -20,6 +22,7 @@ returns-in_err-put_head-clause-put g c =
     Puts-first _ _ _ _ (head_bytes (head_of h)) (flat_map (node_bytes h c.args.rows.now) (items_of_nodes h))
     c.from_residual.result p.0 p.1 (rw c.requires.head at c.in_err-put_head.ensures.put)
 
+-- the bytes of the head, and behind them those of the nodes
 pub returns-clause-put : goal.returns-clause-put
 returns-clause-put g c =
     let h = c.args.problem.now in

@@ -39,13 +39,16 @@ put_paths-requires g t c κs within =
     let cut = c.in-Cut.cut in
     let root : TreeNode (Option ℕ) = Fork v cut shows.0 shows.1 in
     let cuts = c.requires.cuts root shows.4 in
+    -- both sides can be packed if the fork can
     let sides = packable_sides c.args.k c.args.path.now v cut shows.0 shows.1 (c.requires.packable root shows.4) in (
+      -- the measure gets smaller, and the list is that of the side
       omega (arith, c.decreases, c.in-Cut.ensures.less.0),
       (
         within,
         (
           (shows.0, shows.2),
           (
+            -- its cuts leave numbers above them, and its columns can be packed with the path that was narrowed
             λ n are. side_cuts c.args.k c.in-Cut.below.now shows.0 n shows.2 cuts.2 are,
             (
               λ n are. packable_side c.args.k c.in-Cut.below.now shows.0 n (narrowed_by (up_to v cut) c.args.path.now)
@@ -66,9 +69,11 @@ put_paths-requires-in-Cut g t c κs within =
     let root : TreeNode (Option ℕ) = Fork v cut shows.0 shows.1 in
     let cuts = c.requires.cuts root shows.4 in
     let sides = packable_sides c.args.k c.args.path.now v cut shows.0 shows.1 (c.requires.packable root shows.4) in
+    -- the path is back, and narrowed for the side above
     let path = above_back c.args.k v cut c.top.result c.top.ensures c.narrow-step.result c.args.path.now
     c.narrow-step.new.self c.put_paths.new.path c.exchange.new.self c.narrow-step.ensures.undo
     c.in_ok-put_paths-in-Cut.ensures.path _ refl c.exchange.ensures.narrowed in (
+      -- the measure gets smaller, and the list is that of the side
       omega (arith, c.decreases, c.in-Cut.ensures.less.1),
       (
         within,

@@ -1,3 +1,4 @@
+-- Proof of `deciding_values`: for each process the values of the conditions that decide it in some scenario.
 use Rattle.std.proofs.Common.{◌+◌, ◌∙◌, ◌≡◌, sym, ap, subst, length, arith}
 use Rattle.cpg_base.specs.Graph.{process_count}
 use Rattle.cpg_rules.specs.Guards.{tree_of}

@@ -1,3 +1,5 @@
+-- Proof of `views_from`: how many views there are with the values so far, if these conditions are still to be chosen;
+-- `most` if there are more.
 use Rattle.std.proofs.Common.{◌∙◌, ◌<◌, ap, length, length-set, arith, true}
 use Rattle.cpg_base.specs.Graph.{condition_count}
 use Rattle.cpg_rules.proofs.Parts.{all_parts}

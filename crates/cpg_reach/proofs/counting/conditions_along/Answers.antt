@@ -1,3 +1,4 @@
+-- Proof of `conditions_along`: the conditions by the order of their processes.
 use Rattle.std.proofs.Common.{◌∙◌, sym, ap, length, get_or, arith}
 use Rattle.cpg_base.specs.Graph.{condition_of}
 use Rattle.cpg_base.proofs.Standing.{process_within}

@@ -1,3 +1,4 @@
+-- Proof of `free_counts`: how many processes may have faults.
 use Rattle.std.proofs.Common.{sym, ap, length, arith, true, false}
 use Rattle.cpg_order.specs.Counting.{is_count_free}
 use Rattle.cpg_reach.proofs.Counted.{count_next, count-le}

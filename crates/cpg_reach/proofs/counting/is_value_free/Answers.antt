@@ -1,3 +1,5 @@
+-- Proof of `is_value_free`: whether a condition may be true: its value is among the variables, and its process is
+-- active.
 use Rattle.std.proofs.Common.{◌∙◌, ◌&&◌, sym, ap, subst, length, arith}
 use Rattle.cpg_base.proofs.Items.{process_of_below}
 use Rattle.cpg_base.specs.Graph.{process_of}

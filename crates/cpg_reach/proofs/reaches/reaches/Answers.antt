@@ -1,3 +1,4 @@
+-- Proof of `reaches`: what the time of each item may depend on under an order, by item.
 use Rattle.std.proofs.Common.{◌+◌, ap, ap₂, get_or, length, arith}
 use Rattle.cpg_base.specs.Graph.{process_count, item_count}
 use Rattle.cpg_base.proofs.Places.{length_order}

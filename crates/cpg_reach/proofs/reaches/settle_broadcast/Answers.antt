@@ -1,3 +1,4 @@
+-- Proof of `settle_broadcast`: finds the reach of the broadcast of a process's condition, if it has one.
 use Rattle.std.proofs.Common.{◌+◌, ◌*◌, ◌≡◌, ◌∙◌, sym, ap, ap₂, set, length, arith}
 use Rattle.cpg_base.specs.Graph.{broadcast_item}
 use Rattle.cpg_base.specs.Order.{place}

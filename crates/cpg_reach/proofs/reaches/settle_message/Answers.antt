@@ -1,3 +1,4 @@
+-- Proof of `settle_message`: finds the reach of the message of an edge, if the edge comes from the process.
 use Rattle.std.proofs.Common.{◌+◌, ◌*◌, ◌≡◌, ◌∙◌, sym, ap, set, get_or, length, arith}
 use Rattle.cpg_base.specs.Graph.{message_item, edge_at}
 use Rattle.cpg_base.specs.Order.{place}

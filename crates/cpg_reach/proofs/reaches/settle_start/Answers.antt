@@ -1,3 +1,4 @@
+-- Proof of `settle_start`: finds the reach of the start of a process.
 use Rattle.std.proofs.Common.{◌*◌, ◌∙◌, ap, length, arith}
 use Rattle.cpg_base.specs.Order.{place}
 use Rattle.cpg_order.proofs.Moments.{phases}

@@ -1,3 +1,5 @@
+-- Proof of `broadcast_of`: what the send of a broadcast depends on, if it is known what its node has sent before it;
+-- nothing if there is one node.
 use Rattle.std.proofs.Common.{ap, length, arith}
 use Rattle.cpg_base.specs.declared.item.Item.TheVariants.{Broadcast}
 use Rattle.cpg_base.proofs.Items.{process_of_below}

@@ -1,3 +1,5 @@
+-- Proof of `message_of`: what the send of a message depends on, if it is known what its node has sent before it;
+-- nothing for an edge within a node.
 use Rattle.std.proofs.Common.{◌≡◌, ◌<◌, ◌++◌, [], sym, ap, ◌∙◌, get_or, arith, true, false}
 use Rattle.cpg_base.specs.Graph.{process_count, edge_at, node_of, source, target}
 use Rattle.cpg_base.specs.declared.item.Item.TheVariants.{Message}
@@ -24,6 +26,7 @@ pub returns : goal.returns
 returns c =
     let at : get_or c.edges.result.now c.args.edge no_edge ≡ edge_at c.args.problem.now c.args.edge =
     ap (λ es. get_or es c.args.edge no_edge) c.edges.ensures.edges in
+    -- the edge is between two nodes, and its source is a process of the graph
     let other : node_of c.args.problem.now (source c.args.problem.now c.args.edge)
     ≡ node_of c.args.problem.now (target c.args.problem.now c.args.edge) → ⊥ = λ e. c.if-node-node_of.false
     (c.node_of-node.ensures.node ∙ ap (λ e. node_of c.args.problem.now e.from) at ∙ e
@@ -32,6 +35,7 @@ returns c =
     (c.edges.ensures.within.edges c.args.edge no_edge c.requires.edge).from in
     let from = ap (λ e. e.from) at in
     elim c.if-ends.branch [
+      -- the message is frozen: it depends on what decides its source
       | then-ends w ↦ message_sent c.args.problem.now c.args.reaches.now c.args.sent.now c.args.edge true
           c.if-ends.reach c.add_source_value.new.reach other
           (ap (λ e. e.frozen) (sym at) ∙ w.if-ends.true)
@@ -41,6 +45,7 @@ returns c =
           ∙ ap (λ e. get_or c.args.deciding.now e.from []) at)
           ∙ c.requires.deciding.each (source c.args.problem.now c.args.edge) inside v)
           c.add_source_value.ensures
+      -- it isn't frozen: it depends on the source's end and on what the node has sent
       | else-ends w ↦ message_sent c.args.problem.now c.args.reaches.now c.args.sent.now c.args.edge false
           c.if-ends.reach c.add_source_value.new.reach other
           (ap (λ e. e.frozen) (sym at) ∙ w.if-ends.false)

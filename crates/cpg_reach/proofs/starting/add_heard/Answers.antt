@@ -1,3 +1,5 @@
+-- Proof of `add_heard`: adds the values that decide a process, and what the moments of hearing them on a node depend
+-- on.
 use Rattle.std.proofs.Common.{◌≡◌, ◌∷◌, ◌∙◌, [], sym, ap, subst, filter, get_or, arith}
 use Rattle.cpg_base.specs.Numbers.{numbers_below}
 use Rattle.cpg_base.specs.Graph.{condition_count, value_variable}
@@ -15,6 +17,7 @@ loop-condition-preserved c =
     set_at c.args.deciding.now c.args.process c.index-deciding-process.result
     (omega (arith, c.requires.deciding.count, c.requires.process)) c.index-deciding-process.is in
     elim c.if-has.branch [
+      -- the condition decides the process: its value is added, and what hearing it depends on
       | then-has w ↦ λ v. ap (λ xs. is_in xs v) w.reach-is
           ∙ loop_takes (λ d. value_variable d ∷ hearing_reach c.args.problem.now c.args.reaches.now c.args.node d)
           (λ d. is_in (get_or c.args.deciding.now c.args.process []) (value_variable d))
@@ -24,6 +27,7 @@ loop-condition-preserved c =
           (adds_two c.loop-condition.reach (value_variable c.loop-condition.condition ∷ []) w.insert.new.self
           (hearing_reach c.args.problem.now c.args.reaches.now c.args.node c.loop-condition.condition)
           w.add_hearing.new.reach w.insert.ensures w.add_hearing.ensures) v
+      -- it doesn't: nothing is added
       | else-has w ↦ λ v. ap (λ xs. is_in xs v) w.reach-is
           ∙ loop_skips (λ d. value_variable d ∷ hearing_reach c.args.problem.now c.args.reaches.now c.args.node d)
           (λ d. is_in (get_or c.args.deciding.now c.args.process []) (value_variable d))

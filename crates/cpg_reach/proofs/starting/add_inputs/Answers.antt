@@ -1,3 +1,4 @@
+-- Proof of `add_inputs`: adds what the moments at which the inputs of a process are there depend on.
 use Rattle.std.proofs.Common.{◌≡◌, ◌==◌, ◌∙◌, sym, ap, get_or, eq-eqb}
 use Rattle.std.proofs.lemmas.Bool.{ne_eqb}
 use Rattle.cpg_base.specs.Graph.{target, edge_at}

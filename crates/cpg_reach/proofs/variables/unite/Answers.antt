@@ -1,3 +1,4 @@
+-- Proof of `unite`: marks all that the others mark.
 use Rattle.std.proofs.Common.{arith, rules}
 use Rattle.cpg_reach.proofs.Members.{united_first, united_next, united_all}
 use Rattle.cpg_reach.proofs.variables.unite.Goals as goal

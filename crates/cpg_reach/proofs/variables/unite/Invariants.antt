@@ -1,3 +1,4 @@
+-- Loops of `unite`: marks all that the others mark.
 use Rattle.cpg_reach.proofs.Members.{United}
 use Rattle.cpg_reach.proofs.variables.unite.Given as goal
 

@@ -1,3 +1,4 @@
+-- Proof of `ways_of`: for each number of counts up to 128, the ways to add up to at most the fault number.
 use Rattle.cpg_reach.proofs.Raising.{ways_first}
 use Rattle.cpg_reach.proofs.ways.ways_of.Goals as goal
 

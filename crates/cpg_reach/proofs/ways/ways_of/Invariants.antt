@@ -1,3 +1,4 @@
+-- Loops of `ways_of`: for each number of counts up to 128, the ways to add up to at most the fault number.
 use Rattle.cpg_reach.specs.WaysTable.{AreWays}
 use Rattle.cpg_reach.proofs.ways.ways_of.Given as goal
 

@@ -1,3 +1,5 @@
+-- Proof of `too_wide`: the least item that is too wide under an order, and `None` exactly if there is none: its views
+-- are more than 16,384, or the loads of the items up to it are together more than 524,288.
 use Rattle.std.proofs.Common.{◌∙◌, sym, ap, arith}
 use Rattle.cpg_base.specs.Graph.{process_count}
 use Rattle.cpg_base.proofs.Places.{length_order}

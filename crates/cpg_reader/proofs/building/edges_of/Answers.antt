@@ -1,3 +1,4 @@
+-- Proof of `edges_of`: the edges of a document.
 use Rattle.std.proofs.Common.{◌≤◌}
 use Rattle.cpg_reader.specs.Shape.{raw_view}
 use Rattle.cpg_base.specs.Natural.{natural}

@@ -1,3 +1,4 @@
+-- Proof of `faults_of`: how many faults the graph may have.
 use Rattle.std.proofs.Common.{◌≡◌, arith, rules}
 use Rattle.cpg_reader.specs.Shape.{raw_view}
 use Rattle.cpg_base.specs.Natural.{natural}

@@ -1,3 +1,4 @@
+-- Proof of `problem_of`: the graph of a document that is within the limits.
 use Rattle.std.proofs.Common.{◌≡◌, length, rules}
 use Rattle.cpg_base.specs.Limits.{IsOrderWithin}
 use Rattle.cpg_base.specs.Natural.{natural}

@@ -1,3 +1,4 @@
+-- Loops of `processes_of`: the processes of a document.
 use Rattle.std.proofs.Common.{◌≡◌, drop}
 use Rattle.cpg_reader.specs.Reading.{each}
 use Rattle.cpg_reader.specs.Names.{process_of}

@@ -1,3 +1,4 @@
+-- Loops of `slots_of`: the slots of a document.
 use Rattle.std.proofs.Common.{◌≡◌, drop}
 use Rattle.cpg_reader.specs.Reading.{each}
 use Rattle.cpg_reader.specs.Names.{slot_of}

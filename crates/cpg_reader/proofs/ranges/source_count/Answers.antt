@@ -1,3 +1,4 @@
+-- Proof of `source_count`: how many different sources the conditional edges have.
 use Rattle.std.proofs.Common.{◌∙◌, sym}
 use Rattle.cpg_reader.proofs.Texts.{more_sources, same_sources}
 use Rattle.cpg_reader.proofs.ranges.source_count.Goals as goal

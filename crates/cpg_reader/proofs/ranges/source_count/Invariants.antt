@@ -1,3 +1,4 @@
+-- Loops of `source_count`: how many different sources the conditional edges have.
 use Rattle.std.proofs.Common.{◌≡◌, [], drop, map}
 use Rattle.cpg_reader.specs.Ranges.{different, sources}
 use Rattle.cpg_reader.proofs.ranges.source_count.Given as goal

@@ -1,3 +1,4 @@
+-- Proof of `read_problem`: reads the graph that the bytes of a graph file say.
 use Rattle.std.proofs.Common.{◌∙◌, sym}
 use Rattle.std.proofs.lemmas.Bool.{false≢true}
 use Rattle.cpg_reader.proofs.DocumentLaws.{problem_of-read, problem_of-refused, answer-is}

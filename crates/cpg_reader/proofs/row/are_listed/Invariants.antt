@@ -1,3 +1,4 @@
+-- Loops of `are_listed`: whether all keys of a table are among these.
 use Rattle.std.proofs.Common.{◌≡◌}
 use Rattle.toml.specs.View.{members_view}
 use Rattle.cpg_reader.specs.Rows.{are_listed}

@@ -1,3 +1,4 @@
+-- Proof of `names_in`: the elements of an array, or `None` if one isn't a name.
 use Rattle.std.proofs.Common.{◌∙◌, ap}
 use Rattle.toml.specs.View.{items_view}
 use Rattle.cpg_reader.specs.Rows.{items_as, as_name}

@@ -1,3 +1,4 @@
+-- Proof of `tables_in`: the elements of an array, or `None` if one isn't a table.
 use Rattle.std.proofs.Common.{◌∙◌, [], ◌∷◌, map, ap}
 use Rattle.std.proofs.lemmas.List.{map-append}
 use Rattle.toml.specs.Data.{as_table}

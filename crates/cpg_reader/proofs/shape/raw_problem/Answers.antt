@@ -1,3 +1,4 @@
+-- Proof of `raw_problem`: all that a document says.
 use Rattle.std.proofs.Common.{refl}
 use Rattle.std.proofs.lemmas.Result.{err_from_is_err_and}
 use Rattle.toml.specs.View.{table_view}

@@ -1,3 +1,4 @@
+-- Proof of `read_work`: the fields of a process besides its names, if its table has no other key.
 use Rattle.std.proofs.Common.{refl}
 use Rattle.std.proofs.lemmas.Result.{err_from_is_err_and}
 use Rattle.cpg_reader.proofs.Each.{Refuses-along}

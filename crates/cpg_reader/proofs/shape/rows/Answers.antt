@@ -1,3 +1,4 @@
+-- Proof of `rows`: the elements of a list.
 use Rattle.std.proofs.Common.{◌∙◌, sym}
 use Rattle.std.proofs.lemmas.Result.{err_from_is_err_and}
 use Rattle.toml.specs.Data.{Members}

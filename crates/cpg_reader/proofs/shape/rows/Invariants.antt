@@ -1,3 +1,4 @@
+-- Loops of `rows`: the elements of a list.
 use Rattle.std.proofs.Common.{◌≡◌, drop}
 use Rattle.toml.specs.View.{table_view}
 use Rattle.cpg_reader.specs.Reading.{each}

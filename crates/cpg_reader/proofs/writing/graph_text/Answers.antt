@@ -1,3 +1,5 @@
+-- Proof of `graph_text`: a text of a graph file that is read as the graph: its numbers and names, with each key that
+-- has a value.
 use Rattle.std.proofs.Common.{◌≡◌, ◌≤◌, Some, ap, ◌∙◌, sym, subst, string_bytes}
 use Rattle.std.proofs.lemmas.Str.{IsUtf8-string_bytes}
 use Rattle.toml.specs.Data.{members_depth}

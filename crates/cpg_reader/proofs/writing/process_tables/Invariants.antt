@@ -1,3 +1,4 @@
+-- Loops of `process_tables`: the tables of the processes.
 use Rattle.std.proofs.Common.{◌≡◌, take, map}
 use Rattle.std.specs.Prelude.{All}
 use Rattle.toml.specs.Data.{table}

@@ -1,3 +1,4 @@
+-- Proof of `with`: a table with a value at a key.
 use Rattle.std.proofs.Common.{◌∙◌, ap}
 use Rattle.toml.specs.View.{view, members_view}
 use Rattle.cpg_reader.specs.WrittenTree.{with_member}

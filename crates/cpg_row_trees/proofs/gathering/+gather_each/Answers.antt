@@ -1,3 +1,5 @@
+-- Proof of `gather_each`: adds the places that scenarios of a space come to, as long as there is one and a test
+-- passes at each; false if it stopped before the last.
 use Rattle.std.proofs.Common.{ℕ, ◌≡◌, ◌∙◌, Option, sym}
 use Rattle.std.proofs.lemmas.Bool.{OnTrue_at}
 use Rattle.cpg_base.specs.Scenario.{Scenario}
@@ -52,15 +54,18 @@ returns-else-not-high-clause-found g t c n are =
     let space : Space = c.args.space.now in
     let v = c.in-Cut.variable in
     let cut = c.in-Cut.cut in
+    -- the space below the cut, the one above it, and the space as it is opened again
     let under : Space = c.close_above-most.new.self in
     let over : Space = c.close_below-was.new.self in
     let again : Space = c.reopen_above.new.self in
     let some = c.gather_each-in-Cut.new.found.items in
     let all = c.gather_each-in-Cut-2.new.found.items in
+    -- the side below leaves its space as it was, so that what is opened again is the given space
     let same : c.gather_each-in-Cut.new.space ≡ under = OnTrue_at c.if-not-low.false c.in_ok-low-in-Cut.ensures.same in
     let back : again ≡ space = above_again space under c.gather_each-in-Cut.new.space again v same
     c.close_above-most.result c.reopen_above.ensures c.close_above-most.ensures.back in
     let goes_over = goes_again space again over v cut back c.close_below-was.ensures.lies in
+    -- the places of both sides pass, and those of the side below are still among all
     let low = OnTrue_at c.if-not-low.false c.in_ok-low-in-Cut.ensures.found shows.0 shows.2 in
     let high = OnTrue_at c.if-not-high.false c.in_ok-high-in-Cut.ensures.found shows.1 shows.3 in
     holds_fork (λ (x : Option ℕ) (s : Scenario). g.J.Test.guarantees c.args.test.now x s × IsAmong all x) space v cut

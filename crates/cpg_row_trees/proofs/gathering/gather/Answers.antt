@@ -1,3 +1,5 @@
+-- Proof of `gather`: adds the places that scenarios of a space come to, as long as there is one and a test passes at
+-- each; false if it stopped before the last.
 use Rattle.std.proofs.Common.{◌≡◌, ◌∙◌, Option, subst, sym, ℕ}
 use Rattle.cpg_tree.specs.TreeNode.{TreeNode, Leaf}
 use Rattle.cpg_tree.specs.Decision.{value_at}
@@ -15,6 +17,7 @@ returns-in_ok-there-in-Value-clause-found g c =
     (subst (λ (m : TreeNode (Option ℕ)). value_at m s ≡ value_at n s) (flat-same part.0 (Leaf c.in-Value.place)
     (sym part.1 ∙ c.in-Value.ensures.shows)) (part.2.same.value s lies)) (found s lies))
 
+-- the part of the tree that the space comes to has the places of its scenarios
 pub returns-in_ok-all-in-Cut-clause-found : goal.returns-in_ok-all-in-Cut-clause-found
 returns-in_ok-all-in-Cut-clause-found g c =
     of_true c.in_ok-all-in-Cut.all c.in_ok-all-in-Cut.ensures.found (λ found n are s lies.

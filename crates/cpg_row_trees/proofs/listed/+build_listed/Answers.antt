@@ -1,3 +1,5 @@
+-- Proof of `build_listed`: adds the tree for the scenarios of a space from the cube at a place on, unless there would
+-- be too many items, and answers the place behind its last cube.
 use Rattle.std.proofs.Common.{ℕ, arith, rules, refl, map, ap, take, Bor, List, Option, None, Some, ◌≡◌, ◌++◌, ◌∙◌, sym}
 use Rattle.std.proofs.Common.{subst}
 use Rattle.std.proofs.lemmas.Bool.{OnTrue_at}
@@ -40,9 +42,11 @@ build_listed_fork-build_listed_above-requires t c =
     let space : Space = c.args.space.now in
     let v = c.args.part.cut.variable in
     let cut = c.args.part.cut.most in
+    -- the space below the cut, the one above it, and the space as it is opened again
     let under : Space = c.close_above-most.new.self in
     let over : Space = c.close_below-was.new.self in
     let again : Space = c.reopen_above.new.self in
+    -- the side below leaves its space as it was, so that what is opened again is the given space
     let same : c.build_listed.new.space ≡ under = at_some (λ to. c.build_listed.new.space ≡ under) c.in_ok-below.below
     c.in-Some.border c.in-Some.is c.in_ok-below.ensures.same in
     let low =
@@ -52,6 +56,7 @@ build_listed_fork-build_listed_above-requires t c =
     c.reopen_above.ensures c.close_above-most.ensures.back in
     let is_over = over_again space again over v cut back c.close_below-was.ensures.is in
     let goes_over = goes_again space again over v cut back c.close_below-was.ensures.lies in (
+      -- fewer items are left, and the space above is known by its ranges and by its literals
       omega (arith, c.decreases, low.fewer),
       (
         ranges_over c.args.k space over v cut
@@ -70,9 +75,11 @@ build_listed_fork-returns t c =
     let cut = c.args.part.cut.most in
     let under : Space = c.close_above-most.new.self in
     let over : Space = c.close_below-was.new.self in
+    -- the space below the cut, the one above it, and the space as it is opened again
     let again : Space = c.reopen_above.new.self in
     let same : c.build_listed.new.space ≡ under = at_some (λ to. c.build_listed.new.space ≡ under) c.in_ok-below.below
     c.in-Some.border c.in-Some.is c.in_ok-below.ensures.same in
+    -- the side below has added its tree, and the space is opened again
     let low =
     at_some (λ to. AddsSliceTree cubes c.args.k under c.args.place to c.args.growth.now c.build_listed.new.growth)
     c.in_ok-below.below c.in-Some.border c.in-Some.is c.in_ok-below.ensures.added in
@@ -80,6 +87,7 @@ build_listed_fork-returns t c =
     c.reopen_above.ensures c.close_above-most.ensures.back in
     let is_over = over_again space again over v cut back c.close_below-was.ensures.is in
     let goes_over = goes_again space again over v cut back c.close_below-was.ensures.lies in
+    -- the side above has added its tree, behind that of the side below
     let new : TreeGrowth = record { items = c.fork_of.new.out; left = c.build_listed_above.new.growth.left } in
     let same_over : c.build_listed_above.new.space ≡ over = at_some (λ to. c.build_listed_above.new.space ≡ over)
     c.in_ok-above.above c.in-Some-above.to c.in-Some-above.is c.in_ok-above.ensures.same in
@@ -87,6 +95,7 @@ build_listed_fork-returns t c =
     AddsSliceTree cubes c.args.k over c.in-Some.border to c.build_listed.new.growth c.build_listed_above.new.growth)
     c.in_ok-above.above c.in-Some-above.to c.in-Some-above.is
     c.in_ok-above.ensures.added in
+    -- the tree is made of those of the sides, and the space is as before
     record {
       added = listed_parted cubes c.args.k space under over c.args.place c.in-Some.border c.in-Some-above.to v cut
           (search rules) c.see_lists-is_seen.ensures.lows c.see_lists-is_seen.ensures.highs

@@ -1,3 +1,5 @@
+-- Recursion of `build_listed`: adds the tree for the scenarios of a space from the cube at a place on, unless there
+-- would be too many items, and answers the place behind its last cube.
 use Rattle.std.proofs.Common.{◌+◌, ◌*◌}
 use Rattle.cpg_row_trees.proofs.listed.+build_listed.Given as goal
 
@@ -6,8 +8,10 @@ use Rattle.cpg_row_trees.proofs.listed.+build_listed.Given as goal
 abbrev pub decreases-build_listed_fork : goal.decreases-build_listed_fork
 decreases-build_listed_fork l = 3 * l.growth.now.left + 2
 
+-- it calls `build_listed` with the same number of items left
 abbrev pub decreases-build_listed_above : goal.decreases-build_listed_above
 decreases-build_listed_above l = 3 * l.growth.now.left + 1
 
+-- it calls `build_listed_fork` with fewer items left
 abbrev pub decreases-build_listed : goal.decreases-build_listed
 decreases-build_listed l = 3 * l.growth.now.left

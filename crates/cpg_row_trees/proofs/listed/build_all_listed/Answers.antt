@@ -1,3 +1,5 @@
+-- Proof of `build_all_listed`: adds the tree of all cubes for all scenarios of at most `k` faults; whether there is
+-- one.
 use Rattle.std.proofs.Common.{ℕ, arith, map, take, Bor, List, ◌∙◌, sym, subst}
 use Rattle.cpg_cube.specs.declared.literal.Literal.{Literal}
 use Rattle.cpg_row_trees.specs.Listed.{IsOwnOn}

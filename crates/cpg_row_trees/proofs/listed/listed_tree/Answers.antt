@@ -1,3 +1,5 @@
+-- Proof of `listed_tree`: the tree of the places of cubes that were read off it, in the scenarios of at most `k`
+-- faults and with at most this many items.
 use Rattle.std.proofs.Common.{ℕ, ◌∙◌, arith, map, Bor, List, Option, subst, sym, ap, length}
 use Rattle.std.proofs.lemmas.Bool.{OnTrue_at}
 use Rattle.std.proofs.lemmas.List.{length-map}
@@ -9,6 +11,7 @@ use Rattle.cpg_row_trees.proofs.SliceLaws.{whole_own, is_place_of_match}
 use Rattle.cpg_row_trees.proofs.PlacesSeen.{place_is}
 use Rattle.cpg_row_trees.proofs.listed.listed_tree.Goals as goal
 
+-- the space is the whole: all scenarios of few faults lie in it, and it takes no literal to say so
 pub build_all_listed-requires : goal.build_all_listed-requires
 build_all_listed-requires c = record {
   ranges = λ s few in_side. c.whole-space.ensures.lies s few;

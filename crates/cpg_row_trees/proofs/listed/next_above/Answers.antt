@@ -1,3 +1,5 @@
+-- Proof of `next_above`: the literals of the cube at a place, if it is above a cut, and says before it what the one
+-- at another place does.
 use Rattle.std.proofs.Common.{take, List, ◌∙◌, ap, sym}
 use Rattle.cpg_cube.specs.declared.literal.Literal.{Literal}
 use Rattle.cpg_tree.proofs.Passes.{of_true}

@@ -1,3 +1,4 @@
+-- Proof of `step_of`: what a literal is in a space.
 use Rattle.std.proofs.Common.{arith, rules}
 use Rattle.cpg_cube.proofs.CubeLows.{holds-from}
 use Rattle.cpg_tree.proofs.Forks.{from_false}

@@ -1,3 +1,5 @@
+-- Proof of `build_place_tree`: adds the tree of these places for the scenarios of a space, unless there would be too
+-- many items; false if there is none: then two cubes may match together, or there would be more items.
 use Rattle.std.proofs.Common.{ℕ, map, Bor, List, Option, subst, sym, ap, refl, arith, ◌≡◌, ◌≤◌, ◌<◌, ◌++◌, ◌∙◌}
 use Rattle.std.proofs.lemmas.Bool.{OnTrue_at}
 use Rattle.cpg_base.specs.Scenario.{number_of}
@@ -14,13 +16,16 @@ use Rattle.cpg_row_trees.proofs.SliceLaws.{above_again, below_again, goes_again}
 use Rattle.cpg_row_trees.proofs.PlaceHintLaws.{place_tree_parted, place_tree_leaf}
 use Rattle.cpg_row_trees.proofs.places.+build_place_tree.Goals as goal
 
+-- the cut is one that the space has open
 pub build_forked_places-parted-requires : goal.build_forked_places-parted-requires
 build_forked_places-parted-requires t c =
     subst (λ (x : PlaceCut). IsOpenCut c.args.space.now x.variable x.most) (sym c.span_of-span.ensures) c.requires
 
+-- fewer items are left for the side below the fork
 pub build_forked_places-build_place_tree-requires : goal.build_forked_places-build_place_tree-requires
 build_forked_places-build_place_tree-requires t c = omega (arith, c.decreases, c.left_after-growth.ensures)
 
+-- no more items are left for the side above the fork, behind the side below
 pub build_forked_places-build_place_tree-requires-2 : goal.build_forked_places-build_place_tree-requires-2
 build_forked_places-build_place_tree-requires-2 t c =
     let below = OnTrue_at c.if-not-has_below.false c.in_ok-has_below.ensures.added in
@@ -33,14 +38,17 @@ build_forked_places-returns t c =
     let kept : c.parted.new.space ≡ space = c.in_ok-sides.ensures.same in
     let v = c.args.cut.variable in
     let cut = c.args.cut.most in
+    -- the space below the cut, the one above it, and the space as it is opened again
     let under : Space = c.close_above-most.new.self in
     let over : Space = c.close_below-was.new.self in
     let again : Space = c.reopen_above.new.self in
+    -- the side below leaves its space as it was, so that what is opened again is the given space
     let same : c.build_place_tree.new.space ≡ under =
     OnTrue_at c.if-not-has_below.false c.in_ok-has_below.ensures.same in
     let back : again ≡ space = above_again space under c.build_place_tree.new.space again v same
     c.close_above-most.result c.reopen_above.ensures (c.close_above-most.ensures.back ∙ kept) in
     let goes_over = goes_again space again over v cut back c.close_below-was.ensures.lies in
+    -- the places that are kept for the sides: those of all that some scenario there may match
     let cubes : List (List Literal) = map (λ (b : Bor (List Literal)). b.now) c.args.cubes.now in
     let low = places_of c.in_ok-sides.sides.low.items in
     let high = places_of c.in_ok-sides.sides.high.items in
@@ -56,6 +64,7 @@ build_forked_places-returns t c =
     subst (λ (x : PlaceCut). KeepsWhere cubes (λ s. IsInSpace space s × (x.most < number_of s x.variable)) all high)
     c.span_of-span.ensures
     (rw c.as_slice.ensures.value at c.in_ok-sides.ensures.high) in
+    -- the tree is made of those of the sides, and the space is opened again after the second
     record {
       added = place_tree_parted cubes space under over all low high v cut c.len-start.result c.len-middle.result
           c.args.growth.now rest c.build_place_tree.new.growth

@@ -1,3 +1,5 @@
+-- Proof of `admit`: adds a place, unless there are too few faults for its cube in the space of all scenarios of at
+-- most `k`.
 use Rattle.std.proofs.Common.{◌≡◌, true, refl, sym, subst, map, Bor, List}
 use Rattle.std.proofs.lemmas.Bool.{both_ways}
 use Rattle.cpg_base.specs.Scenario.{Scenario}

@@ -1,3 +1,5 @@
+-- Proof of `hints_of`: the places whose cubes some scenario of the space of all scenarios of at most `k` faults may
+-- match.
 use Rattle.std.proofs.Common.{map, sym, subst, Bor, List, ℕ, arith}
 use Rattle.std.proofs.lemmas.List.{length-map}
 use Rattle.cpg_base.specs.Numbers.{numbers_below}
@@ -8,6 +10,7 @@ use Rattle.cpg_row_trees.specs.PlaceHints.{KeepsWhere, places_of}
 use Rattle.cpg_row_trees.proofs.PlaceHintLaws.{keeps_none, keeps_one}
 use Rattle.cpg_row_trees.proofs.places.hints_of.Goals as goal
 
+-- before the first place there is none to keep
 pub loop-place-init : goal.loop-place-init
 loop-place-init c = keeps_none (map (λ (b : Bor (List Literal)). b.now) c.args.cubes.now) (IsInSpace c.args.space.now)
     (places_of c.in_ok-hints.hints.items)
@@ -21,6 +24,7 @@ loop-place-preserved c =
     (keeps_one cubes (IsInSpace c.args.space.now) c.loop-place.place (numbers_below c.loop-place.place)
     c.loop-place.hints.items c.admit.new.hints.items c.in_ok-admit.ensures c.loop-place.invariant)
 
+-- all places have been gone through, so each that a scenario may match is kept
 pub returns : goal.returns
 returns c s i lies m = c.loop-place.invariant s i lies (Contains-numbers _ i (omega
     (arith, m.there, c.loop-place-test.false, length-map c.args.cubes.now (λ (b : Bor (List Literal)). b.now)))) m

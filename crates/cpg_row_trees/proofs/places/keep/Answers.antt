@@ -1,3 +1,4 @@
+-- Proof of `keep`: adds a place to the sides of a fork that have scenarios which match its cube.
 use Rattle.std.proofs.Common.{◌≡◌, ◌≤◌, ◌<◌, true, sym, subst, map, Bor, List}
 use Rattle.cpg_base.specs.Scenario.{number_of}
 use Rattle.cpg_cube.specs.declared.literal.Literal.{Literal}

@@ -1,3 +1,5 @@
+-- Proof of `keep_above`: adds a place as it stands above a cut, unless the variable's range ends at the cut or
+-- before, or there are too few faults left.
 use Rattle.std.proofs.Common.{arith, ◌≡◌, ◌<◌, true, refl, sym, subst, List}
 use Rattle.std.proofs.lemmas.Bool.{both_ways}
 use Rattle.cpg_base.specs.Scenario.{Scenario, number_of}

@@ -1,3 +1,4 @@
+-- Proof of `keep_below`: adds a place as it stands up to a cut, unless the variable's range is above the cut.
 use Rattle.std.proofs.Common.{arith, ◌≤◌, refl, sym, subst, List}
 use Rattle.cpg_base.specs.Scenario.{Scenario, number_of}
 use Rattle.cpg_row_trees.specs.declared.places.PlaceHint.{PlaceHint}
@@ -5,6 +6,7 @@ use Rattle.cpg_row_trees.specs.PlaceHints.{KeepsPlace}
 use Rattle.cpg_row_trees.proofs.PlaceHintLaws.{kept_out, kept_in}
 use Rattle.cpg_row_trees.proofs.places.keep_below.Goals as goal
 
+-- a range above the cut has no number up to it, so the place may be left out
 pub returns-then-range-span : goal.returns-then-range-span
 returns-then-range-span c =
     let v = c.args.span.cut.variable in

@@ -1,3 +1,4 @@
+-- Proof of `parted`: the places whose cubes some scenario of each side of a fork may match.
 use Rattle.std.proofs.Common.{map, refl, sym, subst, Bor, List, get_or, ◌≤◌, ◌<◌, ◌∙◌}
 use Rattle.std.proofs.lemmas.List.{take_all}
 use Rattle.cpg_base.specs.Scenario.{number_of}
@@ -43,10 +44,12 @@ loop-hint-preserved c =
       same = c.in_ok-keep.ensures.same ∙ c.loop-hint.invariant.same;
     }
 
+-- the space is the one that was given, so the cut is open in it
 pub keep-requires : goal.keep-requires
 keep-requires c = subst (λ (r : Space). IsOpenCut r c.args.span.cut.variable c.args.span.cut.most)
     (sym c.loop-hint.invariant.same) c.requires
 
+-- the places for the side below
 pub returns-clause-low : goal.returns-clause-low
 returns-clause-low c =
     let cubes : List (List Literal) = map (λ (b : Bor (List Literal)). b.now) c.args.cubes.now in

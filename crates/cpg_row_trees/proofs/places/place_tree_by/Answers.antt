@@ -1,3 +1,5 @@
+-- Proof of `place_tree_by`: the tree of places of cubes in any order, in the scenarios of at most `k` faults and with
+-- at most this many items, by forks that a tally chooses.
 use Rattle.std.proofs.Common.{ℕ, ◌∙◌, map, Bor, List, Option, sym, subst, ap}
 use Rattle.std.proofs.lemmas.Bool.{OnTrue_at}
 use Rattle.cpg_cube.specs.declared.literal.Literal.{Literal}

@@ -1,3 +1,4 @@
+-- Proof of `places_top`: the top of the tree of some places for the scenarios of a space.
 use Rattle.std.proofs.Common.{◌≡◌, true, sym, ◌∙◌, subst}
 use Rattle.cpg_cube.specs.Cube.{matches}
 use Rattle.cpg_tree.proofs.Forks.{from_true}

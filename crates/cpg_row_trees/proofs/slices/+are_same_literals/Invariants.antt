@@ -1,3 +1,4 @@
+-- Recursion of `are_same_literals`: whether literals are the same.
 use Rattle.std.proofs.Common.{length}
 use Rattle.cpg_row_trees.proofs.slices.+are_same_literals.Given as goal
 

@@ -1,3 +1,5 @@
+-- Proof of `build_slice_tree`: adds the tree of a slice for the scenarios of a space, which are those that the
+-- literals of a path match, unless there would be too many items.
 use Rattle.std.proofs.Common.{ℕ, arith, rules, refl, map, ap, length, Bor, List, Option, ◌≡◌, ◌++◌, ◌∙◌, ◌&&◌}
 use Rattle.std.proofs.lemmas.Bool.{OnTrue_at}
 use Rattle.cpg_cube.specs.declared.literal.Literal.{Literal}
@@ -36,9 +38,11 @@ build_forked_slice-build_slice_tree-requires-2 t c =
     let space : Space = c.args.space.now in
     let v = c.args.part.cut.variable in
     let cut = c.args.part.cut.most in
+    -- the space below the cut, the one above it, and the space as it is opened again
     let under : Space = c.close_above-most.new.self in
     let over : Space = c.close_below-was.new.self in
     let again : Space = c.reopen_above.new.self in
+    -- the side below leaves its space as it was, so that what is opened again is the given space
     let same : c.build_slice_tree.new.space ≡ under =
     OnTrue_at c.if-not-has_below.false c.in_ok-has_below.ensures.same in
     let back : again ≡ space = above_again space under c.build_slice_tree.new.space again v same
@@ -46,10 +50,12 @@ build_forked_slice-build_slice_tree-requires-2 t c =
     let is_over = over_again space again over v cut back c.close_below-was.ensures.is in
     let goes_over = goes_again space again over v cut back c.close_below-was.ensures.lies in
     let below = OnTrue_at c.if-not-has_below.false c.in_ok-has_below.ensures.added in
+    -- the path is left as it was entered
     let same_path : c.build_slice_tree.new.path.items ≡ c.enter.new.path.items =
     OnTrue_at c.if-not-has_below.false c.in_ok-has_below.ensures.path in
     let left : c.leave.new.path.items ≡ c.args.path.now.items =
     c.leave.ensures ∙ ap (left_by c.in_ok-under.under) same_path ∙ c.in_ok-under.ensures.back in (
+      -- fewer items are left; the scenarios of the space above, by its literals and by its ranges
       omega (arith, c.decreases, below.fewer),
       (
         over_reached c.args.k space over v cut c.args.slice.narrow c.in-Some.narrow (search rules)
@@ -69,9 +75,11 @@ build_forked_slice-returns t c =
     let space : Space = c.args.space.now in
     let v = c.args.part.cut.variable in
     let cut = c.args.part.cut.most in
+    -- the space below the cut, the one above it, and the space as it is opened again
     let under : Space = c.close_above-most.new.self in
     let over : Space = c.close_below-was.new.self in
     let again : Space = c.reopen_above.new.self in
+    -- each side leaves its space as it was, so that what is opened again is the given space
     let same : c.build_slice_tree.new.space ≡ under =
     OnTrue_at c.if-not-has_below.false c.in_ok-has_below.ensures.same in
     let back : again ≡ space = above_again space under c.build_slice_tree.new.space again v same
@@ -82,12 +90,14 @@ build_forked_slice-returns t c =
     let new : TreeGrowth = record { items = c.fork_of.new.out; left = c.build_slice_tree-2.new.growth.left } in
     let same_over : c.build_slice_tree-2.new.space ≡ over =
     OnTrue_at c.if-not-has_above.false c.in_ok-has_above.ensures.same in
+    -- and each leaves the path as it was entered
     let same_path : c.build_slice_tree.new.path.items ≡ c.enter.new.path.items =
     OnTrue_at c.if-not-has_below.false c.in_ok-has_below.ensures.path in
     let left : c.leave.new.path.items ≡ c.args.path.now.items =
     c.leave.ensures ∙ ap (left_by c.in_ok-under.under) same_path ∙ c.in_ok-under.ensures.back in
     let same_above : c.build_slice_tree-2.new.path.items ≡ c.enter-2.new.path.items =
     OnTrue_at c.if-not-has_above.false c.in_ok-has_above.ensures.path in
+    -- the tree is made of those of the sides; path and space are as before
     record {
       added = slice_tree_parted cubes c.args.k space under over c.args.slice.from c.border_of-border.result
           c.args.slice.to v cut c.args.slice.narrow c.in-Some.narrow
@@ -105,12 +115,14 @@ build_forked_slice-returns t c =
           c.close_below-was.result c.reopen_below.ensures c.close_below-was.ensures.back ∙ back;
     }
 
+-- below the fork the path is left as it was entered
 pub build_forked_slice-leave-requires : goal.build_forked_slice-leave-requires
 build_forked_slice-leave-requires t c =
     let same_path : c.build_slice_tree.new.path.items ≡ c.enter.new.path.items =
     OnTrue_at c.if-not-has_below.false c.in_ok-has_below.ensures.path in
     omega (arith, ap (λ (ls : List Literal). length ls) same_path, c.in_ok-under.ensures.some)
 
+-- above the fork the path is left as it was entered
 pub build_forked_slice-leave-requires-2 : goal.build_forked_slice-leave-requires-2
 build_forked_slice-leave-requires-2 t c =
     let same_above : c.build_slice_tree-2.new.path.items ≡ c.enter-2.new.path.items =

@@ -1,3 +1,5 @@
+-- Loops of `around_border`: where in a slice the first place has to be from which on all cubes ask for a number above
+-- a cut, if those that do are the last: from a place up to another.
 use Rattle.std.proofs.Common.{◌-◌, ◌≤◌}
 use Rattle.cpg_row_trees.proofs.slices.around_border.Given as goal
 
@@ -5,5 +7,6 @@ use Rattle.cpg_row_trees.proofs.slices.around_border.Given as goal
 abbrev pub invariant-loop-end : goal.invariant-loop-end
 invariant-loop-end l = 1 ≤ l.step
 
+-- the end of the search comes nearer to the start of the slice
 abbrev pub decreases-loop-end : goal.decreases-loop-end
 decreases-loop-end l = l.end - l.slice.from

@@ -1,3 +1,5 @@
+-- Proof of `bounds_of`: how many of the literals are on narrow variables, if each of them holds in the whole space
+-- and none goes beyond it.
 use Rattle.std.proofs.Common.{arith}
 use Rattle.cpg_tree.proofs.Forks.{from_true}
 use Rattle.cpg_row_trees.proofs.SliceLaws.{bounds_more}

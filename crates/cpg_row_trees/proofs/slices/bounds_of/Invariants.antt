@@ -1,3 +1,5 @@
+-- Loops of `bounds_of`: how many of the literals are on narrow variables, if each of them holds in the whole space
+-- and none goes beyond it.
 use Rattle.std.proofs.Common.{take}
 use Rattle.cpg_row_trees.specs.Slices.{AreSpaceBounds}
 use Rattle.cpg_row_trees.proofs.slices.bounds_of.Given as goal

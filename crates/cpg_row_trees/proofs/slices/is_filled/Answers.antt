@@ -1,9 +1,11 @@
+-- Proof of `is_filled`: whether all numbers in range are a literal's.
 use Rattle.std.proofs.Common.{arith, rules}
 use Rattle.std.specs.Prelude.{nat_le, get_or}
 use Rattle.std.proofs.lemmas.Bool.{OnTrue_from, leb-true}
 use Rattle.cpg_cube.proofs.CubeLows.{holds-from}
 use Rattle.cpg_row_trees.proofs.slices.is_filled.Goals as goal
 
+-- the literal allows all numbers from the low of the space to its high
 pub returns : goal.returns
 returns c =
     let l = c.args.literal.now in

@@ -1,3 +1,4 @@
+-- Proof of `is_their_own`: whether the scenarios of a space are those of at most `k` faults that literals match.
 use Rattle.std.proofs.Common.{Option, ℕ, subst}
 use Rattle.std.specs.Prelude.{IfSome, nat_le}
 use Rattle.std.proofs.lemmas.Bool.{OnTrue_from, leb-true}

@@ -1,3 +1,5 @@
+-- Proof of `slice_top`: the top of the tree of a slice for the scenarios of a space, which are those that the
+-- literals of a path match.
 use Rattle.std.proofs.Common.{arith, sym, ◌∙◌, subst, map, Bor, List}
 use Rattle.cpg_cube.specs.Cube.{IsRising}
 use Rattle.cpg_cube.specs.declared.literal.Literal.{Literal}
@@ -7,6 +9,7 @@ use Rattle.cpg_row_trees.proofs.PlaceHintLaws.{cube_here, within_lent}
 use Rattle.cpg_row_trees.proofs.SliceLaws.{finds_here}
 use Rattle.cpg_row_trees.proofs.slices.slice_top.Goals as goal
 
+-- the literals of a cube are by rising variables
 pub is_their_own-requires-clause-rising : goal.is_their_own-requires-clause-rising
 is_their_own-requires-clause-rising c =
     subst IsRising (sym c.literals-literals.ensures.literals) c.literals-literals.ensures.rising

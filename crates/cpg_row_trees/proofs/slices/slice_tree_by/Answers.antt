@@ -1,3 +1,5 @@
+-- Proof of `slice_tree_by`: the tree of the places of cubes that stand as a tree lists them, in the scenarios of at
+-- most `k` faults and with at most this many items, if the slices are found in one way.
 use Rattle.std.proofs.Common.{ℕ, ◌∙◌, arith, map, Bor, List, Option, subst, sym, ap, length}
 use Rattle.std.proofs.lemmas.Bool.{OnTrue_at}
 use Rattle.std.proofs.lemmas.List.{length-map}
@@ -10,6 +12,7 @@ use Rattle.cpg_row_trees.proofs.SliceLaws.{whole_reached, whole_own, is_place_of
 use Rattle.cpg_row_trees.proofs.PlacesSeen.{place_is}
 use Rattle.cpg_row_trees.proofs.slices.slice_tree_by.Goals as goal
 
+-- the space is the whole, which the empty path of literals describes
 pub build_slice_tree-requires : goal.build_slice_tree-requires
 build_slice_tree-requires c = record {
   reached = whole_reached c.args.k c.whole-space.result c.whole-space.ensures.is c.whole-space.ensures.lies;

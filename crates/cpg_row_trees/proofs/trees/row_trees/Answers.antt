@@ -1,7 +1,10 @@
+-- Proof of `row_trees`: for each item the tree of its row, if one is found: for each scenario the place of the one
+-- column that matches.
 use Rattle.std.proofs.Common.{arith, ap, length}
 use Rattle.cpg_table.proofs.RowColumns.{columns_few}
 use Rattle.cpg_row_trees.proofs.trees.row_trees.Goals as goal
 
+-- a row of lawful tables has no more columns than `tree_of` takes
 pub tree_of-requires : goal.tree_of-requires
 tree_of-requires c = omega (
   arith,

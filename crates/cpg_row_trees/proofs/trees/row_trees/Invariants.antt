@@ -1,3 +1,5 @@
+-- Loops of `row_trees`: for each item the tree of its row, if one is found: for each scenario the place of the one
+-- column that matches.
 use Rattle.cpg_row_trees.specs.Trees.{AreFirstTrees}
 use Rattle.cpg_row_trees.proofs.trees.row_trees.Given as goal
 

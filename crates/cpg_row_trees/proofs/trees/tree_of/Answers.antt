@@ -1,9 +1,12 @@
+-- Proof of `tree_of`: the tree of columns, if they have one: not if two columns may match together, or if it would be
+-- too large.
 use Rattle.std.proofs.Common.{◌≡◌, ◌∙◌, Bor, List, map, arith, ap}
 use Rattle.cpg_cube.specs.declared.literal.Literal.{Literal}
 use Rattle.cpg_cube.specs.declared.column.Column.{Column}
 use Rattle.cpg_row_trees.proofs.TreeLaws.{as_long, row_tree_of}
 use Rattle.cpg_row_trees.proofs.trees.tree_of.Goals as goal
 
+-- the cubes are those of the columns
 pub of-requires : goal.of-requires
 of-requires c =
     let same : map (λ (b : Bor (List Literal)). b.now) c.as_slice.result.now

@@ -1,3 +1,4 @@
+-- Proof of `do_pass`: whether a test passes at each place that scenarios of a space come to.
 use Rattle.std.proofs.Common.{ℕ, ◌∙◌, Option, sym}
 use Rattle.cpg_base.specs.Scenario.{Scenario}
 use Rattle.cpg_tree.specs.TreeNode.{Leaf, Fork}
@@ -7,6 +8,7 @@ use Rattle.cpg_tree.proofs.Passes.{of_true}
 use Rattle.cpg_row_trees.proofs.Passes.{holds_leaf, holds_above, holds_below}
 use Rattle.cpg_row_trees.proofs.walk.+do_pass.Goals as goal
 
+-- a leaf: the test has passed at its place, to which each scenario of the space comes
 pub returns-in-Value : goal.returns-in-Value
 returns-in-Value g t c =
     of_true c.passes.result c.passes.ensures

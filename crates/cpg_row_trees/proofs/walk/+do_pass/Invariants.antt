@@ -1,3 +1,4 @@
+-- Recursion of `do_pass`: whether a test passes at each place that scenarios of a space come to.
 use Rattle.std.proofs.Common.{length}
 use Rattle.cpg_row_trees.proofs.walk.+do_pass.Given as goal
 

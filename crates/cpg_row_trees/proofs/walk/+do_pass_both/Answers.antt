@@ -1,3 +1,4 @@
+-- Proof of `do_pass_both`: whether a test passes at each two places that scenarios of a space come to in two trees.
 use Rattle.std.proofs.Common.{ℕ, ◌≡◌, ◌∙◌, Option, sym}
 use Rattle.cpg_base.specs.Scenario.{Scenario}
 use Rattle.cpg_tree.specs.TreeNode.{Leaf, Fork}
@@ -60,18 +61,22 @@ do_pass_both-returns-else-not-do_pass_beside-2-clause-passed g t c n m are secon
     let space : Space = c.args.space.now in
     let v = c.in-Cut.variable in
     let cut = c.in-Cut.cut in
+    -- the space below the cut, the one above it, and the space as it is opened again
     let under : Space = c.close_above-most.new.self in
     let over : Space = c.close_below-was.new.self in
     let again : Space = c.reopen_above.new.self in
+    -- the side below leaves its space as it was, so that what is opened again is the given space
     let same : c.do_pass_beside.new.space ≡ under =
     from_true c.do_pass_beside.result c.if-not-do_pass_beside.false c.do_pass_beside.ensures.same in
     let back : again ≡ space = above_again space under c.do_pass_beside.new.space again v same c.close_above-most.result
     c.reopen_above.ensures c.close_above-most.ensures.back in
     let goes_over = goes_again space again over v cut back c.close_below-was.ensures.lies in
+    -- the test passes below the cut and above it
     let low = from_true c.do_pass_beside.result c.if-not-do_pass_beside.false c.do_pass_beside.ensures.passed shows.0
     part.0 shows.2 part.1 in
     let high = from_true c.do_pass_beside-in-Cut.result c.if-not-do_pass_beside-2.false
     c.do_pass_beside-in-Cut.ensures.passed shows.1 part.0 shows.3 part.1 in
+    -- so it passes at each two places that a scenario of the space comes to
     holds_beside (g.J.PairTest.guarantees c.args.test.now) space n part.0 m part.2.same.value
     (holds_fork (λ (x : Option ℕ) (s : Scenario). g.J.PairTest.guarantees c.args.test.now x (value_at part.0 s) s) space
     v cut shows.0 shows.1 n

@@ -1,3 +1,5 @@
+-- Recursion of `do_pass_both`: whether a test passes at each two places that scenarios of a space come to in two
+-- trees.
 use Rattle.std.proofs.Common.{◌+◌, ◌*◌, length}
 use Rattle.cpg_row_trees.proofs.walk.+do_pass_both.Given as goal
 
@@ -6,5 +8,6 @@ use Rattle.cpg_row_trees.proofs.walk.+do_pass_both.Given as goal
 abbrev pub decreases-do_pass_both : goal.decreases-do_pass_both
 decreases-do_pass_both g l = 2 * length l.first.now
 
+-- one more than that of `do_pass_both`, which it calls on the same list
 abbrev pub decreases-do_pass_beside : goal.decreases-do_pass_beside
 decreases-do_pass_beside g l = 2 * length l.first.now + 1

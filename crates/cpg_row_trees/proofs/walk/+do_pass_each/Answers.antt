@@ -1,3 +1,4 @@
+-- Proof of `do_pass_each`: whether a test passes at each place that scenarios of a space come to.
 use Rattle.std.proofs.Common.{ℕ, ◌≡◌, ◌∙◌, Option, sym}
 use Rattle.cpg_base.specs.Scenario.{Scenario}
 use Rattle.cpg_tree.specs.TreeNode.{Leaf, Fork}
@@ -9,6 +10,7 @@ use Rattle.cpg_row_trees.proofs.Passes.{holds_leaf, holds_above, holds_below, ho
 use Rattle.cpg_row_trees.proofs.SliceLaws.{above_again, goes_again}
 use Rattle.cpg_row_trees.proofs.walk.+do_pass_each.Goals as goal
 
+-- a leaf: the test has passed at its place, to which each scenario of the space comes
 pub do_pass_each-returns-in-Value-clause-passed : goal.do_pass_each-returns-in-Value-clause-passed
 do_pass_each-returns-in-Value-clause-passed g t c =
     of_true c.passes.result c.passes.ensures
@@ -46,22 +48,27 @@ do_pass_each-returns-else-not-do_pass_side-2-clause-passed g t c n are =
     let space : Space = c.args.space.now in
     let v = c.in-Cut.variable in
     let cut = c.in-Cut.cut in
+    -- the space below the cut, the one above it, and the space as it is opened again
     let under : Space = c.close_above-most.new.self in
     let over : Space = c.close_below-was.new.self in
     let again : Space = c.reopen_above.new.self in
+    -- the side below leaves its space as it was, so that what is opened again is the given space
     let same : c.do_pass_side.new.space ≡ under =
     from_true c.do_pass_side.result c.if-not-do_pass_side.false c.do_pass_side.ensures.same in
     let back : again ≡ space = above_again space under c.do_pass_side.new.space again v same c.close_above-most.result
     c.reopen_above.ensures c.close_above-most.ensures.back in
     let goes_over = goes_again space again over v cut back c.close_below-was.ensures.lies in
+    -- the test passes below the cut and above it
     let low =
     from_true c.do_pass_side.result c.if-not-do_pass_side.false c.do_pass_side.ensures.passed shows.0 shows.2 in
     let high = from_true c.do_pass_side-in-Cut.result c.if-not-do_pass_side-2.false c.do_pass_side-in-Cut.ensures.passed
     shows.1 shows.3 in
+    -- so it passes at each place that a scenario of the space comes to
     holds_fork (λ (x : Option ℕ) (s : Scenario). g.J.Test.guarantees c.args.test.now x s) space v cut shows.0 shows.1 n
     (flat-same n (Fork v cut shows.0 shows.1) (sym are ∙ shows.4))
     (λ s lies h. low s (c.close_above-most.ensures.lies s lies h)) (λ s lies h. high s (goes_over s lies h))
 
+-- a leaf: the test has passed at its place, to which each scenario of the space comes
 pub do_pass_side-returns-in-Value-clause-passed : goal.do_pass_side-returns-in-Value-clause-passed
 do_pass_side-returns-in-Value-clause-passed g t c =
     of_true c.passes.result c.passes.ensures

@@ -1,3 +1,4 @@
+-- Loops of `are_all_there`: whether no item is a leaf without a place.
 use Rattle.std.proofs.Common.{All, take}
 use Rattle.cpg_row_trees.specs.Places.{IsThere}
 use Rattle.cpg_row_trees.proofs.walk.are_all_there.Given as goal

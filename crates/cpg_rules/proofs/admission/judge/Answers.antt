@@ -1,3 +1,4 @@
+-- Proof of `judge`: judges a graph by all rules.
 use Rattle.cpg_base.proofs.Within.{well_formed}
 use Rattle.cpg_rules.proofs.admission.judge.Goals as goal
 

@@ -1,3 +1,4 @@
+-- Proof of `union`: the part of a join with these inputs, if no two of them are live at once.
 use Rattle.std.proofs.Common.{rules, ◌<◌, None, ap₂, sym, ◌∙◌}
 use Rattle.std.proofs.lemmas.List.Elements.{All-rest}
 use Rattle.cpg_base.specs.Graph.{process_count}

@@ -1,3 +1,4 @@
+-- Recursion of `union`: the part of a join with these inputs, if no two of them are live at once.
 use Rattle.std.proofs.Common.{length}
 use Rattle.cpg_rules.proofs.apart.+union.Given as goal
 

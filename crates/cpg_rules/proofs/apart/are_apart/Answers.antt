@@ -1,3 +1,4 @@
+-- Proof of `are_apart`: whether no two of these inputs of a join are live at once.
 use Rattle.std.proofs.Common.{rules, not, ap, ◌∙◌}
 use Rattle.cpg_base.specs.Graph.{process_count}
 use Rattle.cpg_rules.specs.Apart.{union}

@@ -1,3 +1,4 @@
+-- Proof of `composed`: the part of a process with these inputs.
 use Rattle.std.proofs.Common.{rules, ◌<◌, sym, ◌∙◌}
 use Rattle.std.proofs.lemmas.List.Elements.{All-rest}
 use Rattle.cpg_base.specs.Graph.{process_count}

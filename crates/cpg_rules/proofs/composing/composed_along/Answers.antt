@@ -1,3 +1,4 @@
+-- Proof of `composed_along`: the parts of the processes after the steps, by number, if these are those before.
 use Rattle.std.proofs.Common.{◌+◌, ◌∙◌, ◌∷◌, drop, ap, sym, subst}
 use Rattle.std.proofs.lemmas.List.{drop_more}
 use Rattle.cpg_base.specs.Graph.{process_count}
@@ -11,10 +12,12 @@ pub loop-step-preserved : goal.loop-step-preserved
 loop-step-preserved c =
     let here = drop_more c.args.steps.now c.loop-step.step-index c.step-item.result c.loop-step-test.true ∙
     ap (λ step. step ∷ drop (c.loop-step.step-index + 1) c.args.steps.now) (sym c.step-item.is) in
+    -- the part that is made has the tree composed of those of the inputs
     let made = subst (λ roots. Makes c.loop-step.parts c.composed.new.parts
     (composed c.args.problem.now c.is_join.result c.loop-step.parts.ranks
     (trees_of c.loop-step.parts.parts roots) c.inputs-inputs.result.now) c.in_ok-part.part)
     c.as_slice.ensures.value c.in_ok-part.ensures in
+    -- the roots with this one, the ranks as they were, and the same trees along the steps
     record {
       roots = step_roots c.loop-step.parts c.composed.new.parts
           (process_count c.args.problem.now) c.process.result c.in_ok-part.part c.loop-step.roots.items

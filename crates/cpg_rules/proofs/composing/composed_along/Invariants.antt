@@ -1,3 +1,4 @@
+-- Loops of `composed_along`: the parts of the processes after the steps, by number, if these are those before.
 use Rattle.std.proofs.Common.{◌≡◌, drop}
 use Rattle.cpg_base.specs.Graph.{process_count}
 use Rattle.cpg_rules.specs.Composing.{composed_along}

@@ -1,3 +1,4 @@
+-- Proof of `ranks_of`: the places of the conditions' processes in the order, by condition.
 use Rattle.std.proofs.Common.{ap, ◌∙◌}
 use Rattle.cpg_base.specs.Graph.{process_of}
 use Rattle.cpg_base.specs.Order.{place}

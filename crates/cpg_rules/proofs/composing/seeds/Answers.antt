@@ -1,9 +1,11 @@
+-- Proof of `seeds`: for each of `count` processes the part that says that it is inactive.
 use Rattle.std.proofs.Common.{rules}
 use Rattle.cpg_base.specs.declared.activation.Activation.TheVariants.{Inactive}
 use Rattle.cpg_order.specs.Guard.{Leaf}
 use Rattle.cpg_rules.proofs.SharedSteps.{seeded}
 use Rattle.cpg_rules.proofs.composing.seeds.Goals as goal
 
+-- each process has the part of one leaf, which is inactive
 pub returns-clause-trees : goal.returns-clause-trees
 returns-clause-trees c = seeded c.leaf.new.self.parts c.args.count c.in_ok-leaf.leaf c.in_ok-roots.roots.items
     (Leaf Inactive) (search rules) c.in_ok-leaf.ensures.is

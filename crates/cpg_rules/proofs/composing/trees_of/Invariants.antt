@@ -1,3 +1,4 @@
+-- Loops of `trees_of`: the trees of parts.
 use Rattle.std.proofs.Common.{◌≡◌, take}
 use Rattle.cpg_rules.specs.Sharing.{trees_of}
 use Rattle.cpg_rules.proofs.composing.trees_of.Given as goal

@@ -1,3 +1,4 @@
+-- Proof of `with_fault_number`: the graph with another fault number.
 use Rattle.std.proofs.Common.{rules, ◌≡◌, ◌∙◌, None, IfSome, ap, subst, sym}
 use Rattle.cpg_base.specs.Graph.{Graph, process_count}
 use Rattle.cpg_base.specs.Limits.{IsOrderWithin}
@@ -5,6 +6,7 @@ use Rattle.cpg_rules.specs.FaultNumber.{with_fault_number}
 use Rattle.cpg_rules.proofs.FaultNumbers.{limits_same, orderless_within, of_view}
 use Rattle.cpg_rules.proofs.fault_number.with_fault_number.Goals as goal
 
+-- the limits say nothing of the fault number but its own range, so the graph is within them
 pub of-made-requires : goal.of-made-requires
 of-made-requires c =
     let g = c.args.problem.now in
@@ -21,6 +23,7 @@ of-made-requires c =
     rw is (orderless_within (with_fault_number g c.args.faults)
     (limits_same g c.args.faults c.nodes.ensures.within c.requires))
 
+-- the order of the old graph suits the new one, which has as many processes
 pub with_order-requires : goal.with_order-requires
 with_order-requires c =
     let g = c.args.problem.now in

@@ -1,3 +1,4 @@
+-- Proof of `first_early`: the first process in an order that stands before the source of one of its inputs.
 use Rattle.std.proofs.Common.{◌<◌, ◌≤◌, length, arith, sym, ap, ◌∙◌}
 use Rattle.cpg_rules.proofs.GivenOrders.{at_place, early_first, early_nowhere}
 use Rattle.cpg_rules.proofs.given.first_early.Goals as goal

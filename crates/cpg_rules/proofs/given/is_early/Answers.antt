@@ -1,3 +1,4 @@
+-- Proof of `is_early`: whether a process stands before the source of one of its inputs.
 use Rattle.std.proofs.Common.{◌≡◌, ◌<◌, false, length, arith, sym, ap, subst, inl, inr}
 use Rattle.std.proofs.lemmas.Bool.{cases_eq, false_from_ne_true}
 use Rattle.cpg_base.specs.Graph.{edge_count, source, target}
@@ -27,6 +28,7 @@ loop-edge-preserved c e l at =
     let i = c.loop-edge.edge-index in
     elim c.if-edge-process.branch [
       | then-edge-process+else-place w ↦ elim (cases_eq e i) [
+        -- the edge leads to the process: its source doesn't stand behind it
         | inl same ↦
             let from = rw c.edges-edge-items.ensures.edges at w.place.ensures.place in
             subst (λ f. comes_before c.args.order.now c.args.process (source g f) ≡ false) (sym same)
@@ -35,6 +37,7 @@ loop-edge-preserved c e l at =
             (source g i) c.place-place.result w.place.result c.place-place.ensures.place from w.if-place.false))
         | inr other ↦ c.loop-edge.invariant e (omega (arith, l, other)) at
       ]
+      -- the edge leads to another process
       | else-edge-process w ↦ elim (cases_eq e i) [
         | inl same ↦
             let apart = rw c.edges-edge-items.ensures.edges at w.if-edge-process.false in

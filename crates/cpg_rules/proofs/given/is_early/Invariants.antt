@@ -1,3 +1,4 @@
+-- Loops of `is_early`: whether a process stands before the source of one of its inputs.
 use Rattle.std.proofs.Common.{ℕ, ◌<◌, ◌≡◌, false}
 use Rattle.cpg_base.specs.Graph.{source, target}
 use Rattle.cpg_base.specs.Order.{comes_before}

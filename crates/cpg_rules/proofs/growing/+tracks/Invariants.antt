@@ -1,3 +1,4 @@
+-- Recursion of `tracks`: how many tracks go this way, or `most` if there are no fewer.
 use Rattle.std.proofs.Common.{length}
 use Rattle.cpg_rules.proofs.growing.+tracks.Given as goal
 

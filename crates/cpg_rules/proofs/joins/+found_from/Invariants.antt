@@ -1,3 +1,4 @@
+-- Recursion of `found_from`: the first standings on the way to a process at which two of its inputs are live.
 use Rattle.std.proofs.Common.{length}
 use Rattle.cpg_rules.proofs.joins.+found_from.Given as goal
 

@@ -1,3 +1,5 @@
+-- Loops of `least_alternatives`: the least join that some outcome gives two live inputs, with its least scenario;
+-- `None` exactly if no outcome gives a join two.
 use Rattle.std.proofs.Common.{◌<◌, ℕ}
 use Rattle.cpg_rules.specs.Alternatives.{IsSingleJoin}
 use Rattle.cpg_rules.specs.Sharing.{Extends}

@@ -1,3 +1,5 @@
+-- Proof of `least_of`: the least scenario in which two inputs of a process are live, if it is a join and there is
+-- one.
 use Rattle.std.proofs.Common.{◌≡◌, ◌∙◌, sym, ap, subst, None, true, replicate}
 use Rattle.cpg_base.specs.Scenario.{IsLeast}
 use Rattle.cpg_rules.specs.declared.steps.Aim.TheVariants.{Process}
@@ -8,6 +10,7 @@ use Rattle.cpg_rules.proofs.Below.{steps_below}
 use Rattle.cpg_rules.proofs.Rested.{all_rested, rested_none, rested_some}
 use Rattle.cpg_rules.proofs.joins.least_of.Goals as goal
 
+-- the steps are on processes below 128
 pub found_from-requires : goal.found_from-requires
 found_from-requires c = rw (c.as_slice.ensures.value, c.in_ok-steps.ensures, c.requires.steps)
     (all_rested (IsStepBelow 128) (Process c.args.process) _ (steps_below c.args.problem.now c.args.order.now

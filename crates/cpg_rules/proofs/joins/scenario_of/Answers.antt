@@ -1,3 +1,4 @@
+-- Proof of `scenario_of`: the scenario without faults in which the processes stand so.
 use Rattle.std.proofs.Common.{arith}
 use Rattle.cpg_base.proofs.Items.{process_of_below}
 use Rattle.cpg_rules.proofs.Outcome.{scenario_given}

@@ -1,3 +1,4 @@
+-- Loops of `scenario_of`: the scenario without faults in which the processes stand so.
 use Rattle.std.proofs.Common.{◌≡◌, ◌<◌, ℕ, length, get_or, false, None, replicate}
 use Rattle.cpg_base.specs.Graph.{process_count, condition_count, process_of}
 use Rattle.cpg_rules.specs.Alternatives.{is_set}

@@ -1,3 +1,4 @@
+-- Loops of `above_slot`: the least message whose size is above its sender's slot.
 use Rattle.std.proofs.Common.{ℕ, ◌≡◌, ◌<◌, false}
 use Rattle.cpg_rules.specs.Rules.{is_too_big}
 use Rattle.cpg_rules.proofs.slots.above_slot.Given as goal

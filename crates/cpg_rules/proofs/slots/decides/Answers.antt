@@ -1,3 +1,4 @@
+-- Proof of `decides`: whether a process of the node has a condition.
 use Rattle.std.proofs.Common.{◌∙◌, ◌==◌, sym, ap, arith, eq-eqb}
 use Rattle.cpg_base.specs.Graph.{condition_count, node_of, process_of}
 use Rattle.cpg_base.proofs.Items.{process_of_below}

@@ -1,3 +1,4 @@
+-- Loops of `decides`: whether a process of the node has a condition.
 use Rattle.std.proofs.Common.{ℕ, ◌≡◌, ◌<◌, ◌==◌, false}
 use Rattle.cpg_base.specs.Graph.{node_of, process_of}
 use Rattle.cpg_rules.proofs.slots.decides.Given as goal

@@ -1,3 +1,4 @@
+-- Proof of `without_slot`: the least node that sends and has no slot.
 use Rattle.std.proofs.Common.{ap, length, arith}
 use Rattle.cpg_rules.proofs.Senders.{senders_have_slots}
 use Rattle.cpg_rules.proofs.slots.without_slot.Goals as goal

@@ -1,3 +1,4 @@
+-- Loops of `without_slot`: the least node that sends and has no slot.
 use Rattle.std.proofs.Common.{ℕ, ◌≡◌, ◌<◌, false}
 use Rattle.cpg_rules.specs.Rules.{lacks_slot}
 use Rattle.cpg_rules.proofs.slots.without_slot.Given as goal

@@ -1,3 +1,4 @@
+-- Recursion of `rested`: the steps among these that a walk rests on.
 use Rattle.std.proofs.Common.{length}
 use Rattle.cpg_rules.proofs.steps.+rested.Given as goal
 

@@ -1,3 +1,4 @@
+-- Proof of `inputs_of`: the inputs of a process, by edge number.
 use Rattle.cpg_rules.proofs.Inputs.{one_more, none_more}
 use Rattle.cpg_rules.proofs.steps.inputs_of.Goals as goal
 use Rattle.cpg_rules.proofs.steps.inputs_of.Goals.{then-ends-process+in_ok-push, else-ends-process}

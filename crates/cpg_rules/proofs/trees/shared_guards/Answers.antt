@@ -1,3 +1,4 @@
+-- Proof of `shared_guards`: the guards of a graph, by the trees along its urgency order, with the parts of the trees.
 use Rattle.std.proofs.Common.{ℕ, ◌≡◌, ◌∙◌, ap, arith, length, List, None, map, replicate, min}
 use Rattle.cpg_base.specs.Graph.{process_count}
 use Rattle.cpg_base.specs.declared.activation.Activation.TheVariants.{Inactive}
@@ -16,6 +17,7 @@ use Rattle.cpg_rules.proofs.Counted.{tracks_counted}
 use Rattle.cpg_rules.proofs.Made.{made}
 use Rattle.cpg_rules.proofs.trees.shared_guards.Goals as goal
 
+-- an order has each process once
 pub steps_of-requires : goal.steps_of-requires
 steps_of-requires c = length_order (process_count c.args.problem.now) c.args.order.now c.requires.all
 
@@ -46,10 +48,12 @@ returns-then-tracks-gt-MOST_TRACKS-clause-many c = λ e.
     let over = c.if-tracks-gt-MOST_TRACKS.true in
     omega arith
 
+-- an order has each process once, so no more than there are
 pub ranks_of-requires : goal.ranks_of-requires
 ranks_of-requires c = let long = length_order (process_count c.args.problem.now) c.args.order.now c.requires.all in
     omega (arith, long)
 
+-- each step is on a process of the graph, whose inputs come from processes before it
 pub composed_along-requires-clause-steps : goal.composed_along-requires-clause-steps
 composed_along-requires-clause-steps c = rw (c.as_slice-3.ensures.value, c.in_ok-steps.ensures)
     (steps_below c.args.problem.now c.args.order.now c.requires (process_count c.args.problem.now) (omega arith))

@@ -1,3 +1,5 @@
+-- Proof of `is_item_active`: whether an item that an active process may send is active: each broadcast is active, and
+-- a message is active if its edge is live.
 use Rattle.std.proofs.Common.{◌∙◌, ◌-◌, sym, ap, length, arith}
 use Rattle.cpg_base.specs.Activity.{live}
 use Rattle.cpg_run.proofs.Senders.{broadcast_active, message_active, queued_above}

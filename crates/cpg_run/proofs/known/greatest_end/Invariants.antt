@@ -1,3 +1,4 @@
+-- Loops of `greatest_end`: the greatest of these ends, or 0 if there is none.
 use Rattle.std.proofs.Common.{◌≡◌, take, flat_map, option_to_list}
 use Rattle.cpg_base.specs.Numbers.{greatest}
 use Rattle.cpg_run.proofs.known.greatest_end.Given as goal

@@ -1,3 +1,5 @@
+-- Proof of `found_rows_fit`: rows that carry no more than they may are within the limits of a row and of all rows if
+-- no item is too wide.
 use Rattle.cpg_run.proofs.laws.found_rows_fit.Goals as goal
 use Rattle.cpg_run.proofs.Written.{found_rows_fit as law}
 

@@ -1,3 +1,4 @@
+-- Proof of `run_by`: the run of a scenario in a setting that is made once for many.
 use Rattle.std.proofs.Common.{◌≡◌, ap, sym, subst, length, arith}
 use Rattle.cpg_base.specs.Graph.{process_count}
 use Rattle.cpg_run.specs.Run.{IsRun}

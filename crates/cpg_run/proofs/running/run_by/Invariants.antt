@@ -1,3 +1,4 @@
+-- Loops of `run_by`: the run of a scenario in a setting that is made once for many.
 use Rattle.cpg_run.specs.Progress.{IsAlong}
 use Rattle.cpg_run.proofs.running.run_by.Given as goal
 

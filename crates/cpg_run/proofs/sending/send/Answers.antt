@@ -1,3 +1,5 @@
+-- Proof of `send`: sets the times of all that an active process sends, if the slots of its node are free from a given
+-- time on.
 use Rattle.std.proofs.Common.{◌≡◌, ◌∙◌, ℕ, ◌<◌, ◌+◌, List, length, length-set, get_or, set, Contains, Some, refl, sym}
 use Rattle.std.proofs.Common.{ap, subst, arith}
 use Rattle.std.proofs.lemmas.List.Elements.{Contains-get_or}
@@ -72,11 +74,13 @@ set_time-requires c =
 pub overflow_add-free : goal.overflow_add-free
 overflow_add-free c =
     let a = c.requires.setting.admitted in
+    -- the run has small times
     let r = a_run c.args.setting.now.problem.now c.args.setting.now.order.now c.args.frozen.now c.args.scenario.now
     c.requires.setting.topological in
     let small = run_small c.args.setting.now.problem.now c.args.setting.now.order.now c.args.frozen.now
     c.args.scenario.now r.0 a.1.limits c.requires.setting.topological c.requires.scenario
     c.requires.early r.1 in
+    -- the item is the one at this place of the process's queue, and active
     let qs = queue_of c.args.setting.now.problem.now c.args.process in
     let here = ap (λ xs. get_or xs c.loop-item.item-index 0) c.queue-item-items.ensures in
     let inside : c.loop-item.item-index < length qs =
@@ -84,6 +88,7 @@ overflow_add-free c =
     let acts = ap (λ x. item_active c.args.setting.now.problem.now c.args.scenario.now.values
     (item_at c.args.setting.now.problem.now x)) (sym here) ∙ sym c.is_item_active.ensures ∙
     c.if-is_item_active.true in
+    -- the time that is found is that of the run
     let at = found_is c.args.setting.now.problem.now c.args.frozen.now c.send_time-time.result c.loop-item.free
     c.node_of-node.result
     (node_of c.args.setting.now.problem.now c.args.process) c.end-end.result (end_in r.0 c.args.process)
@@ -94,6 +99,7 @@ overflow_add-free c =
     c.args.scenario.now c.args.process c.requires.process c.loop-item.item-index inside
     c.args.frozen.now r.0 r.1 c.loop-item.free
     (c.loop-item.invariant.sent r.0 r.1).slots_free acts in
+    -- a small time and a round fit a number of 64 bits
     omega (
       arith,
       at,
@@ -107,10 +113,12 @@ overflow_add-free c =
 pub loop-item-preserved : goal.loop-item-preserved
 loop-item-preserved c =
     let qs = queue_of c.args.setting.now.problem.now c.args.process in
+    -- the item is the one at this place of the process's queue
     let here = ap (λ xs. get_or xs c.loop-item.item-index 0) c.queue-item-items.ensures in
     let inside : c.loop-item.item-index < length qs =
     omega (arith, ap length c.queue-item-items.ensures, c.loop-item-test.true) in
     elim c.if-is_item_active.branch [
+      -- the item is active: its time is set
       | then-is_item_active w ↦
           let acts = ap (λ x. item_active c.args.setting.now.problem.now c.args.scenario.now.values
           (item_at c.args.setting.now.problem.now x)) (sym here) ∙ sym c.is_item_active.ensures ∙
@@ -122,6 +130,7 @@ loop-item-preserved c =
           ap (λ (k : Times). k.times) (w.known-is ∙ w.set_time.ensures)
           ∙ ap (λ y. set c.loop-item.known.times y (Some w.send_time-time.result)) here in
           record {
+            -- in each run the time is the one found, and the slots are free a round later
             sent = λ t run.
                 let has = c.loop-item.invariant.sent t run in
                 let at = found_is c.args.setting.now.problem.now c.args.frozen.now w.send_time-time.result
@@ -139,17 +148,20 @@ loop-item-preserved c =
                 c.args.known.now c.loop-item.known c.loop-item.item-index c.loop-item.free inside has
                 c.if-is_item_active.known w.send_time-time.result
                 (omega (arith, x.within, c.requires.times, c.loop-item.invariant.keeps.times)) times acts at);
+            -- only this time is set, and no end
             keeps = record {
               times = ap length times ∙ length-set c.loop-item.known.times (get_or qs c.loop-item.item-index 0)
                   (Some w.send_time-time.result) ∙ c.loop-item.invariant.keeps.times;
               ends = ap (λ (k : Times). k.ends) (w.known-is ∙ w.set_time.ensures) ∙ c.loop-item.invariant.keeps.ends;
             };
           }
+      -- the item isn't active: nothing is set
       | else-is_item_active w ↦
           let idle = ap (λ x. item_active c.args.setting.now.problem.now c.args.scenario.now.values
           (item_at c.args.setting.now.problem.now x)) (sym here) ∙ sym c.is_item_active.ensures ∙
           w.if-is_item_active.false in
           record {
+            -- in each run it has no time, and the slots stay free from the same time on
             sent = λ t run.
                 let has = c.loop-item.invariant.sent t run in
                 subst (λ k. HasSent c.args.setting.now.problem.now c.args.setting.now.order.now c.args.scenario.now

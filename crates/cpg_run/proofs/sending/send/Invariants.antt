@@ -1,3 +1,5 @@
+-- Loops of `send`: sets the times of all that an active process sends, if the slots of its node are free from a given
+-- time on.
 use Rattle.cpg_run.specs.Run.{Times, IsRun}
 use Rattle.cpg_run.specs.Progress.{HasSent, KeepsEnds}
 use Rattle.cpg_run.proofs.sending.send.Given as goal

@@ -1,3 +1,4 @@
+-- Proof of `step`: sets the times of the process at a place, and of what it sends.
 use Rattle.std.proofs.Common.{◌≡◌, ◌∙◌, ℕ, ◌<◌, ◌+◌, max, List, length, get_or, set, Some, sym, ap, subst, arith}
 use Rattle.std.proofs.lemmas.List.{get_or_default}
 use Rattle.cpg_base.specs.Graph.{process_count, node_of}
@@ -73,12 +74,15 @@ returns-then-not-is_active-clause-at c t run =
       length_order (process_count c.args.setting.now.problem.now) c.args.setting.now.order.now
           c.requires.setting.topological.all,
     ) in
+    -- the process and its node are of the graph
     let on : node_of c.args.setting.now.problem.now c.at-process.result < length c.args.setting.now.problem.now.nodes =
     omega (arith, c.node_of-node.ensures.node, c.node_of-node.ensures.within) in
+    -- the node is ready when it has heard what decides the process
     let is_ready = node_read c.args.nodes.now.ready.items c.index.result.now c.node_of-node.result
     (node_of c.args.setting.now.problem.now c.at-process.result) c.index.ensures
     (omega (arith, c.node_of-node.ensures.within, c.requires.places.ready_count)) c.node_of-node.ensures.node in
     let ready_at = c.max-ready.ensures ∙ ap (λ n. max n c.in_ok-heard.heard) is_ready in
+    -- an inactive process changes no times, and the node's readiness alone
     subst (λ n. IsAt c.args.setting.now.problem.now c.args.setting.now.order.now c.args.scenario.now t
     (c.args.place + 1) c.args.known.now
     (set c.args.nodes.now.ready.items n c.max-ready.result) c.args.nodes.now.free.items)
@@ -143,6 +147,7 @@ duration-requires-clause-process c = omega (
 pub overflow_add-end : goal.overflow_add-end
 overflow_add-end c =
     let admitted = c.requires.setting.admitted in
+    -- the run, whose times are small
     let r = a_run c.args.setting.now.problem.now c.args.setting.now.order.now c.args.frozen.now c.args.scenario.now
     c.requires.setting.topological in
     let t = r.0 in
@@ -151,6 +156,7 @@ overflow_add-end c =
     let small = run_small c.args.setting.now.problem.now c.args.setting.now.order.now c.args.frozen.now
     c.args.scenario.now t admitted.1.limits c.requires.setting.topological c.requires.scenario
     c.requires.early run in
+    -- the process and its node are of the graph
     let l : c.at-process.result < process_count c.args.setting.now.problem.now =
     omega (
       arith,
@@ -160,11 +166,13 @@ overflow_add-end c =
     ) in
     let on : node_of c.args.setting.now.problem.now c.at-process.result < length c.args.setting.now.problem.now.nodes =
     omega (arith, c.node_of-node.ensures.node, c.node_of-node.ensures.within) in
+    -- the node is ready when it has heard what decides the process
     let is_ready = node_read c.args.nodes.now.ready.items c.index.result.now c.node_of-node.result
     (node_of c.args.setting.now.problem.now c.at-process.result) c.index.ensures
     (omega (arith, c.node_of-node.ensures.within, c.requires.places.ready_count)) c.node_of-node.ensures.node in
     let ready_at = c.max-ready.ensures ∙ ap (λ n. max n c.in_ok-heard.heard) is_ready in
     let acts = sym c.is_active.ensures ∙ c.if-not-is_active.false in
+    -- the start is that of the run, so an end fits a number of 64 bits
     omega (
       arith,
       c.duration.ensures.short,
@@ -211,6 +219,7 @@ send-requires-clause-process c = omega (
 -- with the start and the end set, the process can send
 pub send-requires-clause-can : goal.send-requires-clause-can
 send-requires-clause-can c t run =
+    -- the process and its node are of the graph
     let l : c.at-process.result < process_count c.args.setting.now.problem.now =
     omega (
       arith,
@@ -220,20 +229,24 @@ send-requires-clause-can c t run =
     ) in
     let on : node_of c.args.setting.now.problem.now c.at-process.result < length c.args.setting.now.problem.now.nodes =
     omega (arith, c.node_of-node.ensures.node, c.node_of-node.ensures.within) in
+    -- the node is ready when it has heard what decides the process
     let is_ready = node_read c.args.nodes.now.ready.items c.index.result.now c.node_of-node.result
     (node_of c.args.setting.now.problem.now c.at-process.result) c.index.ensures
     (omega (arith, c.node_of-node.ensures.within, c.requires.places.ready_count)) c.node_of-node.ensures.node in
     let ready_at = c.max-ready.ensures ∙ ap (λ n. max n c.in_ok-heard.heard) is_ready in
     let acts = sym c.is_active.ensures ∙ c.if-not-is_active.false in
+    -- the end is a duration after the start; both are set
     let ends = ap (λ d. c.start-start.result + d) (c.duration.ensures.duration
     ∙ ap (duration c.args.setting.now.problem.now c.at-process.result) c.fault.ensures) in
     let started = ap (λ (k : Times). k.times) c.set_end.ensures ∙ ap (λ (k : Times). k.times) c.set_time.ensures in
     let ended = ap (λ (k : Times). k.ends) c.set_end.ensures
     ∙ ap (λ (k : Times). set k.ends c.at-process.result (Some (c.start-start.result + c.duration.result)))
     c.set_time.ensures in
+    -- the time from which the node's slots are free is that of the node
     let is_free = node_read c.args.nodes.now.free.items c.index-2.result.now c.node_of-node.result
     (node_of c.args.setting.now.problem.now c.at-process.result) c.index-2.ensures
     (omega (arith, c.node_of-node.ensures.within, c.requires.places.free_count)) c.node_of-node.ensures.node in
+    -- so the process can send
     can_send c.args.setting.now.problem.now c.args.setting.now.order.now c.requires.setting.topological
     c.args.frozen.now c.args.scenario.now t run c.args.place c.at-process.result l
     c.at-process.ensures.back on
@@ -246,6 +259,7 @@ send-requires-clause-can c t run =
 -- with the times of all that the process sends, all holds before the next place
 pub returns-clause-at : goal.returns-clause-at
 returns-clause-at c t run =
+    -- the process and its node are of the graph
     let l : c.at-process.result < process_count c.args.setting.now.problem.now =
     omega (
       arith,
@@ -255,17 +269,20 @@ returns-clause-at c t run =
     ) in
     let on : node_of c.args.setting.now.problem.now c.at-process.result < length c.args.setting.now.problem.now.nodes =
     omega (arith, c.node_of-node.ensures.node, c.node_of-node.ensures.within) in
+    -- the node is ready when it has heard what decides the process
     let is_ready = node_read c.args.nodes.now.ready.items c.index.result.now c.node_of-node.result
     (node_of c.args.setting.now.problem.now c.at-process.result) c.index.ensures
     (omega (arith, c.node_of-node.ensures.within, c.requires.places.ready_count)) c.node_of-node.ensures.node in
     let ready_at = c.max-ready.ensures ∙ ap (λ n. max n c.in_ok-heard.heard) is_ready in
     let acts = sym c.is_active.ensures ∙ c.if-not-is_active.false in
+    -- the end is a duration after the start; both are set
     let ends = ap (λ d. c.start-start.result + d) (c.duration.ensures.duration
     ∙ ap (duration c.args.setting.now.problem.now c.at-process.result) c.fault.ensures) in
     let started = ap (λ (k : Times). k.times) c.set_end.ensures ∙ ap (λ (k : Times). k.times) c.set_time.ensures in
     let ended = ap (λ (k : Times). k.ends) c.set_end.ensures
     ∙ ap (λ (k : Times). set k.ends c.at-process.result (Some (c.start-start.result + c.duration.result)))
     c.set_time.ensures in
+    -- an active process changes its own times and those of what it sends, and the readiness of its node and slots
     subst (λ n. IsAt c.args.setting.now.problem.now c.args.setting.now.order.now c.args.scenario.now t
     (c.args.place + 1) c.send.new.known
     (set c.args.nodes.now.ready.items n (c.start-start.result + c.duration.result))

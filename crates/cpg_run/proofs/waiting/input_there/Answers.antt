@@ -1,3 +1,4 @@
+-- Proof of `input_there`: when an input is there.
 use Rattle.std.proofs.Common.{◌≡◌, ◌∙◌, sym, ap, subst}
 use Rattle.cpg_base.specs.Graph.{node_of, source}
 use Rattle.cpg_bus.specs.Share.{HasSlot}

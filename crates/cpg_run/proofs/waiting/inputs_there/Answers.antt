@@ -1,3 +1,4 @@
+-- Proof of `inputs_there`: when the live inputs of a process are there.
 use Rattle.std.proofs.Common.{◌∙◌, if◌then◌else◌, ap, map, Contains, subst}
 use Rattle.cpg_base.specs.Numbers.{greatest}
 use Rattle.cpg_base.specs.Graph.{inputs}

@@ -1,3 +1,4 @@
+-- Proof of `latest_heard`: when a node has heard each of these conditions.
 use Rattle.std.proofs.Common.{get_or}
 use Rattle.std.proofs.lemmas.List.Elements.{Contains-get_or}
 use Rattle.cpg_run.proofs.waiting.latest_heard.Goals as goal

@@ -1,3 +1,4 @@
+-- Proof of `latest_there`: when all live inputs among these are there.
 use Rattle.std.proofs.Common.{get_or}
 use Rattle.std.proofs.lemmas.List.Elements.{Contains-get_or}
 use Rattle.cpg_run.proofs.waiting.latest_there.Goals as goal

@@ -1,3 +1,4 @@
+-- Loops of `latest_there`: when all live inputs among these are there.
 use Rattle.std.proofs.Common.{◌≡◌, if◌then◌else◌, map, take}
 use Rattle.cpg_base.specs.Numbers.{greatest}
 use Rattle.cpg_base.specs.Activity.{live}

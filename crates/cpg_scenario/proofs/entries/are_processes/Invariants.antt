@@ -1,3 +1,4 @@
+-- Loops of `are_processes`: whether all keys of a table are names of processes.
 use Rattle.std.proofs.Common.{◌≡◌}
 use Rattle.toml.specs.View.{members_view}
 use Rattle.cpg_scenario.specs.File.{process_names, are_among}

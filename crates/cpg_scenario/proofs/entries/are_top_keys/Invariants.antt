@@ -1,3 +1,4 @@
+-- Loops of `are_top_keys`: whether all keys of a document may stand at the top.
 use Rattle.std.proofs.Common.{◌≡◌}
 use Rattle.toml.specs.View.{members_view}
 use Rattle.cpg_scenario.specs.File.{top_keys, are_among}

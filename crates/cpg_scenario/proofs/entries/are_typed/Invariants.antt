@@ -1,3 +1,4 @@
+-- Loops of `are_typed`: whether all entries of a table are booleans, or else integers.
 use Rattle.std.proofs.Common.{◌≡◌}
 use Rattle.toml.specs.View.{members_view}
 use Rattle.cpg_scenario.specs.File.{are_typed}

@@ -1,3 +1,4 @@
+-- Loops of `is_process`: whether a text is the name of a process.
 use Rattle.std.proofs.Common.{◌≡◌, bytes_eq, drop, map}
 use Rattle.std.specs.List.{list_any}
 use Rattle.cpg_scenario.specs.File.{process_names}

@@ -1,3 +1,4 @@
+-- Proof of `value_at`: the value at a key.
 use Rattle.toml.proofs.Views.{table_get}
 use Rattle.cpg_scenario.proofs.entries.value_at.Goals as goal
 

@@ -1,3 +1,4 @@
+-- Proof of `has_conditions`: whether each process that is given a value has a condition.
 use Rattle.std.proofs.Common.{sym, ap, length, arith}
 use Rattle.toml.specs.View.{table_view}
 use Rattle.cpg_base.specs.Graph.{process_count}

@@ -1,3 +1,4 @@
+-- Loops of `has_conditions`: whether each process that is given a value has a condition.
 use Rattle.std.proofs.Common.{ℕ, ◌<◌, ◌≡◌, true}
 use Rattle.toml.specs.View.{table_view}
 use Rattle.cpg_scenario.specs.File.{may_have_value}

@@ -1,3 +1,4 @@
+-- Proof of `read_played`: the scenario and the lengths of a document.
 use Rattle.std.proofs.Common.{◌≡◌, ◌∙◌, ap, sym, subst}
 use Rattle.toml.specs.View.{table_view}
 use Rattle.cpg_base.specs.Scenario.{Scenario, IsScenario, full_lengths}

@@ -1,3 +1,5 @@
+-- Proof of `read_scenario`: reads what the bytes of a scenario file say of a graph: its faults and values, and the
+-- lengths of its executions.
 use Rattle.std.proofs.Common.{◌∙◌, sym}
 use Rattle.std.proofs.lemmas.Bool.{false≢true}
 use Rattle.cpg_scenario.proofs.FileLaws.{file_of-read, file_of-refused}

@@ -1,3 +1,5 @@
+-- Proof of `set_faults`: gives each process its fault count; false exactly if a count is below 0, or they are more
+-- than the fault number.
 use Rattle.std.proofs.Common.{rules, ℕ, pos, ◌+◌, ◌<◌, ◌≡◌, ◌⊎◌, w64, true, false, List, length, map, sum_by, sym, ap}
 use Rattle.std.proofs.Common.{subst, ◌∙◌, arith}
 use Rattle.toml.specs.View.{table_view}
@@ -26,10 +28,12 @@ pub loop-process-preserved : goal.loop-process-preserved
 loop-process-preserved c =
     let more = c.loop-process-test.true in
     let count = count_of c.args.problem.now (table_view c.args.document.now) in
+    -- the count that is given is a natural number
     let is : count_given c.args.problem.now (table_view c.args.document.now) c.loop-process.process
     ≡ pos c.in-Some.count = sym c.count_given.ensures ∙
     sym (to_z-of_z w64 c.count_given.result (search rules)) ∙ c.in-Some.ensures.some.0 in
     let counted : count c.loop-process.process ≡ c.in-Some.count = ap natural is in
+    -- the counts so far are natural, within the fault number, and filled in; no value is changed
     record {
       natural = below_next (λ q. is_natural (count_given c.args.problem.now (table_view c.args.document.now) q) ≡ true)
           c.loop-process.process c.loop-process.invariant.natural (ap is_natural is);

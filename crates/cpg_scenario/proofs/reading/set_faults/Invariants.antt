@@ -1,3 +1,5 @@
+-- Loops of `set_faults`: gives each process its fault count; false exactly if a count is below 0, or they are more
+-- than the fault number.
 use Rattle.std.proofs.Common.{ℕ, ◌+◌, ◌<◌, ◌≡◌, true, sum_by}
 use Rattle.toml.specs.View.{table_view}
 use Rattle.cpg_base.specs.Numbers.{numbers_below}

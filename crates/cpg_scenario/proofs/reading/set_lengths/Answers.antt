@@ -1,3 +1,5 @@
+-- Proof of `set_lengths`: gives each execution its length, if all are full; false exactly if one is below 1 or above
+-- the full one.
 use Rattle.std.proofs.Common.{ℕ, ◌+◌, ◌≡◌, true, List, length, get_or, sym, ap, ap₂, subst, ◌∙◌, arith}
 use Rattle.std.proofs.lemmas.List.{length-map, get_or-set_other}
 use Rattle.std.proofs.lemmas.List.FromFn.{length-range_with_len}
@@ -45,8 +47,10 @@ loop-process-preserved c =
     let longest =
     λ (q : ℕ). duration c.args.problem.now q (count_of c.args.problem.now (table_view c.args.document.now) q) in
     let given = length_given c.args.problem.now (table_view c.args.document.now) in
+    -- the longest that the execution may last is its duration with its faults
     let is = c.length_of-longest.ensures ∙ c.loop-process.invariant.full c.loop-process.process (omega arith)
     (omega (arith, ap length c.processes.ensures.processes)) in
+    -- the lengths so far are kept and filled in, and the others are full
     record {
       kept = below_next (λ q. is_length_if (longest q) (given q) ≡ true) c.loop-process.process
           c.loop-process.invariant.kept

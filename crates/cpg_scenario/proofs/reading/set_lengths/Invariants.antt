@@ -1,3 +1,5 @@
+-- Loops of `set_lengths`: gives each execution its length, if all are full; false exactly if one is below 1 or above
+-- the full one.
 use Rattle.std.proofs.Common.{ℕ, ◌<◌, ◌≤◌, ◌≡◌, true, get_or}
 use Rattle.toml.specs.View.{table_view}
 use Rattle.cpg_base.specs.Graph.{process_count}

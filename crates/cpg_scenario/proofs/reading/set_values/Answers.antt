@@ -1,3 +1,4 @@
+-- Proof of `set_values`: gives each condition its value.
 use Rattle.std.proofs.Common.{ℕ, Bool, false, List, unwrap_or, sym, ap, subst, ◌∙◌, ◌+◌, arith}
 use Rattle.toml.specs.View.{table_view}
 use Rattle.cpg_base.specs.Graph.{condition_count, process_of}

@@ -1,3 +1,4 @@
+-- Loops of `set_values`: gives each condition its value.
 use Rattle.std.proofs.Common.{◌≡◌, false, unwrap_or}
 use Rattle.toml.specs.View.{table_view}
 use Rattle.cpg_base.specs.Graph.{condition_count, process_of}

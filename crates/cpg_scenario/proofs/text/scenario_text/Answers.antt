@@ -1,3 +1,5 @@
+-- Proof of `scenario_text`: the faults and the true values of a scenario by process number, as `A faults 1, A true`,
+-- and `none` if there are none.
 use Rattle.std.proofs.Common.{◌≡◌, ◌∙◌, ap, flat_map, string_bytes, length, arith}
 use Rattle.cpg_base.specs.Numbers.{numbers_below}
 use Rattle.cpg_base.specs.Graph.{process_count}

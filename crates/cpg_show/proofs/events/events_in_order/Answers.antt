@@ -1,7 +1,9 @@
+-- Proof of `events_in_order`: all events in the order of a trace.
 use Rattle.std.proofs.Common.{IsPermutation, subst}
 use Rattle.cpg_show.proofs.TraceOrder.{in_order}
 use Rattle.cpg_show.proofs.events.events_in_order.Goals as goal
 
+-- sorting leaves the same events, and puts them in order
 pub returns : goal.returns
 returns c = record {
   all = subst (λ xs. IsPermutation xs c.sort_unstable.new.self.items) c.in_ok-events.ensures

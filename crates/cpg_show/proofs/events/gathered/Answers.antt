@@ -1,9 +1,11 @@
+-- Proof of `gathered`: all events, node by node.
 use Rattle.std.proofs.Common.{◌++◌, All, ap, arith, length, map, subst, sym, ◌∙◌}
 use Rattle.cpg_show.specs.TraceEvents.{IsActWithin, event_of_act, event_of_end}
 use Rattle.cpg_show.proofs.TraceSteps.{one_node}
 use Rattle.cpg_show.proofs.Within.{acts_at}
 use Rattle.cpg_show.proofs.events.gathered.Goals as goal
 
+-- the acts of a node are on items of the problem
 pub add_acts-requires : goal.add_acts-requires
 add_acts-requires c = subst (All (IsActWithin c.args.problem.now)) (sym c.acts.ensures)
     (acts_at c.args.cluster.now c.requires.playing c.args.problem.now c.requires.same c.loop-node.node

@@ -1,3 +1,4 @@
+-- Loops of `gathered`: all events, node by node.
 use Rattle.std.proofs.Common.{◌≡◌, flat_map}
 use Rattle.cpg_base.specs.Numbers.{numbers_below}
 use Rattle.cpg_show.specs.TraceEvents.{node_events}

@@ -1,7 +1,9 @@
+-- Proof of `finish`: the greatest of the ends that all nodes have come to, in time units, and 0 if there is none.
 use Rattle.std.proofs.Common.{ap, fold, map, max, ◌∙◌}
 use Rattle.cpg_show.proofs.TraceSteps.{one_finish}
 use Rattle.cpg_show.proofs.trace.finish.Goals as goal
 
+-- the greatest end of one more node is counted in
 pub loop-node-preserved : goal.loop-node-preserved
 loop-node-preserved c = one_finish c.args.cluster.now.cluster.ends c.loop-node.node c.loop-node.last
     c.last_of-last.result c.loop-node.invariant

@@ -1,3 +1,4 @@
+-- Loops of `last_of`: the greatest of a time and of the times of ends.
 use Rattle.std.proofs.Common.{◌≡◌, drop, fold, map, max}
 use Rattle.cpg_show.proofs.trace.last_of.Given as goal
 

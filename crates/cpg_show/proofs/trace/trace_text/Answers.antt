@@ -1,3 +1,5 @@
+-- Proof of `trace_text`: a line for each start, each message or broadcast and each end that the nodes have come to,
+-- then the greatest end in time units, 0 if there is none.
 use Rattle.std.proofs.Common.{All, subst, sym, ◌∙◌, ◌≡◌}
 use Rattle.std.proofs.lemmas.List.Sorted.{All-permutation}
 use Rattle.cpg_show.specs.TraceEvents.{TraceEvent, IsKindWithin}

@@ -1,3 +1,4 @@
+-- Loops of `write_events`: writes the lines of events.
 use Rattle.std.proofs.Common.{◌≡◌, ◌++◌, drop, flat_map, string_bytes}
 use Rattle.cpg_show.specs.TraceText.{event_line}
 use Rattle.cpg_show.proofs.trace.write_events.Given as goal

@@ -1,3 +1,4 @@
+-- Loops of `all_heard`: the rows that are heard of these items.
 use Rattle.std.proofs.Common.{◌≡◌, map, take}
 use Rattle.cpg_table.specs.Writing.{heard_row}
 use Rattle.cpg_table.proofs.assembling.all_heard.Given as goal

@@ -1,3 +1,4 @@
+-- Proof of `heard`: the row that is heard of an item: its own row, later by the sender's slot.
 use Rattle.std.proofs.Common.{◌≡◌, ◌∙◌, ◌<◌, ◌^◌, ℕ, List, map, All, sym, ap, ap₂, subst, arith}
 use Rattle.std.proofs.lemmas.List.{get_or_default}
 use Rattle.std.proofs.lemmas.List.Elements.{All-weaker}
@@ -32,6 +33,7 @@ pub later-requires-clause-delay : goal.later-requires-clause-delay
 later-requires-clause-delay c = subst (λ n. n < 2 ^ 59) (sym c.slot_length-delay.ensures)
     (slot_short c.args.problem.now c.nodes-nodes.ensures.within c.home.result)
 
+-- rows of an item with equal columns are equal
 same_row : (x : ℕ) (a b : List Column) → a ≡ b →
     (let row : Row = record { item = x; columns = a } in row) ≡ record { item = x; columns = b }
 same_row x a b e = cc

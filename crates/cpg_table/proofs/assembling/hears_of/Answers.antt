@@ -1,3 +1,4 @@
+-- Proof of `hears_of`: the rows that each node hears.
 use Rattle.cpg_table.specs.Writing.{hears_at}
 use Rattle.cpg_table.proofs.OwnRows.{view_more}
 use Rattle.cpg_table.proofs.assembling.hears_of.Goals as goal

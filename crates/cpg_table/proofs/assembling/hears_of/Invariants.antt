@@ -1,3 +1,4 @@
+-- Loops of `hears_of`: the rows that each node hears.
 use Rattle.std.proofs.Common.{◌≡◌, map}
 use Rattle.cpg_base.specs.Numbers.{numbers_below}
 use Rattle.cpg_table.specs.Writing.{hears_at}

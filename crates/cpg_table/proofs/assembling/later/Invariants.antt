@@ -1,3 +1,4 @@
+-- Loops of `later`: the columns, each later by a delay.
 use Rattle.std.proofs.Common.{◌≡◌, map, take}
 use Rattle.cpg_table.specs.Valid.{later_by}
 use Rattle.cpg_table.proofs.assembling.later.Given as goal

@@ -1,3 +1,4 @@
+-- Proof of `node_hears`: the rows that a node hears.
 use Rattle.std.proofs.Common.{◌∙◌, ap, refl}
 use Rattle.cpg_base.specs.Graph.{item_count}
 use Rattle.cpg_head.specs.GraphHead.{head_of}

@@ -1,3 +1,4 @@
+-- Loops of `node_table`: the table of a node.
 use Rattle.std.proofs.Common.{◌≡◌, ◌++◌}
 use Rattle.cpg_table.proofs.assembling.node_table.Given as goal
 

@@ -1,3 +1,4 @@
+-- Proof of `node_tables`: the tables of the nodes, each with the rows that it hears.
 use Rattle.std.proofs.Common.{◌≡◌, ◌∙◌, ◌<◌, ◌++◌, ◌∷◌, List, [], length, map, get_or, ℕ, refl, sym, ap, ap₂, subst}
 use Rattle.std.proofs.Common.{arith, rules}
 use Rattle.std.specs.List.{range_with_len}

@@ -1,3 +1,4 @@
+-- Loops of `node_tables`: the tables of the nodes, each with the rows that it hears.
 use Rattle.std.proofs.Common.{ℕ, ◌≡◌, ◌+◌, ◌≤◌, ◌<◌, All, length, map}
 use Rattle.std.specs.List.{range_with_len}
 use Rattle.cpg_base.specs.Graph.{item_count}

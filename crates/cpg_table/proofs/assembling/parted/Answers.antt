@@ -1,3 +1,4 @@
+-- Proof of `parted`: puts the rows of the items that a node starts and sends apart from the others.
 use Rattle.std.proofs.Common.{◌≡◌, ◌∙◌, ◌<◌, ◌∷◌, All, true, false, not, sym, ap, subst, rules}
 use Rattle.std.proofs.lemmas.List.Elements.{All-tail}
 use Rattle.cpg_base.specs.Graph.{item_count}

@@ -1,3 +1,4 @@
+-- Loops of `parted`: puts the rows of the items that a node starts and sends apart from the others.
 use Rattle.std.proofs.Common.{◌≡◌, ◌<◌, ◌++◌, All}
 use Rattle.cpg_base.specs.Graph.{item_count}
 use Rattle.cpg_table.specs.Table.{Row}

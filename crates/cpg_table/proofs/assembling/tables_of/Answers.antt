@@ -1,3 +1,4 @@
+-- Proof of `tables_of`: the tables of all nodes with these rows, one for each item by number.
 use Rattle.std.proofs.Common.{◌∙◌, sym, ap, subst}
 use Rattle.cpg_table.specs.Lawful.{Tables, AreTablesOf}
 use Rattle.cpg_table.proofs.TablesWith.{lawful, tables_with}

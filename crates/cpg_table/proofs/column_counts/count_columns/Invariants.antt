@@ -1,3 +1,5 @@
+-- Loops of `count_columns`: how many columns rows have, with those before them; `None` exactly if the number doesn't
+-- fit a machine word.
 use Rattle.std.proofs.Common.{◌≡◌, ◌+◌, drop}
 use Rattle.cpg_table.specs.Lawful.{column_count}
 use Rattle.cpg_table.proofs.column_counts.count_columns.Given as goal

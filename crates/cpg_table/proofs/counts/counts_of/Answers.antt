@@ -1,3 +1,4 @@
+-- Proof of `counts_of`: how many rows a node starts and sends; `None` exactly if the rows aren't those of its items.
 use Rattle.std.proofs.Common.{◌++◌, sym, ◌∙◌, arith, true≢false}
 use Rattle.cpg_table.specs.Items.{starts_of, sends_of, hears_of}
 use Rattle.cpg_table.proofs.AfterItems.{after_both, after_neither, after_parts, after_three, not_these}

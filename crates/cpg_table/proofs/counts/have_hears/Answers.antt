@@ -1,3 +1,4 @@
+-- Proof of `have_hears`: whether these are the rows of what a node hears.
 use Rattle.cpg_table.specs.Items.{hears_of}
 use Rattle.cpg_table.proofs.AfterItems.{these_where_nothing, these_never}
 use Rattle.cpg_table.proofs.counts.have_hears.Goals as goal

@@ -1,3 +1,4 @@
+-- Proof of `have_sends`: whether these are the rows of what a node sends.
 use Rattle.cpg_table.specs.Items.{sends_of}
 use Rattle.cpg_table.proofs.AfterItems.{these_where_nothing, these_never}
 use Rattle.cpg_table.proofs.counts.have_sends.Goals as goal

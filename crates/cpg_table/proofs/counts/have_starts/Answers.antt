@@ -1,3 +1,4 @@
+-- Proof of `have_starts`: whether these are the rows of what a node starts.
 use Rattle.cpg_table.specs.Items.{starts_of}
 use Rattle.cpg_table.proofs.AfterItems.{these_where_nothing, these_never}
 use Rattle.cpg_table.proofs.counts.have_starts.Goals as goal

@@ -1,3 +1,4 @@
+-- Loops of `row_columns`: the columns of the first row of an item, and `None` exactly if there is no row of it.
 use Rattle.std.proofs.Common.{◌≡◌, drop}
 use Rattle.cpg_table.specs.Found.{row_columns}
 use Rattle.cpg_table.proofs.found.row_columns.Given as goal

@@ -1,3 +1,5 @@
+-- Loops of `after_broadcasts`: the rows after those of the broadcasts of a node's own conditions, or of the other
+-- nodes'.
 use Rattle.std.proofs.Common.{◌≡◌, ◌≤◌, ◌+◌, ◌==◌, not, if◌then◌else◌, drop, filter}
 use Rattle.cpg_table.specs.Items.{numbers_where, first_broadcast, conditioned, after_items}
 use Rattle.cpg_table.proofs.items.after_broadcasts.Given as goal

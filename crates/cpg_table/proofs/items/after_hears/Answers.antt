@@ -1,3 +1,5 @@
+-- Proof of `after_hears`: the rows after those of the items that a node hears; `None` exactly if other rows stand
+-- there.
 use Rattle.std.proofs.Common.{rules, sym, ◌∙◌, ◌==◌, not}
 use Rattle.cpg_table.specs.Items.{numbers_where, enters, first_message, first_broadcast, conditioned}
 use Rattle.cpg_table.proofs.AfterItems.{after_both, after_neither}

@@ -1,3 +1,4 @@
+-- Loops of `after_messages`: the rows after those of the messages from a node to others, or to it from others.
 use Rattle.std.proofs.Common.{◌≡◌, ◌+◌, if◌then◌else◌, drop}
 use Rattle.cpg_table.specs.Items.{numbers_where, leaves, enters, first_message, after_items}
 use Rattle.cpg_table.proofs.items.after_messages.Given as goal

@@ -1,3 +1,5 @@
+-- Proof of `after_sends`: the rows after those of the items that a node sends; `None` exactly if other rows stand
+-- there.
 use Rattle.std.proofs.Common.{rules, sym, ap, ◌∙◌, ◌==◌, ◌<◌, [], length, ltb, cond, lt-ltb, arith}
 use Rattle.std.proofs.lemmas.Bool.{cond-true}
 use Rattle.cpg_table.specs.Items.{numbers_where, leaves, first_message, first_broadcast, conditioned, after_items}

@@ -1,3 +1,5 @@
+-- Loops of `after_starts`: the rows after those of the items that a node starts; `None` exactly if other rows stand
+-- there.
 use Rattle.std.proofs.Common.{◌≡◌, ◌==◌, drop}
 use Rattle.cpg_table.specs.Items.{numbers_where, starts_of, after_items}
 use Rattle.cpg_table.proofs.items.after_starts.Given as goal

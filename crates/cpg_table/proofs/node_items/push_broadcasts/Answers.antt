@@ -1,3 +1,4 @@
+-- Proof of `push_broadcasts`: adds the broadcasts of a node's own conditions, or of the other nodes'.
 use Rattle.std.proofs.Common.{◌==◌, not, if◌then◌else◌}
 use Rattle.cpg_head.specs.declared.head_parts.HeadProcess.{HeadProcess}
 use Rattle.cpg_table.specs.Items.{first_broadcast}

@@ -1,3 +1,4 @@
+-- Loops of `push_broadcasts`: adds the broadcasts of a node's own conditions, or of the other nodes'.
 use Rattle.std.proofs.Common.{◌≡◌, ◌≤◌, ◌+◌, ◌++◌, ◌==◌, not, if◌then◌else◌, drop, filter}
 use Rattle.cpg_table.specs.Items.{numbers_where, first_broadcast, conditioned}
 use Rattle.cpg_table.proofs.node_items.push_broadcasts.Given as goal

@@ -1,3 +1,4 @@
+-- Loops of `push_messages`: adds the messages from a node to others, or to it from others.
 use Rattle.std.proofs.Common.{◌≡◌, ◌+◌, ◌++◌, if◌then◌else◌, drop}
 use Rattle.cpg_table.specs.Items.{numbers_where, leaves, enters, first_message}
 use Rattle.cpg_table.proofs.node_items.push_messages.Given as goal

@@ -1,3 +1,4 @@
+-- Loops of `push_starts`: adds the processes of a node.
 use Rattle.std.proofs.Common.{◌≡◌, ◌==◌, ◌++◌, drop}
 use Rattle.cpg_table.specs.Items.{numbers_where, starts_of}
 use Rattle.cpg_table.proofs.node_items.push_starts.Given as goal

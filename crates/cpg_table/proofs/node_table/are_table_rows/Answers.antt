@@ -1,3 +1,4 @@
+-- Proof of `are_table_rows`: whether all rows of a table are lawful.
 use Rattle.std.proofs.Common.{◌↔◌, IsTrue, All, List, subst}
 use Rattle.cpg_table.specs.Table.{Row}
 use Rattle.cpg_table.specs.Lawful.{IsLawfulRow}

@@ -1,3 +1,4 @@
+-- Proof of `are_counts`: whether each literal is such a part.
 use Rattle.std.proofs.Common.{◌≡◌, Bool, true, false, All, refl, sym, subst, arith}
 use Rattle.std.specs.Bool.{OnTrue}
 use Rattle.std.proofs.lemmas.Bool.{and_parts}
@@ -6,6 +7,7 @@ use Rattle.std.proofs.lemmas.List.Elements.{All-push}
 use Rattle.cpg_table.specs.Lawful.{IsCountLiteral}
 use Rattle.cpg_table.proofs.space.are_counts.Goals as goal
 
+-- a fact that follows if a test is true, as a clause on the test's answer
 on_true : {P : Type 0} (b : Bool) → (b ≡ true → P) → OnTrue b P
 on_true true h = h refl
 on_true false h = tt

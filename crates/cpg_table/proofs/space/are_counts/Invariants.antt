@@ -1,3 +1,4 @@
+-- Loops of `are_counts`: whether each literal is such a part.
 use Rattle.std.proofs.Common.{◌≡◌, true, All, take}
 use Rattle.cpg_table.specs.Lawful.{IsCountLiteral}
 use Rattle.cpg_table.proofs.space.are_counts.Given as goal

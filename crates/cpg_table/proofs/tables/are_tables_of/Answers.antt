@@ -1,3 +1,4 @@
+-- Proof of `are_tables_of`: whether each table is that of its node.
 use Rattle.std.proofs.Common.{◌∙◌, arith, subst}
 use Rattle.cpg_table.specs.Table.{empty_table, table_at}
 use Rattle.cpg_table.specs.Lawful.{IsTableOf}

@@ -1,3 +1,4 @@
+-- Loops of `are_tables_of`: whether each table is that of its node.
 use Rattle.std.proofs.Common.{◌≡◌, ◌<◌, ℕ}
 use Rattle.cpg_table.specs.Table.{table_at}
 use Rattle.cpg_table.specs.Lawful.{IsTableOf}

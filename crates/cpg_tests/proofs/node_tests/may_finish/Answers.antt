@@ -1,3 +1,4 @@
+-- Proof of `may_finish`: whether an execution that started in the last turn may end one time unit later.
 use Rattle.std.proofs.Common.{◌≡◌, ◌<◌, ◌≤◌, ◌+◌, ℕ, Bool, true, false, Option, Some, None, sym, ap, ◌∙◌, refl, arith}
 use Rattle.std.proofs.Common.{subst, ltb-true, lt-ltb, nat_lt, true≢false}
 use Rattle.std.specs.Prelude.{IfSome, is_some, option_map, option_and_then}
@@ -16,6 +17,7 @@ record Unreported (o : Option Running) (start : ℕ) : Type 0 where
   pub started : run.start ≡ start
   pub none : run.report ≡ None
 
+-- an execution without a report, and with this start, is unreported
 unreported : (o : Option Running) (start : ℕ) (report : Option Ended) →
     option_map (λ (run : Running). run.start) o ≡ Some start →
     option_and_then (λ (run : Running). run.report) o ≡ report →
@@ -33,6 +35,7 @@ next_after d last e = go (next d) refl
     go None h = tt
     go (Some n) h = omega (arith, ltb-true last n (subst (λ l. is_after l n ≡ true) e (next_is d n h).after))
 
+-- a fact that follows if a test is true, as a clause on the test's answer
 on_true : (b : Bool) {P : Type 0} → (b ≡ true → P) → OnTrue b P
 on_true true h = h refl
 on_true false h = tt
@@ -42,12 +45,14 @@ pub returns : goal.returns
 returns c =
     let d = c.args.node.now.dispatcher in
     let ended = c.args.ended.now in
+    -- the execution at hand has no report
     let r = unreported (running_of d ended.process) c.in-Some.start (report_of d ended.process)
     (sym c.running.ensures ∙ c.in-Some.is) refl (sym c.reported.ensures ∙ c.if-reported.false) in
     on_true (nat_lt 0 c.time_of.result) (λ e.
     let some : 0 < c.time_of.result = ltb-true 0 c.time_of.result e in
     let faults : c.faults.result ≡ d.table.faults =
     c.faults.ensures.faults ∙ ap (λ (t : NodeTable). t.faults) c.table.ensures in
+    -- it ends one time unit after the last turn, within its time and the table's faults
     record {
       run = r.run;
       runs = r.runs;

@@ -1,3 +1,4 @@
+-- Proof of `take_turn`: takes the turn of the next instant, if there is one, and answers that instant.
 use Rattle.std.proofs.lemmas.List.Elements.{All-nil}
 use Rattle.std.proofs.Common.{sym}
 use Rattle.cpg_node.specs.State.{EndsAt, ArrivesAt}

@@ -1,3 +1,4 @@
+-- Loops of `time_of`: how long an execution of a process of the node takes with so many faults.
 use Rattle.std.proofs.Common.{◌≡◌, [], ◌==◌, None, filter, drop, get_or}
 use Rattle.cpg_table.specs.declared.own.Own.{Own}
 use Rattle.cpg_tests.proofs.node_tests.time_of.Given as goal

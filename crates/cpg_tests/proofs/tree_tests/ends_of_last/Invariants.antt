@@ -1,3 +1,4 @@
+-- Loops of `ends_of_last`: how many ends the last process of a chain of 40 has with at most two faults.
 use Rattle.std.proofs.Common.{◌≡◌}
 use Rattle.cpg_tests.proofs.tree_tests.ends_of_last.Given as goal
 

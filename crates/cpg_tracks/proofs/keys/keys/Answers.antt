@@ -1,3 +1,4 @@
+-- Proof of `keys`: the key of each process.
 use Rattle.std.proofs.Common.{◌+◌, ◌^◌, ◌<◌, ◌≡◌, ◌∙◌, ap, sym, subst, get_or, length, set, arith}
 use Rattle.cpg_base.specs.Graph.{process_count}
 use Rattle.cpg_base.specs.Order.{place}
@@ -33,6 +34,7 @@ loop-process-preserved c =
     let keys = c.loop-process.keys.items in
     let p = get_or c.processes-process-items.result.now c.loop-process.process-index 0 in
     let same = c.processes-process-items.ensures.processes in
+    -- the process at the place is one of the graph
     let at = at_index g order c.requires.order c.args.schedules.now c.loop-process.process-index 0
     (omega (arith, ap length same, c.loop-process-test.true)) in
     let is = ap (λ xs. get_or xs c.loop-process.process-index 0) same in
@@ -40,6 +42,7 @@ loop-process-preserved c =
     let there : place order p ≡ c.loop-process.process-index = ap (place order) is ∙ at.1 in
     let key : c.key_of-key.result ≡ key_by g c.args.schedules.now keys p =
     c.key_of-key.ensures ∙ ap (λ ks. key_by g c.args.schedules.now ks p) c.as_slice.ensures.value in
+    -- its key is set, and all keys stay below a bound that grows by 1 with each place
     record {
       set = subst (λ k. KeysSoFar g order c.args.schedules.now (set keys p k) (c.loop-process.process-index + 1))
           (sym key)

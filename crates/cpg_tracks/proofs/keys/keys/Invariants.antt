@@ -1,3 +1,4 @@
+-- Loops of `keys`: the key of each process.
 use Rattle.std.proofs.Common.{◌+◌, ◌^◌}
 use Rattle.cpg_tracks.specs.Walks.{KeysSoFar}
 use Rattle.cpg_tracks.specs.Keys.{AreLow}

@@ -1,3 +1,4 @@
+-- Proof of `merged_order`: the track order of a graph: by key, then by number.
 use Rattle.std.proofs.Common.{◌∙◌, ap, sym, subst, subst₂, length, arith}
 use Rattle.cpg_order.specs.Urgency.{IsTopological}
 use Rattle.cpg_tracks.specs.Tracks.{HasTrackOrder}

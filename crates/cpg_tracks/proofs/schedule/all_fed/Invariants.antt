@@ -1,3 +1,4 @@
+-- Loops of `all_fed`: the processes that can be placed.
 use Rattle.std.proofs.Common.{ℕ, ◌<◌, Contains, map}
 use Rattle.cpg_tracks.specs.Placing.{IsFed}
 use Rattle.cpg_tracks.specs.Timing.{outcome_of, IsFedAt}

@@ -1,3 +1,4 @@
+-- Proof of `feed`: adds a process to those that can be placed, if it can be.
 use Rattle.std.proofs.Common.{◌∙◌, sym, subst, arith}
 use Rattle.std.proofs.lemmas.Bool.{both_ways}
 use Rattle.cpg_base.specs.Activity.{active}
@@ -6,6 +7,7 @@ use Rattle.cpg_tracks.proofs.GreedySteps.{active_is, active_long}
 use Rattle.cpg_tracks.proofs.Feeding.{feeds_none, feeds_one}
 use Rattle.cpg_tracks.proofs.schedule.feed.Goals as goal
 
+-- there is a flag for each process
 pub index-requires : goal.index-requires
 index-requires c = omega (arith, c.requires.process, active_long c.args.problem.now c.args.timing.now c.requires.timing)
 

@@ -1,3 +1,4 @@
+-- Proof of `feed_targets`: adds the processes that waited for this placed process and can be placed now.
 use Rattle.std.proofs.Common.{◌≡◌, ◌+◌, ◌<◌, ◌++◌, ◌∷◌, [], ◌∙◌, Contains, get_or, length, take, sym, ap, subst, arith}
 use Rattle.std.proofs.lemmas.List.{take_more, take_all}
 use Rattle.std.proofs.lemmas.List.Elements.{Contains-get_or}
@@ -43,6 +44,7 @@ loop-edge-preserved c =
     let xs = c.outputs-edge-items.result.now in
     let e = get_or xs i 0 in
     let all = outputs g c.args.process in
+    -- the edge at hand is one of the outputs, and one of the graph
     let same = c.outputs-edge-items.ensures.of_graph g c.requires.timing.links in
     let short : i < length all = omega (arith, ap length same, c.loop-edge-test.true) in
     let more : take (i + 1) all ≡ take i all ++ e ∷ [] =
@@ -51,6 +53,7 @@ loop-edge-preserved c =
     (subst (λ ys. Contains ys e) same (Contains-get_or xs i 0 c.loop-edge-test.true))).0 in
     let live_is = c.index.ensures ∙ live_at g c.args.timing.now c.requires.timing e c.index.result.now inside in
     elim c.if-index.branch [
+      -- the edge is live: its target is added if it can be placed
       | then-index+in_ok-feed w ↦
           let is = ap (λ v. v.items) w.fed-is in
           let feeds = subst (λ t. Feeds g o s t c.loop-edge.fed.items w.feed.new.fed.items) w.target.ensures.target
@@ -64,6 +67,7 @@ loop-edge-preserved c =
                 (target_asked g o s
                 (take i all) e c.loop-edge.fed.items w.feed.new.fed.items feeds c.loop-edge.invariant.targets));
           }
+      -- the edge isn't live: it is passed over
       | else-index w ↦
           let is = ap (λ v. v.items) w.fed-is in
           record {

@@ -1,3 +1,4 @@
+-- Loops of `feed_targets`: adds the processes that waited for this placed process and can be placed now.
 use Rattle.std.proofs.Common.{ℕ, Contains, map, take}
 use Rattle.cpg_base.specs.Graph.{outputs}
 use Rattle.cpg_tracks.specs.Timing.{outcome_of, IsFedAt}

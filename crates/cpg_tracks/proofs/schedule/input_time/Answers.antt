@@ -1,3 +1,4 @@
+-- Proof of `input_time`: when an input is there; `None` exactly if its source isn't placed.
 use Rattle.std.proofs.Common.{◌≡◌, ◌+◌, ◌∙◌, Some, None, get_or, sym, ap, ap₂, arith, true, false}
 use Rattle.cpg_base.proofs.Bounds.{round-le, duration-le}
 use Rattle.cpg_base.specs.Graph.{source}
@@ -5,6 +6,7 @@ use Rattle.cpg_base.specs.Duration.{duration}
 use Rattle.cpg_tracks.proofs.GreedySteps.{duration_at, durations_long, start_early, input_there}
 use Rattle.cpg_tracks.proofs.schedule.input_time.Goals as goal
 
+-- there is a duration for each process
 pub index-requires : goal.index-requires
 index-requires c =
     omega (arith, c.source-source.ensures.within, durations_long c.args.problem.now c.args.timing.now c.requires.timing)

@@ -1,3 +1,5 @@
+-- Proof of `next`: the process to place next: of those that can be placed the one that would start first, and of
+-- several the most urgent.
 use Rattle.std.proofs.Common.{◌<◌, IfSome, ap, sym, subst, map, arith}
 use Rattle.std.proofs.lemmas.List.{take_all}
 use Rattle.cpg_base.specs.Graph.{process_count}

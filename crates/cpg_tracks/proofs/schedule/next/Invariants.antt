@@ -1,3 +1,5 @@
+-- Loops of `next`: the process to place next: of those that can be placed the one that would start first, and of
+-- several the most urgent.
 use Rattle.std.proofs.Common.{ℕ, ◌<◌, Bool, List, Option, IfSome, map, take}
 use Rattle.cpg_base.specs.Graph.{process_count}
 use Rattle.cpg_tracks.specs.Timing.{AreFree, AreFed, IsBestOf}

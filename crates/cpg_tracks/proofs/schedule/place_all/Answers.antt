@@ -1,3 +1,4 @@
+-- Proof of `place_all`: the starts of a track's processes, placed one after another.
 use Rattle.std.proofs.Common.{◌≡◌, ◌+◌, ◌<◌, ◌≤◌, ◌∙◌, All, None, Some, replicate, set, ap, sym, subst, subst₂, length}
 use Rattle.std.proofs.Common.{rules, arith}
 use Rattle.cpg_base.specs.Graph.{process_count}
@@ -90,10 +91,12 @@ overflow_add-end c =
     let n = c.loop-placed._placed in
     let h = c.loop-placed.invariant.placed in
     let p = c.in-Some.chosen.process in
+    -- the chosen process is the next one, with its start
     let next = chosen_of g o s f c.as_slice-in-loop-placed.result.now c.loop-placed.fed.items
     c.as_slice-in-loop-placed-2.result.now c.next.result (Some c.in-Some.chosen)
     c.as_slice-in-loop-placed.ensures.value c.as_slice-in-loop-placed-2.ensures.value h.free c.loop-placed.invariant.fed
     c.next.ensures c.in-Some.is in
+    -- a start that is early enough, and a duration, fit a number of 64 bits
     omega (
       arith,
       placed_late g a.limits a.well_formed o s f n h p
@@ -115,12 +118,14 @@ feed_targets-requires-clause-starts c =
     let n = c.loop-placed._placed in
     let h = c.loop-placed.invariant.placed in
     let p = c.in-Some.chosen.process in
+    -- the chosen process is the next one, with its start
     let next = chosen_of g o s f c.as_slice-in-loop-placed.result.now c.loop-placed.fed.items
     c.as_slice-in-loop-placed-2.result.now c.next.result (Some c.in-Some.chosen)
     c.as_slice-in-loop-placed.ensures.value c.as_slice-in-loop-placed-2.ensures.value h.free c.loop-placed.invariant.fed
     c.next.ensures c.in-Some.is in
     let time = c.index.ensures
     ∙ duration_at g c.in_ok-timing.timing c.in_ok-timing.ensures.timing p c.index.result.now next.0.fed.within in
+    -- with it one more is placed, and the starts are still early
     let more = placed_more g a.limits a.well_formed o s f n h p c.in-Some.chosen.start c.node_of.result
     c.index.result.now next.0 next.1 c.node_of.ensures.node time in
     subst (IsOnTheWay g) (sym c.as_slice-in-loop-placed-3.ensures.value)
@@ -158,16 +163,19 @@ loop-placed-preserved c =
     let n = c.loop-placed._placed in
     let h = c.loop-placed.invariant.placed in
     let p = c.in-Some.chosen.process in
+    -- the chosen process is the next one, with its start
     let next = chosen_of g o s f c.as_slice-in-loop-placed.result.now c.loop-placed.fed.items
     c.as_slice-in-loop-placed-2.result.now c.next.result (Some c.in-Some.chosen)
     c.as_slice-in-loop-placed.ensures.value c.as_slice-in-loop-placed-2.ensures.value h.free c.loop-placed.invariant.fed
     c.next.ensures c.in-Some.is in
     let time = c.index.ensures
     ∙ duration_at g c.in_ok-timing.timing c.in_ok-timing.ensures.timing p c.index.result.now next.0.fed.within in
+    -- with it one more is placed
     let more = placed_more g a.limits a.well_formed o s f n h p c.in-Some.chosen.start c.node_of.result
     c.index.result.now next.0 next.1 c.node_of.ensures.node time in
     record {
       placed = more;
+      -- what can be placed is what the targets of its outputs have been fed to
       fed = subst (λ x. AreFed g x (set s p (Some c.in-Some.chosen.start)) c.feed_targets.new.fed.items)
           (ap (λ t. t.outcome) c.in_ok-timing.ensures.track)
           (subst (λ xs. AreFed g (outcome_of c.in_ok-timing.timing) xs c.feed_targets.new.fed.items)

@@ -1,3 +1,4 @@
+-- Loops of `place_all`: the starts of a track's processes, placed one after another.
 use Rattle.cpg_tracks.specs.Timing.{AreFed}
 use Rattle.cpg_tracks.proofs.GreedySteps.{HavePlaced}
 use Rattle.cpg_tracks.proofs.schedule.place_all.Given as goal

@@ -1,3 +1,5 @@
+-- Proof of `ready_time`: when an active process is ready; `None` exactly if it is placed, or the source of a live
+-- input isn't.
 use Rattle.std.proofs.Common.{◌≡◌, ◌<◌, ◌∙◌, ◌∷◌, true≢false, None, Contains, filter, map, get_or, length, max, sym, ap}
 use Rattle.std.proofs.Common.{subst, arith}
 use Rattle.std.proofs.lemmas.List.{take_all}
@@ -60,6 +62,7 @@ loop-edge-preserved c =
     let o = outcome_of c.args.timing.now in
     let xs = c.inputs-edge-items.result.now in
     let e = get_or xs c.loop-edge.edge-index 0 in
+    -- the edge at hand is one of the inputs, and one of the graph
     let same = c.inputs-edge-items.ensures.of_graph g c.requires.timing.links in
     let inside : e < edge_count g = (inputs_parts g c.args.process e
     (subst (λ ys. Contains ys e) same (Contains-get_or xs c.loop-edge.edge-index 0 c.loop-edge-test.true))).0 in
@@ -70,6 +73,7 @@ loop-edge-preserved c =
     let is : c.index.result.now ≡ live g o e =
     c.index.ensures ∙ live_at g c.args.timing.now c.requires.timing e c.index.result.now inside in
     elim c.if-index.branch [
+      -- the input is live, and its source is placed: the process is ready no sooner than it is there
       | then-index+in-Some w ↦
           let there = input_given (input_ready g c.args.starts.now e)
           (get_or c.args.starts.now (source g e) None) w.in-Some.time (sym w.input_time.ensures ∙ w.in-Some.is) in
@@ -80,6 +84,7 @@ loop-edge-preserved c =
             fed = fed_takes g o c.args.starts.now c.args.process c.loop-edge.edge-index e 0 short at
                 (sym is ∙ w.if-index.true) there.0 c.loop-edge.invariant.fed;
           }
+      -- the input isn't live: it is passed over
       | else-index w ↦ record {
         ready = w.ready-is ∙ ready_skips g o c.args.starts.now c.args.process c.loop-edge.edge-index e 0 short at
             (sym is ∙ w.if-index.false) c.loop-edge.ready c.loop-edge.invariant.ready;
@@ -88,6 +93,7 @@ loop-edge-preserved c =
       }
     ]
 
+-- the process is placed, so it isn't one that can be placed
 pub returns-then-is_some-clause-none : goal.returns-then-is_some-clause-none
 returns-then-is_some-clause-none c f = true≢false (sym c.if-is_some.true ∙ c.is_some.ensures ∙ f.unplaced)
 

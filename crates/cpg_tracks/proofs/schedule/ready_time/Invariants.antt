@@ -1,3 +1,5 @@
+-- Loops of `ready_time`: when an active process is ready; `None` exactly if it is placed, or the source of a live
+-- input isn't.
 use Rattle.std.proofs.Common.{ℕ, ◌≡◌, ◌∷◌, true, Contains, filter, map, take}
 use Rattle.cpg_base.specs.Numbers.{greatest}
 use Rattle.cpg_base.specs.Graph.{process_at, source, inputs}

@@ -1,3 +1,4 @@
+-- Loops of `schedules`: the schedule of each track of a graph with these links.
 use Rattle.std.proofs.Common.{◌^◌, All, map, take}
 use Rattle.cpg_tracks.specs.Tracks.{AreSchedules}
 use Rattle.cpg_tracks.specs.Track.{AreBy}

@@ -1,3 +1,4 @@
+-- Proof of `active_marks`: by process, whether it is active.
 use Rattle.std.proofs.Common.{◌≡◌, ◌+◌, ◌<◌, ◌++◌, ◌∷◌, [], ◌∙◌, true, Contains, get_or, length, take, sym, ap, subst}
 use Rattle.std.proofs.Common.{arith}
 use Rattle.std.proofs.lemmas.List.{take_more, take_all, length-set}

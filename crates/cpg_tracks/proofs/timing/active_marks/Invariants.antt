@@ -1,3 +1,4 @@
+-- Loops of `active_marks`: by process, whether it is active.
 use Rattle.std.proofs.Common.{ℕ, ◌≡◌, true, false, Contains, get_or, length, take}
 use Rattle.cpg_base.specs.Graph.{process_count}
 use Rattle.cpg_tracks.proofs.timing.active_marks.Given as goal

@@ -1,3 +1,4 @@
+-- Proof of `durations`: by process, how long an execution with all the faults takes.
 use Rattle.std.proofs.Common.{◌∙◌, ap}
 use Rattle.cpg_base.specs.Duration.{duration}
 use Rattle.cpg_base.proofs.Lists.{map_below_push}

@@ -1,3 +1,4 @@
+-- Loops of `durations`: by process, how long an execution with all the faults takes.
 use Rattle.std.proofs.Common.{◌≡◌, map}
 use Rattle.cpg_base.specs.Numbers.{numbers_below}
 use Rattle.cpg_base.specs.Duration.{duration}

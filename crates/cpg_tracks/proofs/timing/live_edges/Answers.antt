@@ -1,3 +1,4 @@
+-- Proof of `live_edges`: by edge, whether it is live.
 use Rattle.std.proofs.Common.{ap, length, arith}
 use Rattle.cpg_base.specs.Activity.{live}
 use Rattle.cpg_base.proofs.Lists.{map_below_push}

@@ -1,3 +1,4 @@
+-- Loops of `live_edges`: by edge, whether it is live.
 use Rattle.std.proofs.Common.{◌≡◌, map}
 use Rattle.cpg_base.specs.Numbers.{numbers_below}
 use Rattle.cpg_base.specs.Activity.{live}

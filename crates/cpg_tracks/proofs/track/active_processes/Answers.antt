@@ -1,3 +1,4 @@
+-- Proof of `active_processes`: the processes that are active in a scenario, by number.
 use Rattle.std.proofs.Common.{◌∙◌, ap, sym}
 use Rattle.cpg_base.specs.Activity.{active}
 use Rattle.cpg_base.proofs.Lists.{filter_below_takes, filter_below_skips}

@@ -1,3 +1,4 @@
+-- Loops of `active_processes`: the processes that are active in a scenario, by number.
 use Rattle.std.proofs.Common.{◌≡◌, filter}
 use Rattle.cpg_base.specs.Numbers.{numbers_below}
 use Rattle.cpg_base.specs.Activity.{active}

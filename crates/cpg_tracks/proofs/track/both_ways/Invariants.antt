@@ -1,3 +1,4 @@
+-- Loops of `both_ways`: the outcomes in which the condition is chosen too.
 use Rattle.std.proofs.Common.{◌≡◌, All, take}
 use Rattle.std.specs.List.{flat_map}
 use Rattle.cpg_tracks.specs.Walks.{both_ways_at}

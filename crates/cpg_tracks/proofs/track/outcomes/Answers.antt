@@ -1,3 +1,5 @@
+-- Proof of `outcomes`: the outcomes of the tracks, in order: each condition is chosen if its process is active, in
+-- urgency order.
 use Rattle.std.proofs.Common.{◌<◌, ◌+◌, ◌∙◌, [], ◌∷◌, All, ap, sym, subst, get_or, length, arith}
 use Rattle.std.proofs.lemmas.List.{take_all, length-map}
 use Rattle.cpg_base.specs.Graph.{condition_of, process_count}
@@ -51,6 +53,7 @@ loop-process-preserved c =
     let inside : c.loop-process.process-index < length order =
     omega (arith, ap length same, c.loop-process-test.true) in
     elim c.match-condition_of.branch [
+      -- the process has a condition: each outcome goes both ways if the process is active in it
       | in-Some+in_ok-scenarios+else-len-gt-MOST_TRACKS w ↦ let is = ap (λ v. v.items) w.scenarios-is in record {
         walked = ap outcomes_of is ∙ walk_takes g order c.loop-process.process-index w.in-Some.condition
             c.loop-process.scenarios.items w.in_ok-scenarios.scenarios.items inside
@@ -59,6 +62,7 @@ loop-process-preserved c =
         values = subst (All (HasValues g)) (sym is) w.in_ok-scenarios.ensures.values;
         few = omega (arith, ap length is, w.if-len-gt-MOST_TRACKS.false, w.len.ensures);
       }
+      -- it has none: the outcomes stay
       | in_default w ↦ let is = ap (λ v. v.items) w.scenarios-is in record {
         walked =
             ap outcomes_of is ∙ walk_skips g order c.loop-process.process-index c.loop-process.scenarios.items inside

@@ -1,3 +1,5 @@
+-- Loops of `outcomes`: the outcomes of the tracks, in order: each condition is chosen if its process is active, in
+-- urgency order.
 use Rattle.std.proofs.Common.{◌≡◌, ◌≤◌, ◌∷◌, [], All, length, take}
 use Rattle.cpg_order.specs.Counting.{conditions_along, all_false}
 use Rattle.cpg_tracks.specs.Tracks.{most_scheduled_tracks}

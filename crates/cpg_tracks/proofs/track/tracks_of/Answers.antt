@@ -1,3 +1,4 @@
+-- Proof of `tracks_of`: the tracks of these outcomes.
 use Rattle.std.proofs.Common.{◌∙◌, All, ap, sym, subst}
 use Rattle.cpg_base.specs.Scenario.{Scenario}
 use Rattle.std.proofs.lemmas.List.Elements.{All-push}

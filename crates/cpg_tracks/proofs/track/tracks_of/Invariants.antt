@@ -1,3 +1,4 @@
+-- Loops of `tracks_of`: the tracks of these outcomes.
 use Rattle.std.proofs.Common.{◌≡◌, All, map, take}
 use Rattle.cpg_tracks.specs.Track.{IsTrackOf, outcomes_of}
 use Rattle.cpg_tracks.proofs.track.tracks_of.Given as goal

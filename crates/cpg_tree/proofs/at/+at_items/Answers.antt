@@ -1,7 +1,9 @@
+-- Proof of `at_items`: the value that a scenario comes to.
 use Rattle.std.proofs.Common.{arith}
 use Rattle.cpg_tree.proofs.AtLaws.{at_leaf, at_below, at_above}
 use Rattle.cpg_tree.proofs.at.+at_items.Goals as goal
 
+-- a leaf has one value, to which each scenario comes
 pub returns-in-Value : goal.returns-in-Value
 returns-in-Value g t c n are =
     at_leaf c.args.items.now n are c.args.scenario.now c.in-Value.value c.in-Value.ensures.shows

@@ -1,3 +1,4 @@
+-- Recursion of `at_items`: the value that a scenario comes to.
 use Rattle.std.proofs.Common.{length}
 use Rattle.cpg_tree.proofs.at.+at_items.Given as goal
 

@@ -1,3 +1,4 @@
+-- Proof of `push_bounds` and `push_fork_bounds`, which call each other.
 use Rattle.std.proofs.Common.{ℕ}
 use Rattle.cpg_tree.proofs.BoundLaws.{bounds_leaf, span_leaf, bounds_fork, span_fork}
 use Rattle.cpg_tree.proofs.bounds.+bounds.Goals as goal

@@ -1,3 +1,4 @@
+-- Recursion of `push_bounds` and `push_fork_bounds`, which call each other.
 use Rattle.std.proofs.Common.{◌+◌, ◌*◌, length}
 use Rattle.cpg_tree.proofs.bounds.+bounds.Given as goal
 
@@ -5,5 +6,6 @@ use Rattle.cpg_tree.proofs.bounds.+bounds.Given as goal
 abbrev pub decreases-push_bounds : goal.decreases-push_bounds
 decreases-push_bounds g l = length l.items.now * 2 + 1
 
+-- it calls `push_bounds` on the sides of a fork, which are shorter lists
 abbrev pub decreases-push_fork_bounds : goal.decreases-push_fork_bounds
 decreases-push_fork_bounds g l = length l.items.now * 2

@@ -1,3 +1,4 @@
+-- Loops of `are_from`: whether each number of a tree is at least this.
 use Rattle.std.proofs.Common.{◌≡◌, drop}
 use Rattle.cpg_tree.specs.Greater.{are_from}
 use Rattle.cpg_tree.proofs.bounds.are_from.Given as goal

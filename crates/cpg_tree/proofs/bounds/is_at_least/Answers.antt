@@ -1,9 +1,11 @@
+-- Proof of `is_at_least`: whether each number of a tree is at least each number of another.
 use Rattle.std.proofs.Common.{Bool, true, false, ◌≡◌, ◌∙◌, refl, ap, sym}
 use Rattle.std.specs.Bool.{OnTrue}
 use Rattle.cpg_tree.specs.Greater.{are_from}
 use Rattle.cpg_tree.proofs.Scans.{at_least_is}
 use Rattle.cpg_tree.proofs.bounds.is_at_least.Goals as goal
 
+-- a fact that follows if a test is true, as a clause on the test's answer
 on_true : {P : Type 0} (b : Bool) → (b ≡ true → P) → OnTrue b P
 on_true true h = h refl
 on_true false h = tt

@@ -1,3 +1,4 @@
+-- Loops of `most_from`: the greatest of a number and of the numbers of a tree.
 use Rattle.std.proofs.Common.{◌≡◌, drop}
 use Rattle.cpg_tree.specs.Greater.{most_from}
 use Rattle.cpg_tree.proofs.bounds.most_from.Given as goal

@@ -1,3 +1,4 @@
+-- Proof of `sides`: the sides of a fork, by the spans of the whole.
 use Rattle.cpg_tree.specs.TreeNode.{Fork}
 use Rattle.cpg_tree.specs.Bounds.{bounds_in, span_in}
 use Rattle.cpg_tree.proofs.BoundLaws.{forks_are}

@@ -1,3 +1,4 @@
+-- Proof of `span_of`: the least and the greatest number.
 use Rattle.std.proofs.Common.{arith}
 use Rattle.cpg_tree.proofs.BoundLaws.{fork_bounded, span_last, span_leaf}
 use Rattle.cpg_tree.proofs.bounds.span_of.Goals as goal

@@ -1,3 +1,5 @@
+-- Proof of `greater_where`: adds what is made of the greater number of two trees if a chooser is true, and otherwise
+-- one value, in the scenarios of two spaces.
 use Rattle.std.proofs.Common.{ℕ, max, ◌∙◌, sym, ap}
 use Rattle.cpg_tree.specs.Asked.{SpacePair}
 use Rattle.cpg_tree.specs.Flat.{flat}
@@ -77,12 +79,14 @@ returns-in_ok-greater_where-in-Cut-2-clause-made g t c =
     ) z in
     let spaces : SpacePair = c.args.spaces.now in
     let shows = c.in-Cut.ensures.shows in
+    -- the fork joins what is made of both sides; here are the sides of the chooser
     of_answer c.fork.result _ _ c.fork.ensures.made
     (λ u forks chooser n m are own others. where_both_sides answers c.args.none spaces chooser c.args.chooser.now are n
     m c.args.out.now.items c.fork.new.out.items
     c.in-Cut.variable c.in-Cut.cut shows.0 shows.1 shows.4 c.ask_below-highs.new.self c.ask_above-lows.new.self
     (sym c.is_open_below.ensures.is ∙ c.if-not-is_open_below.false)
     (sym c.is_open_above.ensures.is ∙ c.if-not-is_open_above.false) c.ask_below-highs.ensures.asked
+    -- the spaces that are opened again, without those below the cut, are those above it
     (c.ask_above-lows.ensures.asked ∙ ap (λ (q : SpacePair). above_cut q.asked c.in-Cut.variable c.in-Cut.cut)
     (both_opened spaces c.ask_below-highs.new.self c.greater_where-in-Cut.new.spaces c.reopen_above.new.self
     c.in-Cut.variable c.ask_below-highs.result c.ask_below-highs.ensures.back
@@ -93,6 +97,7 @@ returns-in_ok-greater_where-in-Cut-2-clause-made g t c =
     c.in_ok-greater_where-in-Cut.ensures.back c.reopen_above.ensures c.ask_above-lows.new.self c.in-Cut.cut
     c.ask_above-lows.ensures.lies)
     c.len-start.result c.len-middle.result c.greater_where-in-Cut.new.out.items c.greater_where-in-Cut-2.new.out.items
+    -- the lists of both sides stand behind each other, and each is what is made of its side
     (c.len-start.ensures ∙ c.args.out.now.ok.0)
     (c.len-middle.ensures ∙ c.greater_where-in-Cut.new.out.ok.0) forks
     (c.in_ok-greater_where-in-Cut.ensures.made shows.0 n m shows.2 own others)

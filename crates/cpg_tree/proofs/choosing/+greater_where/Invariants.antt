@@ -1,3 +1,5 @@
+-- Recursion of `greater_where`: adds what is made of the greater number of two trees if a chooser is true, and
+-- otherwise one value, in the scenarios of two spaces.
 use Rattle.std.proofs.Common.{length}
 use Rattle.cpg_tree.proofs.choosing.+greater_where.Given as goal
 

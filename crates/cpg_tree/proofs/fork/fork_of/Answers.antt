@@ -1,3 +1,4 @@
+-- Proof of `fork_of`: a fork of the two trees that a list ends in, from a start and a middle on.
 use Rattle.cpg_tree.proofs.Forks.{of_answer}
 use Rattle.cpg_tree.proofs.ForkLaws.{forks_plain}
 use Rattle.cpg_tree.proofs.fork.fork_of.Goals as goal

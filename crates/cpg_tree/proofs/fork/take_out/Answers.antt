@@ -1,7 +1,9 @@
+-- Proof of `take_out`: takes items out.
 use Rattle.std.proofs.Common.{rules, ◌∙◌, ◌-◌, ◌≡◌, ap, take, ℕ}
 use Rattle.cpg_tree.proofs.Moves.{moved, moved_on, moved_all, moved_none}
 use Rattle.cpg_tree.proofs.fork.take_out.Goals as goal
 
+-- before the first item nothing has been moved
 pub loop-i-init : goal.loop-i-init
 loop-i-init g c = record { long = search rules; is = moved_none c.args.out.now.items c.args.from c.args.count }
 

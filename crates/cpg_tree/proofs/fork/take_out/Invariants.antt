@@ -1,3 +1,4 @@
+-- Loops of `take_out`: takes items out.
 use Rattle.std.proofs.Common.{◌≡◌, length}
 use Rattle.cpg_tree.proofs.Moves.{moved}
 use Rattle.cpg_tree.proofs.fork.take_out.Given as goal

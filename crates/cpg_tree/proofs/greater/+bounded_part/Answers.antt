@@ -1,3 +1,4 @@
+-- Proof of `bounded_part`: the part of a tree that all scenarios of a space come to.
 use Rattle.std.proofs.Common.{◌∙◌}
 use Rattle.cpg_tree.proofs.Forks.{from_false}
 use Rattle.cpg_tree.proofs.GreaterLaws.{bounded_above, bounded_below}

@@ -1,3 +1,4 @@
+-- Recursion of `bounded_part`: the part of a tree that all scenarios of a space come to.
 use Rattle.std.proofs.Common.{length}
 use Rattle.cpg_tree.proofs.greater.+bounded_part.Given as goal
 

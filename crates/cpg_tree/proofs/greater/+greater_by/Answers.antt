@@ -1,3 +1,4 @@
+-- Proof of `greater_by`: adds what is made of the greater number of two trees in the scenarios of two spaces.
 use Rattle.std.proofs.Common.{arith, ℕ, ◌≡◌, ◌<◌, ◌≤◌, ◌∙◌, length, max, ap, sym, subst}
 use Rattle.cpg_base.specs.Scenario.{Scenario, number_of}
 use Rattle.cpg_tree.specs.Asked.{AreBothOpen, IsInner, IsWay, IsInBothSpaces, SpacePair, lowered, raised_back}
@@ -104,8 +105,10 @@ returns-in_ok-greater_by-in-Both-2-clause-made g t c =
     let spaces : SpacePair = c.args.spaces.now in
     let met : SpacePair = c.way.new.self in
     let shows = c.in-Cut.ensures.shows in
+    -- scenarios go both ways at the fork, and the spaces are those given
     let way : AreBothOpen spaces c.in-Cut.variable c.in-Cut.cut × (met ≡ spaces) =
     subst (IsWay spaces met c.in-Cut.variable c.in-Cut.cut) c.in-Both.is c.way.ensures in
+    -- the fork joins what is made of both sides of the first tree with the part of the second
     of_answer c.fork.result _ _ c.fork.ensures.made
     (λ u forks n m are others.
     let part = c.bounded_part-other.ensures.part m others in
@@ -114,6 +117,7 @@ returns-in_ok-greater_by-in-Both-2-clause-made g t c =
     c.args.own.items.now shows.4 are m part.0 part.2 c.args.out.now.items c.fork.new.out.items met
     c.close_above-highs.new.self c.close_below-lows.new.self way.0 way.1
     c.close_above-highs.ensures.asked
+    -- the spaces that are opened again, without those below the cut, are those above it
     (c.close_below-lows.ensures.asked ∙ ap (λ (q : SpacePair). above_cut q.asked c.in-Cut.variable c.in-Cut.cut)
     (both_opened met c.close_above-highs.new.self c.greater_by-in-Both.new.spaces c.reopen_above-in-Both.new.self
     c.in-Cut.variable c.close_above-highs.result c.close_above-highs.ensures.back
@@ -124,6 +128,7 @@ returns-in_ok-greater_by-in-Both-2-clause-made g t c =
     c.in_ok-greater_by-in-Both.ensures.back c.reopen_above-in-Both.ensures c.close_below-lows.new.self c.in-Cut.cut
     c.close_below-lows.ensures.lies)
     c.len-start.result c.len-middle.result c.greater_by-in-Both.new.out.items c.greater_by-in-Both-2.new.out.items
+    -- the lists of both sides stand behind each other, and each is what is made of its side
     (c.len-start.ensures ∙ c.args.out.now.ok.0)
     (c.len-middle.ensures ∙ c.greater_by-in-Both.new.out.ok.0) forks
     (c.in_ok-greater_by-in-Both.ensures.made shows.0 part.0 (c.sides.ensures.below ∙ shows.2) part.1)
@@ -137,15 +142,18 @@ greater_by-requires g t c κs within =
     let shows = c.in-Cut.ensures.shows in
     let small : length c.sides.result.1.items.now < t =
     omega (arith, c.decreases, ap length c.sides.ensures.above, c.in-Cut.ensures.less.1) in
+    -- the side has the spans of its own forks
     let own : IsBounded number c.sides.result.1.items.now c.sides.result.1.bounds.now =
     side_bounded number (Fork c.in-Cut.variable c.in-Cut.cut shows.0 shows.1) shows.1 c.args.own.items.now
     c.sides.result.1.items.now c.args.own.bounds.now
     c.sides.result.1.bounds.now c.requires.own shows.4 (c.sides.ensures.above ∙ shows.3)
     (λ e. (c.sides.ensures.bounds number c.in-Cut.variable c.in-Cut.cut shows.0 shows.1 shows.2 e).1) in
+    -- and so has the part of the second tree
     let others : IsBounded other_number c.bounded_part-other.result.items.now c.bounded_part-other.result.bounds.now =
     part_bounded other_number c.args.spaces.now.walked c.args.other.items.now c.bounded_part-other.result.items.now
     c.args.other.bounds.now c.bounded_part-other.result.bounds.now
     c.requires.others c.bounded_part-other.ensures.part in (
+      -- the measure, what is known of the functions, and both trees with their spans
       small,
       (
         within.0,
@@ -179,15 +187,18 @@ greater_by-requires-in-Below g t c κs within =
     let shows = c.in-Cut.ensures.shows in
     let small : length c.sides.result.0.items.now < t =
     omega (arith, c.decreases, ap length c.sides.ensures.below, c.in-Cut.ensures.less.0) in
+    -- the side has the spans of its own forks
     let own : IsBounded number c.sides.result.0.items.now c.sides.result.0.bounds.now =
     side_bounded number (Fork c.in-Cut.variable c.in-Cut.cut shows.0 shows.1) shows.0 c.args.own.items.now
     c.sides.result.0.items.now c.args.own.bounds.now
     c.sides.result.0.bounds.now c.requires.own shows.4 (c.sides.ensures.below ∙ shows.2)
     (λ e. (c.sides.ensures.bounds number c.in-Cut.variable c.in-Cut.cut shows.0 shows.1 shows.2 e).0) in
+    -- and so has the part of the second tree
     let others : IsBounded other_number c.bounded_part-other.result.items.now c.bounded_part-other.result.bounds.now =
     part_bounded other_number c.args.spaces.now.walked c.args.other.items.now c.bounded_part-other.result.items.now
     c.args.other.bounds.now c.bounded_part-other.result.bounds.now
     c.requires.others c.bounded_part-other.ensures.part in (
+      -- the measure, what is known of the functions, and both trees with their spans
       small,
       (
         within.0,
@@ -221,15 +232,18 @@ greater_by-requires-in-Both g t c κs within =
     let shows = c.in-Cut.ensures.shows in
     let small : length c.sides.result.0.items.now < t =
     omega (arith, c.decreases, ap length c.sides.ensures.below, c.in-Cut.ensures.less.0) in
+    -- the side has the spans of its own forks
     let own : IsBounded number c.sides.result.0.items.now c.sides.result.0.bounds.now =
     side_bounded number (Fork c.in-Cut.variable c.in-Cut.cut shows.0 shows.1) shows.0 c.args.own.items.now
     c.sides.result.0.items.now c.args.own.bounds.now
     c.sides.result.0.bounds.now c.requires.own shows.4 (c.sides.ensures.below ∙ shows.2)
     (λ e. (c.sides.ensures.bounds number c.in-Cut.variable c.in-Cut.cut shows.0 shows.1 shows.2 e).0) in
+    -- and so has the part of the second tree
     let others : IsBounded other_number c.bounded_part-other.result.items.now c.bounded_part-other.result.bounds.now =
     part_bounded other_number c.args.spaces.now.walked c.args.other.items.now c.bounded_part-other.result.items.now
     c.args.other.bounds.now c.bounded_part-other.result.bounds.now
     c.requires.others c.bounded_part-other.ensures.part in (
+      -- the measure, what is known of the functions, and both trees with their spans
       small,
       (
         within.0,
@@ -263,15 +277,18 @@ greater_by-requires-in-Both-2 g t c κs within =
     let shows = c.in-Cut.ensures.shows in
     let small : length c.sides.result.1.items.now < t =
     omega (arith, c.decreases, ap length c.sides.ensures.above, c.in-Cut.ensures.less.1) in
+    -- the side has the spans of its own forks
     let own : IsBounded number c.sides.result.1.items.now c.sides.result.1.bounds.now =
     side_bounded number (Fork c.in-Cut.variable c.in-Cut.cut shows.0 shows.1) shows.1 c.args.own.items.now
     c.sides.result.1.items.now c.args.own.bounds.now
     c.sides.result.1.bounds.now c.requires.own shows.4 (c.sides.ensures.above ∙ shows.3)
     (λ e. (c.sides.ensures.bounds number c.in-Cut.variable c.in-Cut.cut shows.0 shows.1 shows.2 e).1) in
+    -- and so has the part of the second tree
     let others : IsBounded other_number c.bounded_part-other.result.items.now c.bounded_part-other.result.bounds.now =
     part_bounded other_number c.args.spaces.now.walked c.args.other.items.now c.bounded_part-other.result.items.now
     c.args.other.bounds.now c.bounded_part-other.result.bounds.now
     c.requires.others c.bounded_part-other.ensures.part in (
+      -- the measure, what is known of the functions, and both trees with their spans
       small,
       (
         within.0,
@@ -297,6 +314,7 @@ greater_by-requires-in-Both-2 g t c κs within =
       ),
     )
 
+-- the list has grown by the fork or by a side
 pub returns-in_ok-greater_by-in-Both-2-clause-long : goal.returns-in_ok-greater_by-in-Both-2-clause-long
 returns-in_ok-greater_by-in-Both-2-clause-long g t c =
     of_answer c.fork.result _ _ c.fork.ensures.long (λ u h. omega (arith, h, c.len-start.ensures, c.fork.new.out.ok.0))

@@ -1,3 +1,4 @@
+-- Recursion of `greater_by`: adds what is made of the greater number of two trees in the scenarios of two spaces.
 use Rattle.std.proofs.Common.{length}
 use Rattle.cpg_tree.proofs.greater.+greater_by.Given as goal
 

@@ -1,3 +1,5 @@
+-- Proof of `at_least`: adds what is made of a value or the tree's number, whichever is greater, for the scenarios of
+-- a space.
 use Rattle.std.proofs.Common.{ℕ, max, rules}
 use Rattle.cpg_tree.specs.Added.{AddsTree, IsFilled}
 use Rattle.cpg_tree.proofs.Forks.{of_answer}

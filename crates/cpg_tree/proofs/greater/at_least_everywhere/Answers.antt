@@ -1,3 +1,5 @@
+-- Proof of `at_least_everywhere`: adds what is made of a value or the tree's number, whichever is greater, for all
+-- scenarios.
 use Rattle.std.proofs.Common.{rules, ◌∙◌, ◌++◌, List, ap}
 use Rattle.cpg_tree.specs.declared.item.TreeItem.{TreeItem}
 use Rattle.cpg_tree.specs.Flat.{flat}

@@ -1,3 +1,4 @@
+-- Proof of `greater_by_bounds`: does what `greater_items` does, by the spans of the forks of both trees.
 use Rattle.std.proofs.Common.{ℕ, ◌∙◌, ◌++◌, List, drop, take, ap}
 use Rattle.cpg_tree.specs.declared.item.TreeItem.{TreeItem}
 use Rattle.cpg_tree.specs.Flat.{flat}

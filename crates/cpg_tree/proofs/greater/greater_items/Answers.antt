@@ -1,3 +1,5 @@
+-- Proof of `greater_items`: adds what is made of the greater number of two trees in the scenarios of a space that the
+-- forks of both fit.
 use Rattle.std.proofs.Common.{ℕ, ◌∙◌, sym}
 use Rattle.cpg_tree.specs.TreeNode.{Leaf}
 use Rattle.cpg_tree.proofs.Flats.{flat-same}

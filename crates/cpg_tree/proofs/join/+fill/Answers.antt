@@ -1,3 +1,4 @@
+-- Proof of `fill_items` and `fill_fork`: the tree of the answers to one value and the values of a tree.
 use Rattle.std.proofs.Common.{◌∙◌, sym, ap}
 use Rattle.cpg_tree.proofs.Forks.{from_false, of_answer}
 use Rattle.cpg_tree.proofs.Spaces.{above_reopened, lies_reopened}
@@ -48,6 +49,7 @@ pub fill_fork-returns-in_ok-fill_items-in-Cut-2-clause-made :
     goal.fill_fork-returns-in_ok-fill_items-in-Cut-2-clause-made
 fill_fork-returns-in_ok-fill_items-in-Cut-2-clause-made g t c =
     let shows = c.in-Cut.ensures.shows in
+    -- the fork joins what is made of both sides
     of_answer c.fork.result _ _ c.fork.ensures.made
     (λ u forks n are.
     fills_fork c.args.space.now c.in-Cut.variable c.in-Cut.cut shows.0 shows.1 n c.args.items.now shows.4 are
@@ -57,16 +59,19 @@ fill_fork-returns-in_ok-fill_items-in-Cut-2-clause-made g t c =
     c.fill_items.new.out.items c.fill_items-in-Cut.new.out.items
     (sym c.is_open_below.ensures.is ∙ c.if-not-is_open_below.false)
     (sym c.is_open_above.ensures.is ∙ c.if-not-is_open_above.false) c.close_above-most.ensures.is
+    -- the space that is opened again, without what is below the cut, is the one above it
     (above_reopened c.args.space.now c.close_above-most.new.self c.fill_items.new.space c.reopen_above.new.self
     c.close_below-least.new.self c.in-Cut.variable c.close_above-most.result
     c.in-Cut.cut
     c.close_above-most.ensures.back c.in_ok-fill_items-in-Cut.ensures.back c.reopen_above.ensures
     c.close_below-least.ensures.is)
     c.close_above-most.ensures.lies
+    -- the scenarios of the side above lie in its space
     (lies_reopened c.args.space.now c.close_above-most.new.self c.fill_items.new.space c.reopen_above.new.self
     c.close_below-least.new.self c.in-Cut.variable c.close_above-most.result
     c.in-Cut.cut
     c.close_above-most.ensures.back c.in_ok-fill_items-in-Cut.ensures.back c.reopen_above.ensures
     c.close_below-least.ensures.lies)
+    -- the lists of both sides stand behind each other, and each is what is made of its side
     (c.len-start.ensures ∙ c.args.out.now.ok.0) (c.len-middle.ensures ∙ c.fill_items.new.out.ok.0) forks
     (c.in_ok-fill_items-in-Cut.ensures.made shows.0 shows.2) (c.in_ok-fill_items-in-Cut-2.ensures.made shows.1 shows.3))

@@ -1,3 +1,4 @@
+-- Proof of `join_items` and `join_side`: the tree of the answers to the values of two trees.
 use Rattle.std.proofs.Common.{◌∙◌, sym, ap, arith}
 use Rattle.cpg_tree.specs.declared.space.Space.{Space}
 use Rattle.cpg_tree.specs.declared.space.Lifted.{Lifted}
@@ -93,6 +94,7 @@ pub join_items-returns-in_ok-join_side-in-Cut-2-clause-made :
     goal.join_items-returns-in_ok-join_side-in-Cut-2-clause-made
 join_items-returns-in_ok-join_side-in-Cut-2-clause-made g t c =
     let shows = c.in-Cut.ensures.shows in
+    -- the fork joins what is made of both sides with the part of the other tree
     of_answer c.fork.result _ _ c.fork.ensures.made
     (λ u forks n m are others.
     let part = c.part_in-other.ensures.part m others in
@@ -105,17 +107,20 @@ join_items-returns-in_ok-join_side-in-Cut-2-clause-made g t c =
     c.join_side.new.out.items c.join_side-in-Cut.new.out.items
     (sym c.is_open_below.ensures.is ∙ c.if-not-is_open_below.false)
     (sym c.is_open_above.ensures.is ∙ c.if-not-is_open_above.false) c.close_above-most.ensures.is
+    -- the space that is opened again, without what is below the cut, is the one above it
     (above_reopened c.args.space.now c.close_above-most.new.self c.join_side.new.space c.reopen_above.new.self
     c.close_below-least.new.self c.in-Cut.variable c.close_above-most.result
     c.in-Cut.cut
     c.close_above-most.ensures.back c.in_ok-join_side-in-Cut.ensures.back c.reopen_above.ensures
     c.close_below-least.ensures.is)
     c.close_above-most.ensures.lies
+    -- the scenarios of the side above lie in its space
     (lies_reopened c.args.space.now c.close_above-most.new.self c.join_side.new.space c.reopen_above.new.self
     c.close_below-least.new.self c.in-Cut.variable c.close_above-most.result
     c.in-Cut.cut
     c.close_above-most.ensures.back c.in_ok-join_side-in-Cut.ensures.back c.reopen_above.ensures
     c.close_below-least.ensures.lies)
+    -- the lists of both sides stand behind each other, and each is what is made of its side
     (c.len-start.ensures ∙ c.args.out.now.ok.0) (c.len-middle.ensures ∙ c.join_side.new.out.ok.0) forks
     (c.in_ok-join_side-in-Cut.ensures.made shows.0 part.0 shows.2 part.1)
     (c.in_ok-join_side-in-Cut-2.ensures.made shows.1 part.0 shows.3 part.1)))

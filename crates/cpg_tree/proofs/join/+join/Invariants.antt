@@ -1,3 +1,4 @@
+-- Recursion of `join_items` and `join_side`, which call each other.
 use Rattle.std.proofs.Common.{◌+◌, ◌*◌, length}
 use Rattle.cpg_tree.proofs.join.+join.Given as goal
 
@@ -5,5 +6,6 @@ use Rattle.cpg_tree.proofs.join.+join.Given as goal
 abbrev pub decreases-join_items : goal.decreases-join_items
 decreases-join_items g l = length l.items.now * 2
 
+-- one more than that of `join_items`, which it calls on the same list
 abbrev pub decreases-join_side : goal.decreases-join_side
 decreases-join_side g l = length l.items.now * 2 + 1

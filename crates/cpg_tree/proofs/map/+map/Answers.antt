@@ -1,3 +1,4 @@
+-- Proof of `map_items` and `map_fork`: the tree of the answers to the values of a tree.
 use Rattle.std.proofs.Common.{rules}
 use Rattle.cpg_tree.proofs.Forks.{of_answer}
 use Rattle.cpg_tree.proofs.MapLaws.{maps_leaf, maps_fork}

@@ -1,3 +1,4 @@
+-- Proof of `part_of` and `part_in`: the part of a tree that the scenarios of a space come to.
 use Rattle.cpg_tree.proofs.Forks.{from_false}
 use Rattle.cpg_tree.proofs.JoinLaws.{part_above, part_below}
 use Rattle.cpg_tree.proofs.part.+part.Goals as goal

@@ -1,3 +1,4 @@
+-- Proof of `pick_items`: adds the tree of the values that a chooser picks, for the scenarios of a space.
 use Rattle.std.proofs.Common.{Bool, ◌∙◌, sym, ap, arith}
 use Rattle.cpg_tree.specs.TreeNode.{Leaf}
 use Rattle.cpg_tree.specs.Flat.{flat}
@@ -60,6 +61,7 @@ returns-else-is_on-clause-made g t c =
     c.args.items.now are
     (c.in-Value.ensures.shows ∙ ap (λ (b : Bool). flat (Leaf b)) c.if-is_on.false) (made off.0 off.1)))
 
+-- the list has grown by the fork or by a side
 pub returns-in_ok-pick_items-in-Cut-2-clause-long : goal.returns-in_ok-pick_items-in-Cut-2-clause-long
 returns-in_ok-pick_items-in-Cut-2-clause-long g t c =
     of_answer c.fork.result _ _ c.fork.ensures.long (λ u h. omega (arith, h, c.len-start.ensures, c.fork.new.out.ok.0))
@@ -80,6 +82,7 @@ returns-in_ok-pick_items-in-Cut-2-clause-back g t c =
 pub returns-in_ok-pick_items-in-Cut-2-clause-made : goal.returns-in_ok-pick_items-in-Cut-2-clause-made
 returns-in_ok-pick_items-in-Cut-2-clause-made g t c =
     let shows = c.in-Cut.ensures.shows in
+    -- the fork joins what is picked on both sides, from the parts of the two trees
     of_answer c.fork.result _ _ c.fork.ensures.made
     (λ u forks n a b are ons offs.
     let on = c.part_in-on.ensures.part a ons in
@@ -91,17 +94,20 @@ returns-in_ok-pick_items-in-Cut-2-clause-made g t c =
     c.pick_items-in-Cut.new.out.items c.pick_items-in-Cut-2.new.out.items
     (sym c.is_open_below.ensures.is ∙ c.if-not-is_open_below.false)
     (sym c.is_open_above.ensures.is ∙ c.if-not-is_open_above.false) c.close_above-most.ensures.is
+    -- the space that is opened again, without what is below the cut, is the one above it
     (above_reopened c.args.space.now c.close_above-most.new.self c.pick_items-in-Cut.new.space c.reopen_above.new.self
     c.close_below-least.new.self c.in-Cut.variable c.close_above-most.result
     c.in-Cut.cut
     c.close_above-most.ensures.back c.in_ok-pick_items-in-Cut.ensures.back c.reopen_above.ensures
     c.close_below-least.ensures.is)
     c.close_above-most.ensures.lies
+    -- the scenarios of the side above lie in its space
     (lies_reopened c.args.space.now c.close_above-most.new.self c.pick_items-in-Cut.new.space c.reopen_above.new.self
     c.close_below-least.new.self c.in-Cut.variable c.close_above-most.result
     c.in-Cut.cut
     c.close_above-most.ensures.back c.in_ok-pick_items-in-Cut.ensures.back c.reopen_above.ensures
     c.close_below-least.ensures.lies)
+    -- the lists of both sides stand behind each other, and each is what is picked on its side
     (c.len-start.ensures ∙ c.args.out.now.ok.0) (c.len-middle.ensures ∙ c.pick_items-in-Cut.new.out.ok.0) forks
     (c.in_ok-pick_items-in-Cut.ensures.made shows.0 on.0 off.0 shows.2 on.1 off.1)
     (c.in_ok-pick_items-in-Cut-2.ensures.made shows.1 on.0 off.0 shows.3 on.1 off.1)))

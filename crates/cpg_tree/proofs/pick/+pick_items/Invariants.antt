@@ -1,3 +1,4 @@
+-- Recursion of `pick_items`: adds the tree of the values that a chooser picks, for the scenarios of a space.
 use Rattle.std.proofs.Common.{length}
 use Rattle.cpg_tree.proofs.pick.+pick_items.Given as goal
 

@@ -1,3 +1,4 @@
+-- Proof of `within_items`: adds a tree for the scenarios of a space.
 use Rattle.std.proofs.Common.{rules}
 use Rattle.cpg_tree.proofs.Forks.{of_answer}
 use Rattle.cpg_tree.proofs.pick.within_items.Goals as goal

@@ -1,3 +1,5 @@
+-- Proof of `pick_read`: adds the numbers of one of two trees in the scenarios of a space: those of the first, as it
+-- is read, if a chooser is true.
 use Rattle.std.proofs.Common.{ℕ, Bool, ◌∙◌, sym, ap, arith, rules}
 use Rattle.cpg_tree.specs.TreeNode.{Leaf}
 use Rattle.cpg_tree.specs.Flat.{flat}
@@ -48,6 +50,7 @@ returns-then-not-is_open_above-clause-made g t c =
 pub returns-then-is_on-clause-made : goal.returns-then-is_on-clause-made
 returns-then-is_on-clause-made g t c =
     let number : g.row.T.Denot → ℕ = g.R.Reading.number c.args.read.now in
+    -- what is added is the first tree's part, as it is read
     of_answer c.at_least.result _ _ c.at_least.ensures.made
     (λ u made n a b are ons offs.
     let on = c.part_in-on.ensures.part a ons in
@@ -58,6 +61,7 @@ returns-then-is_on-clause-made g t c =
     (read_by number on.0) off.0 c.args.out.now.items c.at_least.new.out.items n c.args.items.now are
     (c.in-Value.ensures.shows ∙ ap (λ (b : Bool). flat (Leaf b)) c.if-is_on.true)
     (kept_read number c.args.space.now on.0 c.args.out.now.items c.at_least.new.out.items
+    -- read so, it has the values and ranges of the first tree
     (let p = made on.0 on.1 in (
       p.0,
       p.1,
@@ -86,6 +90,7 @@ returns-else-is_on-clause-made g t c =
     (read_by number on.0) off.0 c.args.out.now.items c.within_items.new.out.items n c.args.items.now are
     (c.in-Value.ensures.shows ∙ ap (λ (b : Bool). flat (Leaf b)) c.if-is_on.false) (made off.0 off.1)))
 
+-- the list has grown by the fork or by a side
 pub returns-in_ok-pick_read-in-Cut-2-clause-long : goal.returns-in_ok-pick_read-in-Cut-2-clause-long
 returns-in_ok-pick_read-in-Cut-2-clause-long g t c =
     of_answer c.fork.result _ _ c.fork.ensures.long (λ u h. omega (arith, h, c.len-start.ensures, c.fork.new.out.ok.0))
@@ -107,6 +112,7 @@ pub returns-in_ok-pick_read-in-Cut-2-clause-made : goal.returns-in_ok-pick_read-
 returns-in_ok-pick_read-in-Cut-2-clause-made g t c =
     let number : g.row.T.Denot → ℕ = g.R.Reading.number c.args.read.now in
     let shows = c.in-Cut.ensures.shows in
+    -- the fork joins what is picked on both sides, from the parts of the two trees
     of_answer c.fork.result _ _ c.fork.ensures.made
     (λ u forks n a b are ons offs.
     let on = c.part_in-on.ensures.part a ons in
@@ -119,17 +125,20 @@ returns-in_ok-pick_read-in-Cut-2-clause-made g t c =
     c.pick_read-in-Cut.new.out.items c.pick_read-in-Cut-2.new.out.items
     (sym c.is_open_below.ensures.is ∙ c.if-not-is_open_below.false)
     (sym c.is_open_above.ensures.is ∙ c.if-not-is_open_above.false) c.close_above-most.ensures.is
+    -- the space that is opened again, without what is below the cut, is the one above it
     (above_reopened c.args.space.now c.close_above-most.new.self c.pick_read-in-Cut.new.space c.reopen_above.new.self
     c.close_below-least.new.self c.in-Cut.variable c.close_above-most.result
     c.in-Cut.cut
     c.close_above-most.ensures.back c.in_ok-pick_read-in-Cut.ensures.back c.reopen_above.ensures
     c.close_below-least.ensures.is)
     c.close_above-most.ensures.lies
+    -- the scenarios of the side above lie in its space
     (lies_reopened c.args.space.now c.close_above-most.new.self c.pick_read-in-Cut.new.space c.reopen_above.new.self
     c.close_below-least.new.self c.in-Cut.variable c.close_above-most.result
     c.in-Cut.cut
     c.close_above-most.ensures.back c.in_ok-pick_read-in-Cut.ensures.back c.reopen_above.ensures
     c.close_below-least.ensures.lies)
+    -- the lists of both sides stand behind each other, and each is what is picked on its side
     (c.len-start.ensures ∙ c.args.out.now.ok.0) (c.len-middle.ensures ∙ c.pick_read-in-Cut.new.out.ok.0) forks
     (c.in_ok-pick_read-in-Cut.ensures.made shows.0 on.0 off.0 shows.2 on.1 off.1)
     (c.in_ok-pick_read-in-Cut-2.ensures.made shows.1 on.0 off.0 shows.3 on.1 off.1)))

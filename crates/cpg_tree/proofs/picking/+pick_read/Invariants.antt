@@ -1,3 +1,5 @@
+-- Recursion of `pick_read`: adds the numbers of one of two trees in the scenarios of a space: those of the first, as
+-- it is read, if a chooser is true.
 use Rattle.std.proofs.Common.{length}
 use Rattle.cpg_tree.proofs.picking.+pick_read.Given as goal
 

@@ -1,3 +1,4 @@
+-- Proof of `push_counts`: adds the tree of the count of a process, if it is `first` or more.
 use Rattle.std.proofs.Common.{ℕ, ◌≤◌, ◌<◌, ◌≡◌, ◌∙◌, arith}
 use Rattle.cpg_tree.proofs.Forks.{of_answer}
 use Rattle.cpg_tree.proofs.VariableLaws.{adds_last, adds_counts}

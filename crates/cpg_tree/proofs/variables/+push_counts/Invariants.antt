@@ -1,3 +1,4 @@
+-- Recursion of `push_counts`: adds the tree of the count of a process, if it is `first` or more.
 use Rattle.std.proofs.Common.{◌-◌}
 use Rattle.cpg_tree.proofs.variables.+push_counts.Given as goal
 

@@ -1,3 +1,4 @@
+-- Proof of `fault`: how many faults a process has.
 use Rattle.std.proofs.Common.{ℕ, ◌≡◌, sym, subst, arith}
 use Rattle.cpg_tree.specs.Tree.{TreeState, DoPathsPass, IsNumber}
 use Rattle.cpg_tree.proofs.Flats.{all_added}

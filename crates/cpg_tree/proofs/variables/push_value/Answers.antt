@@ -1,3 +1,4 @@
+-- Proof of `push_value`: adds the tree of the value of a condition.
 use Rattle.std.proofs.Common.{◌+◌, ◌∙◌, arith}
 use Rattle.cpg_tree.proofs.Forks.{of_answer}
 use Rattle.cpg_tree.proofs.VariableLaws.{adds_value}

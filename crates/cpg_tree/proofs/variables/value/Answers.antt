@@ -1,3 +1,4 @@
+-- Proof of `value`: the value of a condition.
 use Rattle.std.proofs.Common.{ℕ, ◌+◌, ◌≡◌, Bool, sym, subst, arith}
 use Rattle.cpg_base.specs.Scenario.{number_of_value}
 use Rattle.cpg_tree.specs.Tree.{TreeState, DoPathsPass, IsNumber}

@@ -4,6 +4,7 @@ use Rattle.cpg_tree_columns.specs.Columns.{columns_of_paths}
 use Rattle.cpg_tree_columns.proofs.CountedTimes.{times_in, times_are}
 use Rattle.cpg_tree_columns.proofs.demanding.column_count.Goals as goal
 
+-- the list of the tree has a column for each path with a number
 pub returns : goal.returns
 returns c =
     let root : TreeNode (Option ℕ) = c.items.ensures.flat.0 in

@@ -1,3 +1,5 @@
+-- Proof of `push_columns`: adds the columns on from a cube, which is narrowed on the way down and restored on the way
+-- up.
 use Rattle.std.proofs.Common.{◌≡◌, None, Some, sym, arith, rules}
 use Rattle.std.proofs.lemmas.List.{append-nil}
 use Rattle.cpg_tree.specs.TreeNode.{Fork}

@@ -1,3 +1,5 @@
+-- Recursion of `push_columns`: adds the columns on from a cube, which is narrowed on the way down and restored on the
+-- way up.
 use Rattle.std.proofs.Common.{length}
 use Rattle.cpg_tree_columns.proofs.listing.+push_columns.Given as goal
 

@@ -1,3 +1,4 @@
+-- Proof of `columns`: the paths with a number, each with its own cube, by the least scenario that it matches.
 use Rattle.std.proofs.Common.{All, IsPermutation, subst}
 use Rattle.std.proofs.lemmas.List.Sorted.{All-permutation}
 use Rattle.cpg_tree.proofs.Forks.{of_answer}

@@ -1,3 +1,4 @@
+-- Proof of `columns_are_tidy`: its contract says that the columns of a tree of a graph are tidy.
 use Rattle.std.proofs.Common.{ℕ, ◌≡◌, ◌∙◌, ◌++◌, List, Option, All, IsPermutation, sym, ap, ap₂, subst}
 use Rattle.std.proofs.lemmas.List.Sorted.{IsPermutation-refl}
 use Rattle.cpg_cube.specs.declared.literal.Literal.{Literal}
@@ -12,6 +13,7 @@ use Rattle.cpg_tree_columns.proofs.ColumnsFound.{all_columns}
 use Rattle.cpg_tree_columns.proofs.TidyColumns.{tidy_columns}
 use Rattle.cpg_tree_columns.proofs.listing.columns_are_tidy.Goals as goal
 
+-- the columns of the paths of a good tree are tidy, and the tree's paths are those
 pub returns : goal.returns
 returns c =
     let root : TreeNode (Option ℕ) = c.items-items.ensures.flat.0 in

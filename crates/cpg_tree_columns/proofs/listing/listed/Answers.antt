@@ -1,3 +1,4 @@
+-- Proof of `listed`: the paths with a number, each with its own cube, from the left to the right.
 use Rattle.std.proofs.Common.{All, sym, subst}
 use Rattle.cpg_tree_columns.specs.Columns.{IsTidyColumn}
 use Rattle.cpg_tree_columns.proofs.listing.listed.Goals as goal

@@ -1,3 +1,4 @@
+-- Proof of `holds_in`: whether a tree is true in some scenario of a space.
 use Rattle.std.proofs.Common.{◌≡◌, ◌∙◌, sym, ap, subst}
 use Rattle.cpg_tree.specs.TreeNode.{Fork}
 use Rattle.cpg_tree.specs.declared.space.Space.{Space}
@@ -10,9 +11,11 @@ use Rattle.cpg_tree.proofs.Passes.{of_true, of_false}
 use Rattle.cpg_tree.proofs.Spaces.{lies_reopened}
 use Rattle.cpg_tree_columns.proofs.meeting.+holds_in.Goals as goal
 
+-- a leaf that is true is so in a scenario of the space
 pub returns-in-Value-clause-met : goal.returns-in-Value-clause-met
 returns-in-Value-clause-met t c = leaf_met c.args.space.now c.in-Value.is' c.args.items.now c.in-Value.ensures.shows
 
+-- a leaf that is false is so in every scenario
 pub returns-in-Value-clause-never : goal.returns-in-Value-clause-never
 returns-in-Value-clause-never t c = leaf_never c.args.space.now c.in-Value.is' c.args.items.now c.in-Value.ensures.shows
 

@@ -1,3 +1,4 @@
+-- Recursion of `holds_in`: whether a tree is true in some scenario of a space.
 use Rattle.std.proofs.Common.{length}
 use Rattle.cpg_tree_columns.proofs.meeting.+holds_in.Given as goal
 

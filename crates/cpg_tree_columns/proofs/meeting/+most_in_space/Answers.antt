@@ -1,3 +1,4 @@
+-- Proof of `most_in_space`: the greatest of a number and of a tree's numbers in a space where another tree is true.
 use Rattle.std.proofs.Common.{◌≡◌, ◌∙◌, sym, ap, subst}
 use Rattle.cpg_tree.specs.TreeNode.{Leaf, Fork}
 use Rattle.cpg_tree_columns.specs.Meeting.{IsMostInSpace}
@@ -58,18 +59,21 @@ pub returns-else-not-is_open_above-clause-most : goal.returns-else-not-is_open_a
 returns-else-not-is_open_above-clause-most t c n w are wanted =
     let shows = c.in-Cut.ensures.shows in
     let space : Space = c.args.space.now in
+    -- the space is opened again, and closed below the cut it is the one above it
     let back : c.reopen_above.new.self ≡ space = c.reopen_above.ensures
     ∙ ap (λ (r : Space). below_cut r c.in-Cut.variable c.close_above-most.result) c.most_in_space-low.ensures.back ∙
     c.close_above-most.ensures.back in
     let upper : c.close_below-least.new.self ≡ above_cut space c.in-Cut.variable c.in-Cut.cut =
     c.close_below-least.ensures.is ∙
     ap (λ (r : Space). above_cut r c.in-Cut.variable c.in-Cut.cut) back in
+    -- the greatest number of both sides, one after the other, is that of the fork
     most_both c.in-Cut.variable c.in-Cut.cut c.in-Cut.ensures.variable shows.0 shows.1 n
     (flat-same n (Fork c.in-Cut.variable c.in-Cut.cut shows.0 shows.1) (sym are ∙ shows.4)) w space c.args.best
     c.most_in_space-low.result
     c.most_in_space-high.result
     (sym c.is_open_below.ensures.is ∙ c.if-not-is_open_below.false)
     (sym c.is_open_above.ensures.is ∙ c.if-not-is_open_above.false)
+    -- the scenarios of each side lie in its space
     (λ s lies h.
     subst (λ (r : Space). IsInSpace r s) c.close_above-most.ensures.is (c.close_above-most.ensures.lies s lies h))
     (λ s lies h. subst (λ (r : Space). IsInSpace r s) upper
@@ -77,6 +81,7 @@ returns-else-not-is_open_above-clause-most t c n w are wanted =
     c.close_below-least.new.self c.in-Cut.variable c.close_above-most.result c.in-Cut.cut
     c.close_above-most.ensures.back c.most_in_space-low.ensures.back c.reopen_above.ensures
     c.close_below-least.ensures.lies s lies h))
+    -- what each side was asked for is the greatest number in its space
     (subst (λ (r : Space). IsMostInSpace r shows.0 w c.args.best c.most_in_space-low.result)
     c.close_above-most.ensures.is (c.most_in_space-low.ensures.most shows.0 w shows.2 wanted))
     (subst (λ (r : Space). IsMostInSpace r shows.1 w c.most_in_space-low.result c.most_in_space-high.result) upper

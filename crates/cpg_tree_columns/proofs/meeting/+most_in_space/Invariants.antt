@@ -1,3 +1,5 @@
+-- Recursion of `most_in_space`: the greatest of a number and of a tree's numbers in a space where another tree is
+-- true.
 use Rattle.std.proofs.Common.{length}
 use Rattle.cpg_tree_columns.proofs.meeting.+most_in_space.Given as goal
 

@@ -1,3 +1,5 @@
+-- Proof of `most_where`: the greatest number in a scenario in which another tree is true; `None` exactly if there is
+-- none.
 use Rattle.std.proofs.Common.{ℕ, Bool, Option, sym, subst}
 use Rattle.cpg_tree.specs.Space.{HasAtMostFaults, IsWhole}
 use Rattle.cpg_tree.specs.TreeNode.{TreeNode}

@@ -1,3 +1,4 @@
+-- Proof of `best_of`: the least number of parts from 1 to 255 in which an execution with `faults` faults lasts least.
 use Rattle.std.proofs.Common.{rules, ◌∙◌, ◌-◌, sym, ap, arith}
 use Rattle.cpg_tune.specs.Best.{duration_in}
 use Rattle.cpg_tune.proofs.Fewest.{takes_next, keeps_best, best_is_fewest}

@@ -1,3 +1,4 @@
+-- Loops of `best_of`: the least number of parts from 1 to 255 in which an execution with `faults` faults lasts least.
 use Rattle.std.proofs.Common.{◌≡◌, ◌-◌, fold}
 use Rattle.std.specs.List.{range_with_len}
 use Rattle.cpg_tune.specs.Best.{duration_in, shorter}

@@ -1,3 +1,5 @@
+-- Proof of `best_parts`: the best number of parts of a process: the least from 1 to 255 for which an execution with
+-- the greatest number of faults lasts least.
 use Rattle.std.proofs.Common.{◌≡◌, ◌∙◌, get_or, sym, ap, ap₂, subst}
 use Rattle.std.proofs.lemmas.List.{get_or_default}
 use Rattle.cpg_base.specs.Graph.{process_at}

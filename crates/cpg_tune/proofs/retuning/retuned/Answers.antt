@@ -1,3 +1,4 @@
+-- Proof of `retuned`: the graph with another fault number, and each process in the number of parts at its place.
 use Rattle.std.proofs.Common.{rules, ◌≡◌, ◌∙◌, None, IfSome, ap, subst, sym}
 use Rattle.cpg_base.specs.Graph.{Graph, process_count}
 use Rattle.cpg_base.specs.Limits.{IsOrderWithin}
@@ -28,6 +29,7 @@ of-retuned-requires c =
 -- the order of the graph fits the retuned graph, which has as many processes
 pub with_order-requires : goal.with_order-requires
 with_order-requires c =
+    -- the retuned graph, still without its order
     let g = c.args.problem.now in
     let made : Graph = record {
       faults = c.args.faults;
@@ -42,6 +44,7 @@ with_order-requires c =
     let is : made ≡ record (retuned g c.args.parts.now c.args.faults) { order = None } = search rules in
     let count : process_count c.of-retuned.result ≡ process_count (retuned g c.args.parts.now c.args.faults) =
     ap process_count (c.of-retuned.ensures ∙ is) in
+    -- the order has each process once, of which there are as many
     let whole =
     retuned_within g c.args.parts.now c.args.faults c.nodes.ensures.within c.requires.parts c.requires.faults in
     subst (λ n. IfSome c.in_ok-order.order (λ list. IsOrderWithin n list.items)) (sym count)

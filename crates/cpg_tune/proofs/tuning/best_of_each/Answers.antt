@@ -1,3 +1,4 @@
+-- Proof of `best_of_each`: the best parts of each process.
 use Rattle.std.proofs.Common.{rules}
 use Rattle.cpg_tune.proofs.AsBefore.{best_parts_push}
 use Rattle.cpg_tune.proofs.tuning.best_of_each.Goals as goal

@@ -1,3 +1,4 @@
+-- Proof of `least_where` and `least_at`: the least scenario of a cube in which a tree comes to what is wanted.
 use Rattle.std.proofs.Common.{rules, ◌≡◌, subst, Some, List, map, Bor}
 use Rattle.cpg_cube.specs.declared.literal.Literal.{Literal}
 use Rattle.cpg_cube.specs.Fit.{IsKnown}
@@ -12,10 +13,12 @@ use Rattle.cpg_violation.proofs.activity.+activity.Goals as goal
 abbrev seen : Bor (List Literal) → List Literal
 seen b = b.now
 
+-- the order of an admitted graph has each of its processes
 pub least_at-uncovered-requires-clause-order : goal.least_at-uncovered-requires-clause-order
 least_at-uncovered-requires-clause-order t c =
     rw (c.order-order.ensures.order, c.problem-problem.ensures.problem) (long_order c.order-order.ensures.admitted)
 
+-- the order of an admitted graph has each of its processes
 pub least_at-earlier-requires-clause-order : goal.least_at-earlier-requires-clause-order
 least_at-earlier-requires-clause-order t c =
     rw (c.order-order.ensures.order, c.problem-problem.ensures.problem) (long_order c.order-order.ensures.admitted)

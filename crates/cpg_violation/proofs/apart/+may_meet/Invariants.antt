@@ -1,3 +1,5 @@
+-- Recursion of `may_meet`: whether a scenario may match two lists of literals, both by rising variables: not if they
+-- ask for different numbers of a variable.
 use Rattle.std.proofs.Common.{◌+◌, length}
 use Rattle.cpg_violation.proofs.apart.+may_meet.Given as goal
 

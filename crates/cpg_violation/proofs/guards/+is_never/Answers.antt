@@ -1,3 +1,4 @@
+-- Proof of `is_never`: whether a tree comes to an activation, or else to none, as wanted, in no scenario of a space.
 use Rattle.std.proofs.lemmas.Bool.{OnTrue_at}
 use Rattle.cpg_violation.proofs.GuardLaws.{step_on, step_off, step_both}
 use Rattle.cpg_violation.proofs.guards.+is_never.Goals as goal

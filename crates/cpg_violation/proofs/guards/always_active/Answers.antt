@@ -1,3 +1,4 @@
+-- Proof of `always_active`: which processes are known to be active in every scenario.
 use Rattle.std.proofs.Common.{◌≡◌, ◌∙◌, arith, ap, ◌∷◌, []}
 use Rattle.std.proofs.lemmas.List.{length-append}
 use Rattle.cpg_base.specs.Graph.{Graph}
@@ -21,5 +22,6 @@ loop-process-preserved c =
           (λ told s law. told s law (c.whole-space.ensures.lies s (few_of g c.faults.result faults s law)))),
     )
 
+-- at the end each mark that is set is right
 pub returns : goal.returns
 returns c p l e = c.loop-process.invariant.1 p e

@@ -1,3 +1,4 @@
+-- Loops of `always_active`: which processes are known to be active in every scenario.
 use Rattle.std.proofs.Common.{ℕ, ◌≡◌, length, get_or, true, false}
 use Rattle.cpg_violation.specs.Always.{IsAlways}
 use Rattle.cpg_violation.proofs.guards.always_active.Given as goal

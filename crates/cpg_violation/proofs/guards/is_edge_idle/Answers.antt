@@ -1,3 +1,4 @@
+-- Proof of `is_edge_idle`: whether an edge is live in no scenario of a space.
 use Rattle.std.proofs.lemmas.Bool.{OnTrue_at}
 use Rattle.cpg_base.specs.Activity.{active, takes, value_of}
 use Rattle.cpg_base.specs.Graph.{edge_at, source}

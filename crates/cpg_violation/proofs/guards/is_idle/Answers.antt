@@ -1,3 +1,4 @@
+-- Proof of `is_idle`: whether a process is active in no scenario of a space.
 use Rattle.std.proofs.Common.{◌≡◌, ◌≤◌, ◌∙◌, ap, arith}
 use Rattle.cpg_base.specs.declared.limits.TheConstants.{MOST_CONDITIONS}
 use Rattle.cpg_rules.specs.Guards.{Guards, tree_of}

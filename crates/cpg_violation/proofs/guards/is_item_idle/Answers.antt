@@ -1,3 +1,4 @@
+-- Proof of `is_item_idle`: whether an item is active in no scenario of a space.
 use Rattle.std.proofs.Common.{◌∙◌}
 use Rattle.cpg_tree.proofs.Passes.{of_true}
 use Rattle.cpg_violation.specs.declared.sources.ItemSource.{ItemSource}

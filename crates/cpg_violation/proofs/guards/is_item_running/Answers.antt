@@ -1,3 +1,4 @@
+-- Proof of `is_item_running`: whether an item is active in each scenario of a space.
 use Rattle.std.proofs.Common.{◌∙◌}
 use Rattle.cpg_tree.proofs.Passes.{of_true}
 use Rattle.cpg_violation.specs.declared.sources.ItemSource.{ItemSource}

@@ -1,3 +1,4 @@
+-- Proof of `is_running`: whether a process is active in each scenario of a space.
 use Rattle.std.proofs.Common.{◌≡◌, ◌≤◌, ◌∙◌, ap, arith}
 use Rattle.cpg_base.specs.declared.limits.TheConstants.{MOST_CONDITIONS}
 use Rattle.cpg_rules.specs.Guards.{Guards, tree_of}

@@ -1,3 +1,4 @@
+-- Proof of `first_time`: the least time of these columns; the greatest number if there is none.
 use Rattle.std.proofs.Common.{ℕ, ◌≤◌, All, min, arith, subst, sym, ap, ◌∙◌}
 use Rattle.std.specs.List.{fold}
 use Rattle.std.proofs.lemmas.List.{take_all, drop_all}
@@ -23,6 +24,7 @@ returns-clause-first c = sym (ap (fold (λ (time : ℕ) (d : Column). min time d
     (drop_all c.loop-column.column-index c.args.columns.now c.loop-column-test.false)) ∙
     c.loop-column.invariant.first
 
+-- no column is earlier than the least time
 pub returns-clause-all : goal.returns-clause-all
 returns-clause-all c = subst (All (λ (d : Column). c.loop-column.first ≤ d.time))
     (take_all c.loop-column.column-index c.args.columns.now c.loop-column-test.false) c.loop-column.invariant.all

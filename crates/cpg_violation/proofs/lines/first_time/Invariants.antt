@@ -1,3 +1,4 @@
+-- Loops of `first_time`: the least time of these columns; the greatest number if there is none.
 use Rattle.std.proofs.Common.{◌≡◌, ◌≤◌, All, take, drop, min}
 use Rattle.std.specs.List.{fold}
 use Rattle.cpg_violation.specs.Lines.{first_time}

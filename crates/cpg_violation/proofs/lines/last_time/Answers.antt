@@ -1,3 +1,4 @@
+-- Proof of `last_time`: the greatest time of these columns; 0 if there is none.
 use Rattle.std.proofs.Common.{ℕ, ◌≤◌, All, max, arith, subst, sym, ap, ◌∙◌}
 use Rattle.std.specs.List.{fold}
 use Rattle.std.proofs.lemmas.List.{take_all, drop_all}
@@ -23,6 +24,7 @@ returns-clause-last c = sym (ap (fold (λ (time : ℕ) (d : Column). max time d.
     (drop_all c.loop-column.column-index c.args.columns.now c.loop-column-test.false)) ∙
     c.loop-column.invariant.last
 
+-- no column is later than the greatest time
 pub returns-clause-all : goal.returns-clause-all
 returns-clause-all c = subst (All (λ (d : Column). d.time ≤ c.loop-column.last))
     (take_all c.loop-column.column-index c.args.columns.now c.loop-column-test.false) c.loop-column.invariant.all

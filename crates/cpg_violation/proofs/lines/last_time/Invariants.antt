@@ -1,3 +1,4 @@
+-- Loops of `last_time`: the greatest time of these columns; 0 if there is none.
 use Rattle.std.proofs.Common.{◌≡◌, ◌≤◌, All, take, drop, max}
 use Rattle.std.specs.List.{fold}
 use Rattle.cpg_violation.specs.Lines.{last_time}

@@ -1,3 +1,4 @@
+-- Proof of `lines_of`: the lines of all items, by number, none of them sifted.
 use Rattle.std.proofs.Common.{arith, ap, length}
 use Rattle.cpg_table.proofs.RowColumns.{columns_few}
 use Rattle.cpg_violation.proofs.lines.lines_of.Goals as goal

@@ -1,3 +1,4 @@
+-- Loops of `lines_of`: the lines of all items, by number, none of them sifted.
 use Rattle.cpg_violation.specs.Lines.{AreLines}
 use Rattle.cpg_violation.proofs.lines.lines_of.Given as goal
 

@@ -1,8 +1,10 @@
+-- Proof of `sift`: sifts the columns of an item, if there is a line of it.
 use Rattle.std.proofs.Common.{arith}
 use Rattle.cpg_table.proofs.RowColumns.{columns_few}
 use Rattle.cpg_violation.proofs.LineLaws.{lines_sifted}
 use Rattle.cpg_violation.proofs.lines.sift.Goals as goal
 
+-- a row of lawful tables has no more columns than a sieve takes
 pub sift-requires : goal.sift-requires
 sift-requires c = rw c.columns_of.ensures.columns
     (columns_few c.args.tables.now.head c.args.tables.now.nodes c.columns_of.ensures.lawful c.args.item)

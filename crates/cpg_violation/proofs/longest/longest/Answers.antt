@@ -1,3 +1,4 @@
+-- Proof of `longest`: how long an execution takes at most in the scenarios of a space.
 use Rattle.std.proofs.Common.{◌≤◌, ◌<◌, arith}
 use Rattle.cpg_base.specs.Scenario.{fault_of}
 use Rattle.cpg_base.proofs.NumbersOf.{number_of-fault}

@@ -1,3 +1,4 @@
+-- Loops of `are_all`: whether each of the first `items` items is marked.
 use Rattle.std.proofs.Common.{ℕ, ◌≡◌, ◌<◌, get_or, true, false}
 use Rattle.cpg_violation.proofs.marks.are_all.Given as goal
 

@@ -1,3 +1,4 @@
+-- Proof of `met`: the least scenario that two cubes match, if there is one.
 use Rattle.std.proofs.Common.{[]}
 use Rattle.cpg_base.specs.Scenario.{IsScenario}
 use Rattle.cpg_violation.proofs.meeting.met.Goals as goal
@@ -14,5 +15,6 @@ returns-clause-room c =
     let lawful : IsScenario c.args.problem.now c.meets.new.least = (c.if-not-meets.ensures.least []).lawful in
     record { values = lawful.values; faults = lawful.faults }
 
+-- the least scenario of the narrowed cube is that of both cubes
 pub returns-clause-first : goal.returns-clause-first
 returns-clause-first c = rw c.in_ok-least.ensures c.if-not-meets.ensures.least

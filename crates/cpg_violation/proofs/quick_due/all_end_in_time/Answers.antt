@@ -1,3 +1,4 @@
+-- Proof of `all_end_in_time`: whether an execution ends by its process's due whichever of these columns starts it.
 use Rattle.std.proofs.Common.{ℕ, ◌≡◌, ◌≤◌, ◌+◌, true, arith}
 use Rattle.std.proofs.lemmas.Bool.{OnTrue_at}
 use Rattle.cpg_base.specs.Duration.{duration, due}
@@ -39,6 +40,7 @@ loop-column-preserved c =
     c.column-item.result c.loop-column-test.true c.column-item.is c.loop-column.invariant
     (OnTrue_at c.if-not-ends_in_time.false c.ends_in_time.ensures)
 
+-- by no column the execution ends too late
 pub returns : goal.returns
 returns c = each_all (Ends c.args.problem.now c.args.process) c.args.columns.now c.loop-column.column-index
     c.loop-column-test.false c.loop-column.invariant

@@ -1,3 +1,4 @@
+-- Loops of `due_marks`: items whose executions all end by their dues.
 use Rattle.cpg_table.specs.declared.rule.Rule.{Rule}
 use Rattle.cpg_violation.proofs.SureLaws.{AreSoFar}
 use Rattle.cpg_violation.proofs.quick_due.due_marks.Given as goal

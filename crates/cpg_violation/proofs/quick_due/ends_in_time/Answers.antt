@@ -1,3 +1,4 @@
+-- Proof of `ends_in_time`: whether an execution that a column starts ends by its process's due.
 use Rattle.std.proofs.Common.{◌≤◌, ◌+◌, arith}
 use Rattle.cpg_violation.proofs.SpaceLaws.{lies_in, not_none}
 use Rattle.cpg_violation.proofs.SureLaws.{on_le}

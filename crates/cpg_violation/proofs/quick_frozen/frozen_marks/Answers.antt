@@ -1,3 +1,4 @@
+-- Proof of `frozen_marks`: items that aren't frozen, or have one time.
 use Rattle.cpg_table.specs.declared.rule.Rule.{Rule}
 use Rattle.cpg_violation.proofs.SureLaws.{one_more}
 use Rattle.cpg_violation.proofs.quick_frozen.frozen_marks.Goals as goal
@@ -9,5 +10,6 @@ loop-item-preserved c = rw c.in_ok-push.ensures.items
     c.is_sure.result c.loop-item.invariant
     (rw c.problem-problem.ensures.problem at c.is_sure.ensures))
 
+-- each mark is right
 pub returns : goal.returns
 returns c = c.loop-item.invariant.sure

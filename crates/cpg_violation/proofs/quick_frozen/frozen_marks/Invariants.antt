@@ -1,3 +1,4 @@
+-- Loops of `frozen_marks`: items that aren't frozen, or have one time.
 use Rattle.cpg_table.specs.declared.rule.Rule.{Rule}
 use Rattle.cpg_violation.proofs.SureLaws.{AreSoFar}
 use Rattle.cpg_violation.proofs.quick_frozen.frozen_marks.Given as goal

@@ -1,3 +1,4 @@
+-- Proof of `is_sure`: whether a row keeps the rule.
 use Rattle.std.proofs.Common.{◌≡◌, All, subst}
 use Rattle.cpg_cube.specs.declared.column.Column.{Column}
 use Rattle.cpg_tree.proofs.Passes.{of_true}

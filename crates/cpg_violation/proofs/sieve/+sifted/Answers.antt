@@ -1,3 +1,4 @@
+-- Proof of `sifted`: these places, parted at most `depth` times.
 use Rattle.std.proofs.Common.{rules, ◌≡◌, Option, subst}
 use Rattle.std.specs.Prelude.{IfSome}
 use Rattle.cpg_violation.specs.declared.sieve.SieveSides.{SieveSides}

@@ -1,3 +1,4 @@
+-- Recursion of `sifted`: these places, parted at most `depth` times.
 use Rattle.cpg_violation.proofs.sieve.+sifted.Given as goal
 
 -- each call may go one level less deep

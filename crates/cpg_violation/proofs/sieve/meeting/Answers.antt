@@ -1,3 +1,4 @@
+-- Proof of `meeting`: those of these places whose columns may match some scenario together with a cube.
 use Rattle.std.proofs.Common.{rules, ◌≡◌, ◌∷◌, ◌++◌, [], get_or}
 use Rattle.cpg_violation.proofs.ApartLaws.{meets_push, meets_skip, meets_all}
 use Rattle.cpg_violation.proofs.sieve.meeting.Goals as goal
@@ -16,6 +17,7 @@ loop-place-preserved c = elim c.if-column_may_meet.branch [
       w.if-column_may_meet.ensures c.loop-place.invariant)
 ]
 
+-- at the end all places have been tried
 pub returns : goal.returns
 returns c = meets_all c.args.columns.now c.args.cube.now c.args.places.now c.loop-place.kept.items
     c.loop-place.place-index c.loop-place-test.false c.loop-place.invariant

@@ -1,3 +1,4 @@
+-- Proof of `part`: the places that go to one side of a cut.
 use Rattle.std.proofs.Common.{rules, ◌≡◌, ◌∷◌, ◌++◌, [], get_or}
 use Rattle.cpg_violation.proofs.SieveLaws.{keeps_push, keeps_skip, keeps_all}
 use Rattle.cpg_violation.proofs.sieve.part.Goals as goal

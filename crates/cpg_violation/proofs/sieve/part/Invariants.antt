@@ -1,3 +1,4 @@
+-- Loops of `part`: the places that go to one side of a cut.
 use Rattle.std.proofs.Common.{◌≡◌, ◌<◌, ℕ, Contains, length, nat_le, true, take}
 use Rattle.cpg_base.specs.Scenario.{Scenario, number_of}
 use Rattle.cpg_cube.specs.Cube.{matches}

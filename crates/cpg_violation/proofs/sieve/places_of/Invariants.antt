@@ -1,3 +1,4 @@
+-- Loops of `places_of`: the places of all columns.
 use Rattle.std.proofs.Common.{◌<◌, ℕ, Contains}
 use Rattle.cpg_violation.proofs.sieve.places_of.Given as goal
 

@@ -1,3 +1,5 @@
+-- Proof of `command`: the command of this name, if it takes these positionals and these values of `--turns`; else
+-- `Bad`.
 use Rattle.cpg_words.proofs.WholeLine.{no_such_form}
 use Rattle.cpg_words.specs.Forms.{forms}
 use Rattle.cpg_words.proofs.forms.command.Goals as goal

@@ -1,3 +1,4 @@
+-- Proof of `asked`: the command that the subcommand found by `clap` asks for.
 use Rattle.std.proofs.Common.{List, ap₂, codes, refl}
 use Rattle.clap.specs.Words.{found_of}
 use Rattle.cpg_words.specs.Parts.{Text}

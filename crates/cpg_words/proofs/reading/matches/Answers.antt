@@ -1,3 +1,4 @@
+-- Proof of `matches`: what `clap` finds in the words.
 use Rattle.std.proofs.Common.{map, string_bytes, ◌∙◌}
 use Rattle.cpg_words.proofs.Asks.{all_texts, ok_asks, bad_asks}
 use Rattle.cpg_words.proofs.reading.matches.Goals as goal

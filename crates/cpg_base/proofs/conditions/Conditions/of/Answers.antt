@@ -1,3 +1,5 @@
+-- Proof of `Conditions::of`: the conditions of this many processes, by number; `None` exactly if there are more than
+-- 32.
 use Rattle.std.proofs.Common.{◌≡◌, ◌∙◌, ◌∷◌, [], sym, ap, false, get_or, length, filter, length-append, arith}
 use Rattle.cpg_base.specs.Numbers.{numbers_below}
 use Rattle.cpg_base.proofs.Lists.{filter_below_takes, filter_below_skips}
@@ -22,6 +24,7 @@ returns-then-count-eq-MOST_CONDITIONS-clause-many c =
 -- a process that is marked is added, and no other
 pub loop-process-preserved : goal.loop-process-preserved
 loop-process-preserved c = elim c.if-found-process.branch [
+  -- the process is marked, and added
   | then-found-process+else-count-eq-MOST_CONDITIONS w ↦ record {
     found = filter_below_takes (λ p. get_or c.disjunctions-found.result p false) c.loop-process.conditions
         c.if-found-process.conditions c.loop-process.process
@@ -32,6 +35,7 @@ loop-process-preserved c = elim c.if-found-process.branch [
       length-append c.loop-process.conditions (c.loop-process.process ∷ []),
     );
   }
+  -- it isn't marked
   | else-found-process w ↦ record {
     found = w.conditions-is ∙ filter_below_skips (λ p. get_or c.disjunctions-found.result p false)
         c.loop-process.conditions c.loop-process.process

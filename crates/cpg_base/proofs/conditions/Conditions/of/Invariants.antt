@@ -1,3 +1,5 @@
+-- Loops of `Conditions::of`: the conditions of this many processes, by number; `None` exactly if there are more than
+-- 32.
 use Rattle.std.proofs.Common.{◌≡◌, ◌≤◌, false, filter, get_or, length}
 use Rattle.cpg_base.specs.Numbers.{numbers_below}
 use Rattle.cpg_base.proofs.conditions.Conditions.of.Given as goal

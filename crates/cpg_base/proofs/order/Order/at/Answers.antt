@@ -1,3 +1,4 @@
+-- Proof of `Order::at`: the process at a place, counted from 0.
 use Rattle.std.proofs.Common.{◌<◌, ◌∙◌, sym, ap, length, arith, subst}
 use Rattle.std.proofs.lemmas.List.{get_or_default}
 use Rattle.cpg_base.specs.Order.{place}

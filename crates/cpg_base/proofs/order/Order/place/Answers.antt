@@ -1,3 +1,4 @@
+-- Proof of `Order::place`: the place of a process, counted from 0.
 use Rattle.std.proofs.Common.{◌<◌, ◌∙◌, sym, ap, subst, get_or, length, arith}
 use Rattle.std.proofs.lemmas.List.{get_or_default}
 use Rattle.cpg_base.proofs.Standing.{at_place}

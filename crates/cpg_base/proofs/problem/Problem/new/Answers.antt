@@ -1,3 +1,5 @@
+-- Proof of `Problem::new`: the graph of these parts, which gives no order, and `None` exactly if one of the limits is
+-- broken.
 use Rattle.std.proofs.Common.{◌≡◌, None, ℕ, ◌≤◌, ◌<◌, rules, ◌∙◌, ap, ap₂, length, filter, arith}
 use Rattle.cpg_base.specs.Numbers.{numbers_below}
 use Rattle.cpg_base.specs.Conditions.{has_conditional_output}
@@ -12,6 +14,7 @@ above a b h l = omega arith
 -- more conditions than 32 were found, and these are those of the graph
 pub returns-in_default-clause-refused : goal.returns-in_default-clause-refused
 returns-in_default-clause-refused c =
+    -- the graph of the arguments
     let g : Graph = record {
       faults = c.args.faults;
       deadline = c.args.deadline;
@@ -22,11 +25,13 @@ returns-in_default-clause-refused c =
           c.args.edges.items;
       order = None;
     } in
+    -- the conditions that one pass over the edges finds are those of this graph
     let count : c.len-8.result ≡ length c.args.processes.items = search rules in
     let found : filter (has_conditional_output c.as_slice-7.result.now) (numbers_below c.len-8.result)
     ≡ disjunctions g =
     ap₂ (λ es n. filter (has_conditional_output es) (numbers_below n)) c.as_slice-7.ensures.value count
     ∙ conditions_found g in
+    -- there are more than 32 of them, so the graph isn't within the limits
     let many : 32 < length (filter (has_conditional_output c.as_slice-7.result.now) (numbers_below c.len-8.result)) =
     c.in_default.ensures.many in
     let over : 32 < length (disjunctions g) = rw found at many in
@@ -35,6 +40,7 @@ returns-in_default-clause-refused c =
 -- each limit was tested, and the conditions that were found are those of the graph
 pub invariant_of-result : goal.invariant_of-result
 invariant_of-result c =
+    -- the graph of the arguments
     let g : Graph = record {
       faults = c.args.faults;
       deadline = c.args.deadline;
@@ -45,6 +51,7 @@ invariant_of-result c =
           c.args.edges.items;
       order = None;
     } in
+    -- the conditions that one pass over the edges finds are those of this graph
     let count : c.len-8.result ≡ length c.args.processes.items = search rules in
     let found : c.in-Some.conditions ≡ disjunctions g = c.in-Some.ensures.found
     ∙ ap₂ (λ es n. filter (has_conditional_output es) (numbers_below n)) c.as_slice-7.ensures.value count ∙
@@ -71,6 +78,7 @@ invariant_of-result c =
 -- each limit was tested
 pub returns-clause-within : goal.returns-clause-within
 returns-clause-within c =
+    -- the graph of the arguments
     let g : Graph = record {
       faults = c.args.faults;
       deadline = c.args.deadline;
@@ -81,10 +89,12 @@ returns-clause-within c =
           c.args.edges.items;
       order = None;
     } in
+    -- the conditions that one pass over the edges finds are those of this graph
     let count : c.len-8.result ≡ length c.args.processes.items = search rules in
     let found : c.in-Some.conditions ≡ disjunctions g = c.in-Some.ensures.found
     ∙ ap₂ (λ es n. filter (has_conditional_output es) (numbers_below n)) c.as_slice-7.ensures.value count ∙
     conditions_found g in
+    -- all other limits were tested one by one
     record {
       faults = search rules;
       deadline = search rules;

@@ -1,3 +1,4 @@
+-- Proof of `Problem::of`: the graph of these parts, which are known to be within the limits.
 use Rattle.std.proofs.Common.{◌≡◌, None, ◌<◌, rules, ◌∙◌, ap₂, length, filter, arith}
 use Rattle.cpg_base.specs.Numbers.{numbers_below}
 use Rattle.cpg_base.specs.Conditions.{has_conditional_output}
@@ -8,6 +9,7 @@ use Rattle.cpg_base.proofs.problem.Problem.of.Goals as goal
 -- the conditions that are found are those of the graph, of which there are at most 32
 pub unreachable-requires : goal.unreachable-requires
 unreachable-requires c =
+    -- the graph of the arguments
     let g : Graph = record {
       faults = c.args.faults;
       deadline = c.args.deadline;
@@ -18,10 +20,12 @@ unreachable-requires c =
           c.args.edges.items;
       order = None;
     } in
+    -- the conditions that one pass over the edges finds are those of this graph
     let count : c.len.result ≡ length c.args.processes.items = search rules in
     let found : filter (has_conditional_output c.as_slice.result.now) (numbers_below c.len.result) ≡ disjunctions g =
     ap₂ (λ es n. filter (has_conditional_output es) (numbers_below n)) c.as_slice.ensures.value count
     ∙ conditions_found g in
+    -- more than 32 would break the limits
     let many : 32 < length (filter (has_conditional_output c.as_slice.result.now) (numbers_below c.len.result)) =
     c.in_default.ensures.many in
     let over : 32 < length (disjunctions g) = rw found at many in
@@ -30,6 +34,7 @@ unreachable-requires c =
 -- the graph was judged before, and the conditions that are found are its own
 pub invariant_of-result : goal.invariant_of-result
 invariant_of-result c =
+    -- the graph of the arguments
     let g : Graph = record {
       faults = c.args.faults;
       deadline = c.args.deadline;
@@ -40,6 +45,7 @@ invariant_of-result c =
           c.args.edges.items;
       order = None;
     } in
+    -- it is within the limits, and has the conditions that were found
     let count : c.len.result ≡ length c.args.processes.items = search rules in (
       c.requires,
       c.in-Some.ensures.found

@@ -1,3 +1,4 @@
+-- Proof of `Problem::process_of`: the process of a condition.
 use Rattle.std.proofs.Common.{◌≡◌, ◌∙◌, ◌<◌, ap, sym, subst, get_or}
 use Rattle.cpg_base.specs.Graph.{condition_of, disjunctions, process_count}
 use Rattle.cpg_base.proofs.Items.{process_of_below}

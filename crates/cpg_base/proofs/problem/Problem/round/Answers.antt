@@ -1,3 +1,4 @@
+-- Proof of `Problem::round`: the length of a round of the bus, in time units.
 use Rattle.std.proofs.Common.{◌≡◌, ap, arith}
 use Rattle.std.specs.List.{sum_by}
 use Rattle.std.proofs.lemmas.List.Sums.{sum_by-le}

@@ -1,3 +1,4 @@
+-- Proof of `Plan::queue`: the items that a process sends.
 use Rattle.std.proofs.Common.{◌<◌, ◌∙◌, [], ap, length, get_or, arith}
 use Rattle.std.proofs.lemmas.List.{get_or_default}
 use Rattle.std.proofs.lemmas.List.FromFn.{length-map-range_with_len}

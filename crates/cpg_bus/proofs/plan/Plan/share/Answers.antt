@@ -1,3 +1,4 @@
+-- Proof of `Plan::share`: the share of a node that has a slot.
 use Rattle.std.proofs.Common.{◌<◌, ◌∙◌, None, sym, ap, length, get_or, arith}
 use Rattle.std.proofs.lemmas.Bool.{cond-true}
 use Rattle.std.proofs.lemmas.List.{get_or_default}
@@ -23,6 +24,7 @@ index-requires c =
 pub returns-in-Some : goal.returns-in-Some
 returns-in-Some c =
     let is = ap (λ p. p.shares) (c.self.view_is ∙ c.requires.plan) in
+    -- the node has a place in the list of shares
     let long : c.args.node < length c.self.inside.shares.items =
     omega (
       arith,
@@ -30,6 +32,7 @@ returns-in-Some c =
       length-map-range_with_len (share_if c.args.problem.now) 0 (length c.args.problem.now.nodes),
       c.requires.node,
     ) in
+    -- the share there is the node's, since it has a slot
     same_Some c.in-Some.share (share_of c.args.problem.now c.args.node)
     (sym c.in-Some.is ∙ c.index.ensures
     ∙ get_or_default c.self.inside.shares.items c.args.node c.index.result.now None long

@@ -1,3 +1,4 @@
+-- Proof of `Share::of`: the share of a node.
 use Rattle.std.proofs.Common.{◌∙◌, arith}
 use Rattle.cpg_bus.specs.Share.{share_of}
 use Rattle.cpg_bus.proofs.Shares.{is_share, offset_is, length_is, is_share_of}

@@ -1,3 +1,5 @@
+-- Proof of `Hearing::add_literal`: adds the bounds of a column's literal that the node's own ends may leave open at its
+-- time.
 use Rattle.std.proofs.Common.{◌||◌, ◌∙◌, not, ap, sym}
 use Rattle.std.proofs.Math.Bool.{or-false}
 use Rattle.cpg_base.proofs.Lists.{from_all}

@@ -1,3 +1,5 @@
+-- Proof of `Hearing::add_own`: adds the parts of cubes in which the node's own ends tell a bound by a time, as far as
+-- they match together with a cube: those of the row of the process of the bound's variable, if that is on the node.
 use Rattle.std.proofs.Common.{◌≡◌, ◌<◌, ◌==◌, ◌&&◌, ◌||◌, ◌∙◌, [], arith, sym, ap, subst, eq-eqb}
 use Rattle.std.specs.List.{list_any}
 use Rattle.cpg_base.specs.Graph.{item_count, node_of, process_count, process_of_variable}
@@ -65,15 +67,18 @@ returns-clause-told c =
     let tables = c.args.self.now.tables.now.nodes in
     let p = c.process_of_variable-process.result in
     let t = c.index-row.result.now in
+    -- the process of the variable, and its row
     let own : p < process_count g =
     rw c.problem-problem.ensures.problem at c.process_of_variable-process.ensures.within in
     let below : p < item_count g = omega arith in
     let is = row_at g tables
     (item_count g) c.args.self.now.telling_rows.items p t c.requires.hearing.telling_rows below c.index-row.ensures in
+    -- it is the bound's process, and runs on the node
     let here : p ≡ process_of_variable g (variable_of c.args.bound) =
     rw (← c.problem-problem.ensures.problem, ← c.variable.ensures) c.process_of_variable-process.ensures.process in
     let home : node_of g p ≡ c.args.node =
     rw c.problem-problem.ensures.problem at (sym c.node_of.ensures.node ∙ c.if-node_of-node.false) in
+    -- so what the node's own ends tell is what this row tells
     λ s i m.
     let tells = item_tells g tables c.args.time c.args.bound s in
     rw (c.problem-problem.ensures.problem, is.means, is.line.all) at c.in_ok-add_row.ensures.told s i m

@@ -1,3 +1,5 @@
+-- Proof of `Hearing::arrivals`: the columns of rows that a node hears whose frames may have come by a time, as far as
+-- they may match together with a cube.
 use Rattle.std.proofs.Common.{◌<◌, [], get_or, All, arith, false, subst, sym}
 use Rattle.cpg_base.proofs.Lists.{Contains-filter_parts, numbers-Contains}
 use Rattle.cpg_base.specs.Graph.{is_heard_by, item_at, item_count}
@@ -42,6 +44,7 @@ pub loop-item-preserved : goal.loop-item-preserved
 loop-item-preserved c =
     let g = c.args.self.now.admitted.now.graph in
     let x = get_or c.args.items.now c.loop-item.item-index 0 in
+    -- the next item is one that the node hears, and has a row
     let parts = Contains-filter_parts (λ x. is_heard_by g c.args.node (item_at g x)) (numbers_below (item_count g)) x
     (c.requires.items c.loop-item.item-index 0 c.loop-item-test.true) in
     let below : x < item_count g = numbers-Contains (item_count g) x parts.0 in
@@ -49,10 +52,12 @@ loop-item-preserved c =
     let t = c.index-row.result.now in
     let is = row_at g tables
     (item_count g) c.args.self.now.telling_rows.items x t c.requires.hearing.telling_rows below c.index-row.ensures in
+    -- the row's columns have variables of the graph alone, and can tell each bound
     let known : All (λ (d : Column). IsKnown g d.cube) t.line.now.columns.now =
     rw is.line.all (columns_known c.requires.hearing.admitted tables c.requires.hearing.tables x) in
     let can : (b : LiteralBound) → CanTell g b t.means = λ b.
     rw is.means (heard_can g tables c.args.time b (record { values = []; faults = [] }) x c.args.node parts.1) in
+    -- with the row, the columns tell a bound where the rows of one item more do
     record {
       each = c.in_ok-add_row.ensures.each g known can c.loop-item.invariant.each;
       told = λ b s m.

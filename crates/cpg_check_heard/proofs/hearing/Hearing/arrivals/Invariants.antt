@@ -1,3 +1,5 @@
+-- Loops of `Hearing::arrivals`: the columns of rows that a node hears whose frames may have come by a time, as far as
+-- they may match together with a cube.
 use Rattle.std.proofs.Common.{◌≡◌, true, All, take}
 use Rattle.std.specs.List.{list_any}
 use Rattle.cpg_base.specs.Scenario.{Scenario}

@@ -1,3 +1,5 @@
+-- Proof of `Hearing::has_ended`: whether the process of a variable is on a node, and no execution of it ends after a
+-- time.
 use Rattle.std.proofs.Common.{◌≡◌, ◌<◌, ◌≤◌, ◌∙◌, All, arith, sym, subst}
 use Rattle.cpg_base.specs.Duration.{duration}
 use Rattle.cpg_base.specs.Graph.{item_count, node_of, process_count, process_of_variable}
@@ -14,17 +16,21 @@ returns c =
     let tables = c.args.self.now.tables.now.nodes in
     let p = c.process_of_variable-process.result in
     let t = c.index.result.now in
+    -- the process of the variable, and its row
     let own : p < process_count g =
     rw c.problem-problem.ensures.problem at c.process_of_variable-process.ensures.within in
     let below : p < item_count g = omega arith in
     let is = row_at g tables
     (item_count g) c.args.self.now.telling_rows.items p t c.requires.hearing.telling_rows below c.index.ensures in
+    -- it runs on the node
     let here : p ≡ process_of_variable g c.args.variable =
     rw c.problem-problem.ensures.problem at c.process_of_variable-process.ensures.process in
     let home : node_of g p ≡ c.args.node =
     rw c.problem-problem.ensures.problem at (sym c.node_of.ensures.node ∙ c.if-node_of-node.false) in
+    -- with all faults its execution takes longest
     let longest : c.duration-longest.result ≡ duration g p g.faults =
     rw (← c.problem-problem.ensures.problem) (rw c.faults.ensures.faults at c.duration-longest.ensures.duration) in
+    -- even that, from the row's last column on, has ended by the time
     ended_by g tables c.args.node c.args.variable c.args.time t.line.now.last c.duration-longest.result
     c.has_come.result c.has_come.ensures.is (subst (λ q. node_of g q ≡ c.args.node) here home)
     (subst (λ q. c.duration-longest.result ≡ duration g q g.faults) here longest)

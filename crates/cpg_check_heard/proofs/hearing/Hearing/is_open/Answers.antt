@@ -1,3 +1,5 @@
+-- Proof of `Hearing::is_open`: whether a node may not have been told a bound by a time by its own ends alone, somewhere
+-- that a cube matches.
 use Rattle.std.proofs.Common.{◌<◌, ◌||◌, ◌∙◌, ap}
 use Rattle.std.specs.List.{list_any}
 use Rattle.cpg_base.specs.Graph.{process_count, process_of_variable}

@@ -1,3 +1,5 @@
+-- Proof of `Hearing::least_of_bounds`: the least scenario that a column matches and in which a node hasn't been told
+-- one of these bounds by its time, if there is one.
 use Rattle.std.proofs.Common.{not}
 use Rattle.cpg_cube.specs.Cube.{matches}
 use Rattle.cpg_violation.proofs.Columnwise.{first_any_more}
@@ -5,6 +7,7 @@ use Rattle.cpg_violation.proofs.Violations.{long_order}
 use Rattle.cpg_check_heard.specs.Bounds.{is_told}
 use Rattle.cpg_check_heard.proofs.hearing.Hearing.least_of_bounds.Goals as goal
 
+-- the urgency order has each process
 pub earlier-found-requires-clause-order : goal.earlier-found-requires-clause-order
 earlier-found-requires-clause-order c =
     rw (c.order-order.ensures.order, c.problem-problem.ensures.problem) (long_order c.order-order.ensures.admitted)

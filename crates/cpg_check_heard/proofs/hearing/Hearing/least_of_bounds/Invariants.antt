@@ -1,3 +1,5 @@
+-- Loops of `Hearing::least_of_bounds`: the least scenario that a column matches and in which a node hasn't been told
+-- one of these bounds by its time, if there is one.
 use Rattle.std.proofs.Common.{◌&&◌, take}
 use Rattle.cpg_base.specs.First.{IsFirst}
 use Rattle.cpg_cube.specs.Cube.{matches}

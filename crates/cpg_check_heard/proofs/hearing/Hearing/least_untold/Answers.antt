@@ -1,3 +1,5 @@
+-- Proof of `Hearing::least_untold`: the least scenario that a column matches and in which a node hasn't been told a
+-- bound by its time, if there is one.
 use Rattle.std.proofs.Common.{rules, ◌≡◌, ◌<◌, ◌||◌, false, sym, ap, ◌∙◌}
 use Rattle.std.specs.List.{list_any}
 use Rattle.cpg_base.specs.Graph.{process_count, process_of_variable}
@@ -19,9 +21,11 @@ returns-then-tells_one_whole c =
     let tables = c.args.self.now.tables.now.nodes in
     let b = c.args.bound in
     let few = c.requires.hearing.admitted.well_formed.few_processes in
+    -- the bound's process is one of the graph
     let within : process_of_variable g (variable_of b) < process_count g =
     variable_within g (variable_of b) few c.requires.variable in
     let tell = rw c.problem-problem.ensures.problem at c.if-tells_one_whole.ensures in
+    -- so the bound is told in every scenario of the cube
     untold_nowhere g c.args.column.now.cube
     (λ s. list_any (tells b) (facts g tables c.args.node s c.args.column.now.time)) (is_free g.faults b)
     (λ s i m. told_heard (own_tells g tables c.args.node c.args.column.now.time b s)
@@ -39,12 +43,15 @@ returns c =
     let tables = c.args.self.now.tables.now.nodes in
     let b = c.args.bound in
     let few = c.requires.hearing.admitted.well_formed.few_processes in
+    -- the bound's process is one of the graph, and not each number is within the bound
     let within : process_of_variable g (variable_of b) < process_count g =
     variable_within g (variable_of b) few c.requires.variable in
     let free : is_free g.faults b ≡ false = search rules in
+    -- what the parts with the own ends and the frames tell, and the least scenario that they leave
     let heard = rw c.problem-problem.ensures.problem at c.in_ok-add_told.ensures.told in
     let left : IsFirst g c.args.self.now.admitted.now.order (is_left c.add_told.new.told.items c.args.column.now.cube)
     c.in_ok-found.found = rw c.as_slice.ensures.value at c.in_ok-found.ensures in
+    -- all that is told of the bound is told by these, so in that scenario it is untold first
     untold_first g c.args.self.now.admitted.now.order c.args.column.now.cube c.add_told.new.told.items
     (λ s. list_any (tells b) (facts g tables c.args.node s c.args.column.now.time))
     (is_free g.faults b) c.in_ok-found.found free
@@ -59,8 +66,10 @@ returns c =
     ap (λ xs. own_tells g tables c.args.node c.args.column.now.time b s
     || are_told_by g tables c.args.column.now.time b xs s) (sym c.requires.items))) left
 
+-- the columns are columns of the graph that may tell the bound
 pub tells_one_whole-requires-clause-arrivals : goal.tells_one_whole-requires-clause-arrivals
 tells_one_whole-requires-clause-arrivals c = rw c.problem-problem.ensures.problem c.requires.arrivals.each
 
+-- so they are for the parts
 pub add_told-requires-clause-arrivals : goal.add_told-requires-clause-arrivals
 add_told-requires-clause-arrivals c = rw c.problem-problem.ensures.problem c.requires.arrivals.each

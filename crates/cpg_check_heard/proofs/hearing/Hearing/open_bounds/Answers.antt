@@ -1,3 +1,5 @@
+-- Proof of `Hearing::open_bounds`: the bounds of a column's literals that the node's own ends may leave open at its
+-- time.
 use Rattle.std.proofs.Common.{◌<◌, ◌||◌, ◌∙◌, ap, sym, arith, length, get_or}
 use Rattle.std.proofs.lemmas.List.Elements.{Contains-get_or}
 use Rattle.std.proofs.lemmas.List.Folds.{list_any_more}
@@ -26,6 +28,7 @@ loop-literal-preserved c =
     let within : i < length cube =
     omega (arith, c.loop-literal-test.true, ap length c.literals-literal-items.ensures.literals) in
     let l = get_or cube i (record { variable = 0; low = 0; high = 0 }) in
+    -- the bounds are of known variables, and one is untold exactly if one of the literals so far isn't heard
     record {
       known = c.in_ok-add_literal.ensures.known;
       unheard = λ s law m. rw c.literals-literal-items.ensures.literals at c.in_ok-add_literal.ensures.unheard s law m

@@ -1,3 +1,5 @@
+-- Loops of `Hearing::open_bounds`: the bounds of a column's literals that the node's own ends may leave open at its
+-- time.
 use Rattle.std.proofs.Common.{◌≡◌, true, All, take}
 use Rattle.std.specs.List.{list_any}
 use Rattle.cpg_base.specs.Graph.{IsVariable}

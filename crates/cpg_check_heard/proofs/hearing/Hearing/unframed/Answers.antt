@@ -1,3 +1,5 @@
+-- Proof of `Hearing::unframed`: those of some bounds that single frames may leave open at a column's time, somewhere
+-- that the column matches.
 use Rattle.std.proofs.Common.{◌≤◌, ◌∙◌, [], Contains, not, sym}
 use Rattle.std.proofs.lemmas.List.Elements.{All-nil, All-push}
 use Rattle.cpg_base.specs.Graph.{process_count}
@@ -7,11 +9,13 @@ use Rattle.cpg_check_heard.proofs.Framed.{frame_told}
 use Rattle.cpg_check_heard.proofs.Sides.{variable_within}
 use Rattle.cpg_check_heard.proofs.hearing.Hearing.unframed.Goals as goal
 
+-- the one item that is asked about is among those that the node hears
 pub arrivals-requires-clause-items : goal.arrivals-requires-clause-items
 arrivals-requires-clause-items c =
     let P = Contains (heard_by c.args.self.now.admitted.now.graph c.args.node) in
     All-push P [] _ (All-nil P) (c.requires.ranks c.loop-rank.rank-index _ c.loop-rank-test.true)
 
+-- the columns that may have come are columns of the graph
 pub left_open-requires-clause-arrivals : goal.left_open-requires-clause-arrivals
 left_open-requires-clause-arrivals c =
     rw (c.problem-problem.ensures.problem, c.as_slice.ensures.value) c.in_ok-arrivals.ensures.each
@@ -23,8 +27,10 @@ loop-rank-preserved c =
     let tables = c.args.self.now.tables.now.nodes in
     let time = c.args.column.now.time in
     let few : process_count g ≤ 128 = c.requires.hearing.admitted.well_formed.few_processes in
+    -- what the frames of the row leave open
     let left = rw (c.problem-problem.ensures.problem, c.as_slice.ensures.value, c.as_slice-in-loop-rank.ensures.value)
     at c.in_ok-left.ensures.left in
+    -- what is left are bounds of known variables, and one of them is untold exactly if one was before
     record {
       known = rw c.problem-problem.ensures.problem at c.in_ok-left.ensures.known;
       untold = λ s law m. left s (λ b. not (is_told g tables c.args.node time b s)) law m

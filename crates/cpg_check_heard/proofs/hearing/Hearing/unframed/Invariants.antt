@@ -1,3 +1,5 @@
+-- Loops of `Hearing::unframed`: those of some bounds that single frames may leave open at a column's time, somewhere
+-- that the column matches.
 use Rattle.std.proofs.Common.{◌≡◌, true, All}
 use Rattle.cpg_base.specs.Graph.{IsVariable}
 use Rattle.cpg_base.specs.Scenario.{Scenario, IsScenario}

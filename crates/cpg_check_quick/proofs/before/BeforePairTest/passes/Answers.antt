@@ -1,3 +1,4 @@
+-- Proof of `passes`: whether an item is over by the time of another's column, from the columns at a place of each.
 use Rattle.std.proofs.Common.{ℕ, Option, subst, sym}
 use Rattle.std.specs.Prelude.{IfSome}
 use Rattle.cpg_cube.specs.declared.column.Column.{Column}

@@ -1,3 +1,4 @@
+-- Proof of `passes_with_any`: whether an item is over by the time of another's column, even by its last column.
 use Rattle.std.proofs.Common.{inl, ℕ, Option, subst, sym}
 use Rattle.std.specs.Prelude.{IfSome}
 use Rattle.cpg_cube.specs.declared.column.Column.{Column}

@@ -1,3 +1,4 @@
+-- Proof of `Audible::is_sure`: whether a row keeps the rule.
 use Rattle.std.proofs.Common.{◌≡◌, All, get_or, true, false, ap, ◌∙◌, subst}
 use Rattle.std.proofs.lemmas.Bool.{OnTrue_at}
 use Rattle.std.proofs.lemmas.List.Elements.{All-contains}
@@ -27,6 +28,7 @@ returns c = of_true c.in_ok-heard.heard c.in_ok-heard.ensures (λ all tables seq
     let node : c.home-node.result ≡ home g c.args.item =
     c.home-node.ensures.home ∙ ap (λ h. home h c.args.item) c.problem-problem.ensures.problem in
     let told = rw c.problem-problem.ensures.problem at c.in_ok-heard_rows.ensures in
+    -- what the listener knows: its node, own processes that have ended, and what the node hears
     let heard = all tables c.args.item (record {
       item = c.requires.item;
       sequences = sequences;

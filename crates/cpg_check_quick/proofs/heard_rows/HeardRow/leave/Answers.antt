@@ -1,3 +1,4 @@
+-- Proof of `HeardRow::leave`: lists the same literals as `leave_each`.
 use Rattle.std.proofs.Common.{◌≡◌, ◌⊎◌, List, Some, inl, inr, subst}
 use Rattle.cpg_cube.specs.declared.literal.Literal.{Literal}
 use Rattle.cpg_check_quick.specs.HeardRows.{IsToldIn}

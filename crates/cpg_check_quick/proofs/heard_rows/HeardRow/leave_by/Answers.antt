@@ -1,3 +1,5 @@
+-- Proof of `HeardRow::leave_by`: lists those of the wanted literals that the frames of one column don't tell, which has
+-- these literals: both go by rising variable.
 use Rattle.std.proofs.Common.{◌≡◌, ◌⊎◌, Some, Contains, subst, sym}
 use Rattle.std.proofs.lemmas.Bool.{OnTrue_at}
 use Rattle.std.proofs.lemmas.List.{take_all}
@@ -6,6 +8,7 @@ use Rattle.cpg_check_quick.specs.HeardRows.{IsToldIn}
 use Rattle.cpg_check_quick.proofs.InputLaws.{others_among, others_push, others_skip}
 use Rattle.cpg_check_quick.proofs.heard_rows.HeardRow.leave_by.Goals as goal
 
+-- what stands where there is no literal
 abbrev any : Literal
 any = record { variable = 0; low = 0; high = 0 }
 

@@ -1,3 +1,5 @@
+-- Loops of `HeardRow::leave_by`: lists those of the wanted literals that the frames of one column don't tell, which has
+-- these literals: both go by rising variable.
 use Rattle.std.proofs.Common.{◌≡◌, ◌⊎◌, Some, Contains, take}
 use Rattle.cpg_cube.specs.declared.literal.Literal.{Literal}
 use Rattle.cpg_check_quick.specs.HeardRows.{IsToldIn}

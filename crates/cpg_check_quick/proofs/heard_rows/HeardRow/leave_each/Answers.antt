@@ -1,3 +1,4 @@
+-- Proof of `HeardRow::leave_each`: lists those that the frames of the columns at these places don't tell.
 use Rattle.std.proofs.Common.{Contains, subst, sym}
 use Rattle.std.proofs.lemmas.Bool.{OnTrue_at}
 use Rattle.std.proofs.lemmas.List.{take_all}
@@ -6,6 +7,7 @@ use Rattle.cpg_check_quick.specs.HeardRows.{IsTold}
 use Rattle.cpg_check_quick.proofs.InputLaws.{others_among, others_push, others_skip}
 use Rattle.cpg_check_quick.proofs.heard_rows.HeardRow.leave_each.Goals as goal
 
+-- what stands where there is no literal
 abbrev any : Literal
 any = record { variable = 0; low = 0; high = 0 }
 

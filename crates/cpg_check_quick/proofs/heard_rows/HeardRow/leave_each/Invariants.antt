@@ -1,3 +1,4 @@
+-- Loops of `HeardRow::leave_each`: lists those that the frames of the columns at these places don't tell.
 use Rattle.std.proofs.Common.{◌⊎◌, Contains, take}
 use Rattle.cpg_cube.specs.declared.literal.Literal.{Literal}
 use Rattle.cpg_check_quick.specs.HeardRows.{IsTold}

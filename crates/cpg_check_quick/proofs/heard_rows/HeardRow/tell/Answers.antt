@@ -1,3 +1,6 @@
+-- Proof of `HeardRow::tell`: lists those of the wanted literals, each as wide as one of a column, that its frames
+-- haven't told by the column's time wherever that matches, in a space that has all these scenarios; false if it tells
+-- none.
 use Rattle.std.proofs.lemmas.Bool.{OnTrue_at}
 use Rattle.cpg_check_quick.proofs.HeardRowLaws.{left_untold}
 use Rattle.cpg_check_quick.proofs.heard_rows.HeardRow.tell.Goals as goal

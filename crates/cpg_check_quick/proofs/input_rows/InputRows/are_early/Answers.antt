@@ -1,3 +1,4 @@
+-- Proof of `InputRows::are_early`: whether each of these inputs is there by a time, by its last column.
 use Rattle.std.proofs.lemmas.Bool.{OnTrue_at}
 use Rattle.std.proofs.lemmas.List.Elements.{All-more}
 use Rattle.cpg_check_quick.specs.Inputs.{IsInputOver}

@@ -1,3 +1,4 @@
+-- Loops of `InputRows::are_early`: whether each of these inputs is there by a time, by its last column.
 use Rattle.std.proofs.Common.{List, All, take}
 use Rattle.cpg_base.specs.Scenario.{Scenario, IsScenario}
 use Rattle.cpg_table.specs.Table.{NodeTable}

@@ -1,3 +1,5 @@
+-- Proof of `InputRows::are_late_enough`: whether each of these columns is no earlier than a release, nor than these
+-- inputs.
 use Rattle.std.proofs.Common.{arith}
 use Rattle.std.proofs.lemmas.Bool.{OnTrue_at}
 use Rattle.std.proofs.lemmas.List.Elements.{All-contains}

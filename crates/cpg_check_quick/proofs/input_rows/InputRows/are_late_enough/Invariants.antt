@@ -1,3 +1,5 @@
+-- Loops of `InputRows::are_late_enough`: whether each of these columns is no earlier than a release, nor than these
+-- inputs.
 use Rattle.std.proofs.Common.{List, All, take}
 use Rattle.cpg_table.specs.Table.{NodeTable}
 use Rattle.cpg_violation.specs.Violation.{AllHold, row_rules}

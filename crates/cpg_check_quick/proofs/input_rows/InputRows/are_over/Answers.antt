@@ -1,3 +1,5 @@
+-- Proof of `InputRows::are_over`: whether each of these inputs that is live in the scenarios of a space is there by a
+-- time.
 use Rattle.std.proofs.Common.{◌≡◌, true}
 use Rattle.std.proofs.lemmas.Bool.{OnTrue_at}
 use Rattle.std.proofs.lemmas.List.Elements.{All-more}

@@ -1,3 +1,5 @@
+-- Loops of `InputRows::are_over`: whether each of these inputs that is live in the scenarios of a space is there by a
+-- time.
 use Rattle.std.proofs.Common.{◌≡◌, List, All, take, true}
 use Rattle.cpg_base.specs.Activity.{live}
 use Rattle.cpg_base.specs.Scenario.{Scenario, IsScenario}

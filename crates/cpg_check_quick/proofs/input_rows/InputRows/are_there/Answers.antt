@@ -1,3 +1,5 @@
+-- Proof of `InputRows::are_there`: whether these inputs are there by the time of a column wherever it matches and they
+-- are live.
 use Rattle.std.proofs.Common.{true≢false, sym, ◌∙◌}
 use Rattle.std.proofs.lemmas.Bool.{OnTrue_at}
 use Rattle.cpg_tree.proofs.Forks.{from_false, from_true}

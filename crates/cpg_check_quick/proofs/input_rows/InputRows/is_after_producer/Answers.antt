@@ -1,3 +1,4 @@
+-- Proof of `InputRows::is_after_producer`: whether the producer of a send is always over before each of its columns.
 use Rattle.std.proofs.Common.{ap, ◌∙◌, subst, arith}
 use Rattle.cpg_base.specs.Graph.{producer}
 use Rattle.cpg_tree.proofs.Passes.{of_true}

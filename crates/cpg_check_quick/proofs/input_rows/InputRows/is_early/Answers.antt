@@ -1,3 +1,4 @@
+-- Proof of `InputRows::is_early`: whether what an input comes from is over by a time, by its last column.
 use Rattle.cpg_tree.proofs.Passes.{of_true}
 use Rattle.cpg_check_quick.proofs.InputRowLaws.{input_over}
 use Rattle.cpg_check_quick.proofs.input_rows.InputRows.is_early.Goals as goal

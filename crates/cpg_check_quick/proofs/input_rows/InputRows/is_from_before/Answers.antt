@@ -1,3 +1,5 @@
+-- Proof of `InputRows::is_from_before`: whether an input of a process comes from the same node, from a process that is
+-- always over before.
 use Rattle.std.proofs.Common.{◌≡◌, false, ap, sym, ◌∙◌, subst}
 use Rattle.cpg_base.specs.Graph.{is_message, source}
 use Rattle.cpg_tree.proofs.Passes.{of_true}

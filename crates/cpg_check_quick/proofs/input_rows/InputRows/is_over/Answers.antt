@@ -1,3 +1,5 @@
+-- Proof of `InputRows::is_over`: whether what an input comes from is over by a time in those scenarios of a space in
+-- which the input is live.
 use Rattle.std.proofs.Common.{true≢false, sym, ◌∙◌}
 use Rattle.std.proofs.lemmas.Bool.{OnTrue_at, and_parts}
 use Rattle.cpg_base.specs.Activity.{active}

@@ -1,3 +1,5 @@
+-- Proof of `InputRows::others`: those of these inputs of a process that aren't known to come from the same node, from a
+-- process that is always over before.
 use Rattle.std.proofs.Common.{◌<◌, Contains, get_or, subst, sym}
 use Rattle.std.proofs.lemmas.Bool.{OnTrue_at}
 use Rattle.std.proofs.lemmas.List.{take_all}

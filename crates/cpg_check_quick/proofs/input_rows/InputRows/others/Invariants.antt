@@ -1,3 +1,5 @@
+-- Loops of `InputRows::others`: those of these inputs of a process that aren't known to come from the same node, from a
+-- process that is always over before.
 use Rattle.std.proofs.Common.{ℕ, ◌<◌, ◌⊎◌, List, All, Contains, take}
 use Rattle.cpg_base.specs.Graph.{edge_count}
 use Rattle.cpg_table.specs.Table.{NodeTable}

@@ -1,3 +1,5 @@
+-- Proof of `Listener::are_over`: whether the processes of the variables of all these literals are on the node, and over
+-- by a time in the scenarios of a space.
 use Rattle.std.proofs.lemmas.Bool.{OnTrue_at}
 use Rattle.std.proofs.lemmas.List.Elements.{All-more}
 use Rattle.cpg_cube.specs.declared.literal.Literal.{Literal}

@@ -1,3 +1,5 @@
+-- Loops of `Listener::are_over`: whether the processes of the variables of all these literals are on the node, and over
+-- by a time in the scenarios of a space.
 use Rattle.std.proofs.Common.{List, All, take}
 use Rattle.cpg_base.specs.Scenario.{Scenario, IsScenario}
 use Rattle.cpg_cube.specs.declared.literal.Literal.{Literal}

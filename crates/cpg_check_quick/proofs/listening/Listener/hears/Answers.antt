@@ -1,3 +1,5 @@
+-- Proof of `Listener::hears`: whether the node has heard all literals of one of the item's columns by its time,
+-- wherever it matches: the low of each and its high, which different items may have told.
 use Rattle.std.proofs.Common.{◌≡◌, true, true≢false, List, flat_map, sym, ◌∙◌, subst}
 use Rattle.cpg_cube.specs.Cube.{matches}
 use Rattle.cpg_cube.specs.declared.literal.Literal.{Literal}
@@ -28,18 +30,22 @@ returns c = of_true c.are_over.result c.are_over.ensures (λ over tables x is ru
     let column = c.args.column.now in
     let known = c.args.self.now.known in
     let few = c.problem-problem.ensures.admitted.limits.few_processes in
+    -- the space has all scenarios in which the column matches
     let fits = rw c.literals-literals.ensures.literals at
     (from_true c.narrow_to.result c.if-not-narrow_to.false c.narrow_to.ensures.lies) in
     let lies : (s : Scenario) → IsScenario g s → matches column.cube s ≡ true → IsInSpace c.narrow_to.new.self s =
     λ s law m. fits s (is.sequences.rows.everywhere.lies s law) m in
+    -- the bounds that are asked for, and those that frames leave
     let wanted : List Literal = c.list_unknown.new.bounds.items in
     let left : List Literal = c.listen.new.wanted.items in
     let listed : wanted ≡ flat_map (unknown_bounds g.faults known) column.cube =
     rw (c.literals-literals.ensures.literals, c.faults.ensures.faults, c.problem-problem.ensures.problem) at
     c.in_ok-list_unknown.ensures in
+    -- each bound is as wide as some literal of the column
     let wider : AreToldIn column.cube wanted = all_wider g tables node column known wanted listed in
     let told : AreLeft g tables (home g x) column wanted left = subst (λ n. AreLeft g tables n column wanted left)
     is.node (c.in_ok-listen.ensures g tables is.heard_rows wider lies) in
+    -- the processes of those that are left are over by the column's time
     let ended = rw (c.as_slice.ensures.value, is.node) at over in
     subst (λ n. IsAllHeard g tables n column) (sym is.node)
     (column_heard g tables (home g x) column known wanted listed

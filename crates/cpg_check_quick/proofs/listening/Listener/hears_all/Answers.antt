@@ -1,3 +1,4 @@
+-- Proof of `Listener::hears_all`: whether it has heard all literals of all of the item's columns.
 use Rattle.std.proofs.Common.{Contains, List, subst, sym}
 use Rattle.std.proofs.lemmas.Bool.{OnTrue_at}
 use Rattle.cpg_cube.specs.declared.column.Column.{Column}

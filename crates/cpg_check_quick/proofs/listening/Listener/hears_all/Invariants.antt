@@ -1,3 +1,4 @@
+-- Loops of `Listener::hears_all`: whether it has heard all literals of all of the item's columns.
 use Rattle.std.proofs.Common.{ℕ, ◌≡◌, List, All, take}
 use Rattle.cpg_table.specs.Table.{NodeTable, columns_of}
 use Rattle.cpg_violation.specs.Violation.{AllHold, row_rules}

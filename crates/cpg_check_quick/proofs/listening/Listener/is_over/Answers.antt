@@ -1,3 +1,4 @@
+-- Proof of `Listener::is_over`: whether a process is over by a time in the scenarios of a space.
 use Rattle.std.proofs.lemmas.Bool.{OnTrue_at}
 use Rattle.cpg_tree.proofs.Passes.{of_true}
 use Rattle.cpg_check_quick.specs.Order.{execution}

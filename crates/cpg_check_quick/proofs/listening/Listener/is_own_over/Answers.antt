@@ -1,3 +1,5 @@
+-- Proof of `Listener::is_own_over`: whether the process of a variable is on the node, and over by a time in the
+-- scenarios of a space.
 use Rattle.std.proofs.Common.{ap, sym, ◌∙◌}
 use Rattle.cpg_base.specs.Graph.{node_of}
 use Rattle.cpg_tree.proofs.Passes.{of_true}

@@ -1,3 +1,5 @@
+-- Proof of `Listener::listen`: keeps those of the wanted literals, each as wide as one of a column, that the node
+-- hasn't been told by others by the column's time wherever that matches, in a space that has all these scenarios.
 use Rattle.std.proofs.Common.{All, ap, subst, sym}
 use Rattle.std.proofs.lemmas.Bool.{OnTrue_at}
 use Rattle.cpg_check_quick.specs.Hearing.{AreLeft}

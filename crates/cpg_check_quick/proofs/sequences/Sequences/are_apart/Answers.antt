@@ -1,3 +1,5 @@
+-- Proof of `Sequences::are_apart`: whether each of these items of a node and another are apart wherever a column of
+-- each matches.
 use Rattle.std.proofs.Common.{All, subst}
 use Rattle.cpg_tree.proofs.Passes.{of_true}
 use Rattle.cpg_check_quick.specs.Order.{IsApart}

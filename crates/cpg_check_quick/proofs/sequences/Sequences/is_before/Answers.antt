@@ -1,3 +1,5 @@
+-- Proof of `Sequences::is_before`: whether of two items of a node the first is known to be over by the second's time,
+-- wherever a column of each matches.
 use Rattle.std.proofs.Common.{subst}
 use Rattle.cpg_tree.proofs.Passes.{of_true}
 use Rattle.cpg_check_quick.proofs.OrderLaws.{before_in, order_at}

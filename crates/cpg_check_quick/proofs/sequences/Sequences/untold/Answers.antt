@@ -1,3 +1,4 @@
+-- Proof of `Sequences::untold`: those of these items of a node that the order doesn't show to be apart from another.
 use Rattle.std.proofs.Common.{get_or, inr}
 use Rattle.std.proofs.lemmas.Bool.{OnTrue_at}
 use Rattle.std.proofs.lemmas.List.Elements.{All-more}

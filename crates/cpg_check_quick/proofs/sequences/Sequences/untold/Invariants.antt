@@ -1,3 +1,4 @@
+-- Loops of `Sequences::untold`: those of these items of a node that the order doesn't show to be apart from another.
 use Rattle.std.proofs.Common.{ℕ, ◌⊎◌, List, All, Contains, take}
 use Rattle.cpg_base.specs.Graph.{Graph}
 use Rattle.cpg_base.specs.Scenario.{Scenario}

@@ -1,3 +1,4 @@
+-- Proof of `ItemSpan::is_past`: whether an item that starts at a time is over by another in all scenarios of a space.
 use Rattle.std.proofs.Common.{◌-◌, arith, get_or}
 use Rattle.cpg_violation.proofs.SureLaws.{on_le}
 use Rattle.cpg_check_quick.proofs.span.ItemSpan.is_past.Goals as goal

@@ -1,3 +1,4 @@
+-- Proof of `ItemSpan::of_execution`: how long the executions of a process last at most, by its faults.
 use Rattle.std.proofs.Common.{◌∙◌, ap, arith, min, refl}
 use Rattle.cpg_base.specs.Duration.{duration}
 use Rattle.cpg_check_quick.proofs.OrderLaws.{span_of}

@@ -1,3 +1,4 @@
+-- Loops of `ItemSpan::of_execution`: how long the executions of a process last at most, by its faults.
 use Rattle.std.proofs.Common.{ℕ, ◌<◌, ◌≡◌, length, get_or, min}
 use Rattle.cpg_base.specs.Duration.{duration}
 use Rattle.cpg_check_quick.proofs.span.ItemSpan.of_execution.Given as goal

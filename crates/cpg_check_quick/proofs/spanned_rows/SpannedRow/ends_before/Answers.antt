@@ -1,3 +1,5 @@
+-- Proof of `SpannedRow::ends_before`: whether the item is over before another that has a tree: a walk down both trees
+-- has the scenarios of each two columns.
 use Rattle.std.proofs.lemmas.Bool.{OnTrue_at}
 use Rattle.cpg_tree.proofs.Passes.{of_true}
 use Rattle.cpg_check_quick.proofs.OrderLaws.{early_before, walked_before}

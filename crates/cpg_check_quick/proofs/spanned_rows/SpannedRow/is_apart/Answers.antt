@@ -1,3 +1,5 @@
+-- Proof of `SpannedRow::is_apart`: whether the item and another, which is at a time, are apart in the scenarios of a
+-- space.
 use Rattle.std.proofs.lemmas.Bool.{OnTrue_at}
 use Rattle.cpg_tree.proofs.Passes.{of_true}
 use Rattle.cpg_check_quick.proofs.OrderLaws.{told_apart}

@@ -1,3 +1,4 @@
+-- Proof of `SpannedRow::is_early`: whether the item is over by a time in every scenario, by its last column.
 use Rattle.cpg_tree.proofs.Passes.{of_true}
 use Rattle.cpg_check_quick.proofs.OrderLaws.{early_over}
 use Rattle.cpg_check_quick.proofs.spanned_rows.SpannedRow.is_early.Goals as goal

@@ -1,3 +1,5 @@
+-- Proof of `SpannedRow::is_over`: whether the item is over by a time in the scenarios of a space, by the columns that
+-- match there.
 use Rattle.std.proofs.lemmas.Bool.{OnTrue_at}
 use Rattle.cpg_tree.proofs.Passes.{of_true}
 use Rattle.cpg_check_quick.proofs.OrderLaws.{told_over}

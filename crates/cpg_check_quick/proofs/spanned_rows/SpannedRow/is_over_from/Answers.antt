@@ -1,3 +1,5 @@
+-- Proof of `SpannedRow::is_over_from`: whether the item is over by a time in the scenarios of a space, from its column
+-- at a place.
 use Rattle.std.proofs.Common.{inr}
 use Rattle.cpg_tree.proofs.Passes.{of_true}
 use Rattle.cpg_check_quick.proofs.spanned_rows.SpannedRow.is_over_from.Goals as goal

@@ -1,3 +1,5 @@
+-- Proof of `SpannedRows::are_apart`: whether each of these items and another are apart wherever a column of each
+-- matches.
 use Rattle.std.proofs.Common.{◌≡◌, All, true}
 use Rattle.std.proofs.lemmas.Bool.{OnTrue_at}
 use Rattle.cpg_cube.specs.Cube.{matches}

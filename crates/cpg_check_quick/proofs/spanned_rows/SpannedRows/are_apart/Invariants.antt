@@ -1,3 +1,5 @@
+-- Loops of `SpannedRows::are_apart`: whether each of these items and another are apart wherever a column of each
+-- matches.
 use Rattle.std.proofs.Common.{ℕ, ◌≡◌, List, All, take, true}
 use Rattle.cpg_base.specs.Graph.{Graph}
 use Rattle.cpg_base.specs.Scenario.{Scenario, IsScenario}

@@ -1,3 +1,5 @@
+-- Proof of `SpannedRows::are_apart_at`: whether each of these items and another at one of its columns are apart,
+-- wherever that matches.
 use Rattle.std.proofs.Common.{true≢false, sym, ◌∙◌}
 use Rattle.cpg_tree.proofs.Forks.{from_false, from_true}
 use Rattle.cpg_tree.proofs.Passes.{of_true}

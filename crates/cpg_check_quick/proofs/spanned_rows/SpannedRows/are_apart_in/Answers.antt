@@ -1,3 +1,5 @@
+-- Proof of `SpannedRows::are_apart_in`: whether each of these items and another, which is at a time, are apart in the
+-- scenarios of a space.
 use Rattle.std.proofs.Common.{get_or}
 use Rattle.std.proofs.lemmas.Bool.{OnTrue_at}
 use Rattle.std.proofs.lemmas.List.Elements.{All-more}

@@ -1,3 +1,5 @@
+-- Loops of `SpannedRows::are_apart_in`: whether each of these items and another, which is at a time, are apart in the
+-- scenarios of a space.
 use Rattle.std.proofs.Common.{ℕ, List, All, take}
 use Rattle.cpg_base.specs.Graph.{Graph}
 use Rattle.cpg_base.specs.Scenario.{Scenario, IsScenario}

@@ -1,3 +1,5 @@
+-- Proof of `SpannedRows::are_clear`: whether all columns of each of these items are so early or so late that it and
+-- another, which is at a time, are apart.
 use Rattle.std.proofs.Common.{get_or}
 use Rattle.std.proofs.lemmas.Bool.{OnTrue_at}
 use Rattle.std.proofs.lemmas.List.Elements.{All-more}

@@ -1,3 +1,5 @@
+-- Loops of `SpannedRows::are_clear`: whether all columns of each of these items are so early or so late that it and
+-- another, which is at a time, are apart.
 use Rattle.std.proofs.Common.{ℕ, List, All, take}
 use Rattle.cpg_base.specs.Graph.{Graph}
 use Rattle.cpg_base.specs.Scenario.{Scenario, IsScenario}

@@ -1,3 +1,5 @@
+-- Proof of `SpannedRows::are_early`: whether each of these items is over by a time in every scenario, by its last
+-- column.
 use Rattle.std.proofs.Common.{get_or}
 use Rattle.std.proofs.lemmas.Bool.{OnTrue_at}
 use Rattle.std.proofs.lemmas.List.Elements.{All-more}

@@ -1,3 +1,5 @@
+-- Loops of `SpannedRows::are_early`: whether each of these items is over by a time in every scenario, by its last
+-- column.
 use Rattle.std.proofs.Common.{ℕ, List, All, take}
 use Rattle.cpg_base.specs.Graph.{Graph}
 use Rattle.cpg_base.specs.Scenario.{Scenario, IsScenario}

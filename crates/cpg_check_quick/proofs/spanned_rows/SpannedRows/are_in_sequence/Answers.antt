@@ -1,3 +1,4 @@
+-- Proof of `SpannedRows::are_in_sequence`: whether each of these items is over before each later one.
 use Rattle.std.proofs.Common.{arith, get_or}
 use Rattle.std.proofs.lemmas.Bool.{OnTrue_at}
 use Rattle.cpg_check_quick.proofs.OrderLaws.{row_at, sequence_step}

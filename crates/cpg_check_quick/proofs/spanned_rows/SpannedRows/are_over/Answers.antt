@@ -1,3 +1,5 @@
+-- Proof of `SpannedRows::are_over`: whether each of these items is over by a time in the scenarios of a space, by the
+-- columns that match there.
 use Rattle.std.proofs.Common.{get_or}
 use Rattle.std.proofs.lemmas.Bool.{OnTrue_at}
 use Rattle.std.proofs.lemmas.List.Elements.{All-more}

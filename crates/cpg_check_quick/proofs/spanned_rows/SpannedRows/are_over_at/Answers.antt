@@ -1,3 +1,5 @@
+-- Proof of `SpannedRows::are_over_at`: whether each of these items is over by the time of a column, wherever that
+-- matches.
 use Rattle.std.proofs.Common.{true≢false, sym, ◌∙◌}
 use Rattle.std.proofs.lemmas.Bool.{OnTrue_at}
 use Rattle.cpg_tree.proofs.Forks.{from_false, from_true}

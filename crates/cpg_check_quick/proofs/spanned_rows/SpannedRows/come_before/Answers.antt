@@ -1,3 +1,5 @@
+-- Proof of `SpannedRows::come_before`: whether each of these items is over before another, which has these columns:
+-- wherever a column of each matches.
 use Rattle.std.proofs.Common.{◌≡◌, All, true}
 use Rattle.std.proofs.lemmas.Bool.{OnTrue_at}
 use Rattle.cpg_cube.specs.Cube.{matches}

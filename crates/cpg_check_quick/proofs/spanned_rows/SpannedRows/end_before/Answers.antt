@@ -1,3 +1,5 @@
+-- Proof of `SpannedRows::end_before`: whether each of these items is over before another, which has a tree: wherever a
+-- column of each matches.
 use Rattle.std.proofs.Common.{get_or}
 use Rattle.std.proofs.lemmas.Bool.{OnTrue_at}
 use Rattle.std.proofs.lemmas.List.Elements.{All-more}

@@ -1,3 +1,5 @@
+-- Loops of `SpannedRows::end_before`: whether each of these items is over before another, which has a tree: wherever a
+-- column of each matches.
 use Rattle.std.proofs.Common.{ℕ, ◌≡◌, List, All, Some, take}
 use Rattle.cpg_base.specs.Graph.{Graph}
 use Rattle.cpg_base.specs.Scenario.{Scenario}

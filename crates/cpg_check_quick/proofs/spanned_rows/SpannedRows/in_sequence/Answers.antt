@@ -1,3 +1,5 @@
+-- Proof of `SpannedRows::in_sequence`: the items in an order in which each is over before any later one begins: as
+-- they are, or by their first times.
 use Rattle.std.proofs.Common.{◌≡◌, ◌∙◌, ◌++◌, ap, subst, sym}
 use Rattle.std.proofs.lemmas.Bool.{OnTrue_at}
 use Rattle.cpg_check_quick.specs.Order.{IsInSequence}

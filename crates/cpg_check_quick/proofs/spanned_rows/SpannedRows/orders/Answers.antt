@@ -1,3 +1,5 @@
+-- Proof of `SpannedRows::orders`: puts each group of items into an order in which each item is over before any later
+-- one begins.
 use Rattle.cpg_check_quick.proofs.OrderLaws.{orders_more}
 use Rattle.cpg_check_quick.proofs.spanned_rows.SpannedRows.orders.Goals as goal
 

@@ -1,3 +1,5 @@
+-- Loops of `SpannedRows::orders`: puts each group of items into an order in which each item is over before any later
+-- one begins.
 use Rattle.std.proofs.Common.{ℕ, List, All}
 use Rattle.cpg_base.specs.Graph.{Graph}
 use Rattle.cpg_base.specs.Scenario.{Scenario}

@@ -1,3 +1,5 @@
+-- Proof of `SpannedRows::precede`: whether each of these items is over before another, by the other's tree, if it has
+-- one: wherever a column of each matches.
 use Rattle.cpg_tree.proofs.Passes.{of_true}
 use Rattle.cpg_check_quick.proofs.spanned_rows.SpannedRows.precede.Goals as goal
 

@@ -1,3 +1,4 @@
+-- Proof of `least`: the least scenario in which what a column begins is done after a time, if there is one.
 use Rattle.std.proofs.Common.{◌&&◌, sym, subst}
 use Rattle.cpg_base.specs.First.{IsFirst}
 use Rattle.cpg_cube.specs.Cube.{matches}
@@ -5,6 +6,7 @@ use Rattle.cpg_check_time.specs.Delays.{is_late}
 use Rattle.cpg_check_time.proofs.DelayLaws.{slot_first}
 use Rattle.cpg_check_time.proofs.delays.LateQuestion.least.Goals as goal
 
+-- the delay is an execution, so its end is asked about
 pub returns-in_ok-found-in-Execution-clause-first : goal.returns-in_ok-found-in-Execution-clause-first
 returns-in_ok-found-in-Execution-clause-first c = λ order.
     let late = c.args.self.now in

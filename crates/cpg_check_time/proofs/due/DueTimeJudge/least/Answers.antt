@@ -1,3 +1,5 @@
+-- Proof of `DueTimeJudge::least`: the least scenario in which the execution that a column starts ends past its due, if
+-- there is one.
 use Rattle.std.proofs.Common.{◌≡◌, ◌<◌, ◌&&◌, arith, ap, length}
 use Rattle.cpg_base.specs.Duration.{due}
 use Rattle.cpg_base.specs.Graph.{process_count}
@@ -12,6 +14,7 @@ use Rattle.cpg_check_time.proofs.due.DueTimeJudge.least.Goals as goal
 pub returns : goal.returns
 returns c =
     let g = c.args.admitted.now.graph in
+    -- the item is a start
     let within : c.args.item < process_count g = omega (
       arith,
       c.if-item-processes.false,
@@ -19,6 +22,7 @@ returns c =
       ap process_count c.problem-problem.ensures.problem,
     ) in
     let there = rw c.in-Some.is at c.in_ok-part.ensures.part in
+    -- the part in which the execution ends after the due, and its least scenario
     let part : (s : Scenario) → IsScenario g s → matches c.in-Some.part s
     ≡ (matches c.args.column.now.cube s && ends_after g c.args.item c.args.column.now.time (due g c.args.item) s) =
     rw (← c.problem-problem.ensures.problem) (rw c.due-due.ensures at there) in

@@ -1,3 +1,5 @@
+-- Proof of `FrozenStartsTimeJudge::least`: the least scenario that a column of an item matches, if its time isn't the
+-- frozen one of the item.
 use Rattle.std.proofs.Common.{◌∙◌, arith, sym, ap, length}
 use Rattle.std.proofs.lemmas.List.FromFn.{length-map-range_with_len}
 use Rattle.cpg_base.specs.Graph.{item_count}
@@ -17,6 +19,7 @@ index-requires c = omega (
       (item_count c.args.admitted.now.graph),
 )
 
+-- without a frozen time the column never breaks V8
 pub returns-in_default : goal.returns-in_default
 returns-in_default c =
     let at = c.index.ensures ∙ time_at c.args.admitted.now.graph c.args.tables.now.nodes c.args.self.now.times.items
@@ -24,6 +27,7 @@ returns-in_default c =
     λ s _. frozen_none c.args.admitted.now.graph c.args.admitted.now.order c.args.tables.now.nodes c.args.item
     c.args.column.now (sym at ∙ c.in_default.is) s
 
+-- a column at the frozen time never breaks V8
 pub returns-then-time-column : goal.returns-then-time-column
 returns-then-time-column c =
     let at = c.index.ensures ∙ time_at c.args.admitted.now.graph c.args.tables.now.nodes c.args.self.now.times.items

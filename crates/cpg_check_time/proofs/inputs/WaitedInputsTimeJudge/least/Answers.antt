@@ -1,3 +1,4 @@
+-- Proof of `least`: the least scenario in which a column matches and an input of its process isn't there.
 use Rattle.std.proofs.Common.{◌≡◌, ◌<◌, ◌≤◌, ◌==◌, ◌∙◌, length, Contains, All, arith, sym, ap, subst}
 use Rattle.std.specs.List.{list_any}
 use Rattle.std.proofs.lemmas.List.Elements.{All-weaker, All-contains_itself}
@@ -53,12 +54,14 @@ returns-then-item-processes c =
 pub returns-then-column-release : goal.returns-then-column-release
 returns-then-column-release c =
     let g = c.args.admitted.now.graph in
+    -- the item is a start
     let start : c.args.item < process_count g = omega (
       arith,
       c.if-item-processes.false,
       ap length c.processes.ensures.processes,
       ap process_count c.problem-problem.ensures.problem,
     ) in
+    -- its column is before the release
     let early : c.args.column.now.time < (process_at g c.args.item).release =
     omega (
       arith,
@@ -66,6 +69,7 @@ returns-then-column-release c =
       c.release.ensures,
       ap (λ h. (process_at h c.args.item).release) c.problem-problem.ensures.problem,
     ) in
+    -- so the least scenario of the column is the first violation
     let first : IsFirst g c.args.admitted.now.order (matches c.args.column.now.cube) c.in_ok-least-2.least =
     rw (← c.problem-problem.ensures.problem) (c.in_ok-least-2.ensures.first c.args.admitted.now.order) in
     first_released c.problem-problem.ensures.admitted c.args.tables.now.nodes c.requires.suits.rules c.args.item
@@ -87,12 +91,14 @@ least_of_lacking-requires-clause-edges c =
 pub returns : goal.returns
 returns c =
     let g = c.args.admitted.now.graph in
+    -- the item is a start
     let start : c.args.item < process_count g = omega (
       arith,
       c.if-item-processes.false,
       ap length c.processes.ensures.processes,
       ap process_count c.problem-problem.ensures.problem,
     ) in
+    -- its column isn't before the release
     let released : (process_at g c.args.item).release ≤ c.args.column.now.time =
     omega (
       arith,
@@ -100,6 +106,7 @@ returns c =
       c.release.ensures,
       ap (λ h. (process_at h c.args.item).release) c.problem-problem.ensures.problem,
     ) in
+    -- the edges that are asked about are its inputs, and the answer is the least scenario that lacks one
     let is : c.inputs-edges.result.now ≡ inputs g c.args.item =
     c.inputs-edges.ensures.of_graph g c.requires.suits.links in
     let first : IsFirst g c.args.admitted.now.order

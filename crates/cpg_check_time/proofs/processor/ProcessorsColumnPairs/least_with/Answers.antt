@@ -1,3 +1,5 @@
+-- Proof of `ProcessorsColumnPairs::least_with`: the least scenario in which the execution that a column starts overlaps
+-- one of another process of its node, if there is one.
 use Rattle.std.proofs.Common.{◌≡◌, ◌∙◌, arith, sym, subst}
 use Rattle.std.specs.List.{list_any}
 use Rattle.cpg_base.specs.Duration.{duration}
@@ -38,6 +40,7 @@ returns-then-saturating_add-column c = λ s i.
     line.last
     (omega (arith, c.if-saturating_add-column.true, c.saturating_add.ensures, c.requires.column.early, longest))
 
+-- the line's columns are columns of the other item, and of the graph
 pub least_near-requires-clause-columns : goal.least_near-requires-clause-columns
 least_near-requires-clause-columns c =
     let line : IsLine (columns_of c.args.tables.now.nodes c.args.other) c.index-lines-other.result =
@@ -54,6 +57,7 @@ least_near-requires-clause-fits c = record {
   other = c.requires.other;
 }
 
+-- only scenarios in which both columns match answer the question
 pub least_near-requires-clause-near : goal.least_near-requires-clause-near
 least_near-requires-clause-near c = λ s d t. overlaps_both c.args.admitted.now.graph
     c.problem-problem.ensures.admitted.limits c.args.item c.requires.item c.args.column.now c.args.other d s t

@@ -1,3 +1,4 @@
+-- Proof of `least`: the least scenario in which a column's execution overlaps that of another process.
 use Rattle.std.proofs.Common.{◌<◌, arith, ap, length}
 use Rattle.cpg_base.specs.Graph.{process_count}
 use Rattle.cpg_check_time.proofs.ProcessorLaws.{first_overlap}

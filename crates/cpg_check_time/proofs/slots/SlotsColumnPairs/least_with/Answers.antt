@@ -1,3 +1,5 @@
+-- Proof of `SlotsColumnPairs::least_with`: the least scenario in which a column matches together with one of another
+-- item that the same node sends at that time, if there is one.
 use Rattle.std.proofs.Common.{◌≡◌, ◌∙◌, sym, subst, true}
 use Rattle.std.specs.List.{list_any}
 use Rattle.cpg_base.specs.Graph.{home, is_sent}
@@ -27,6 +29,7 @@ returns-then-line-column c = λ s _.
     all_earlier c.args.admitted.now.graph c.args.tables.now.nodes c.args.item c.args.column.now c.args.other
     c.index-lines-other.result.last line.last c.if-line-column.true s
 
+-- the line's columns are columns of the other item, and of the graph
 pub least_near-requires-clause-columns : goal.least_near-requires-clause-columns
 least_near-requires-clause-columns c =
     let line : IsLine (columns_of c.args.tables.now.nodes c.args.other) c.index-lines-other.result =
@@ -34,9 +37,11 @@ least_near-requires-clause-columns c =
     (c.requires.fits.each c.args.other c.index-lines-other.result c.requires.other) in
     rw line.all (columns_are c.problem-problem.ensures.admitted c.args.tables.now.nodes c.requires.lawful c.args.other)
 
+-- the question fits: the column's cube has variables of the graph alone
 pub least_near-requires-clause-fits : goal.least_near-requires-clause-fits
 least_near-requires-clause-fits c = c.requires.column.cube.known
 
+-- only scenarios in which both columns match answer the question
 pub least_near-requires-clause-near : goal.least_near-requires-clause-near
 least_near-requires-clause-near c = λ s d t. shares_both c.args.column.now s d t
 
@@ -45,13 +50,16 @@ pub returns : goal.returns
 returns c =
     let g = c.args.admitted.now.graph in
     let order = c.args.admitted.now.order in
+    -- the columns of the other item
     let line : IsLine (columns_of c.args.tables.now.nodes c.args.other) c.index-lines-other.result =
     subst (IsLine (columns_of c.args.tables.now.nodes c.args.other)) (sym c.index-lines-other.is)
     (c.requires.fits.each c.args.other c.index-lines-other.result c.requires.other) in
+    -- the same node sends it
     let sent : is_sent g c.args.other ≡ true =
     rw (← c.problem-problem.ensures.problem) (sym c.if-not-is_sent.ensures) in
     let node : home g c.args.other ≡ home g c.args.item =
     rw (← c.problem-problem.ensures.problem) (sym c.home.ensures.home ∙ c.if-home.false ∙ c.home-2.ensures.home) in
+    -- the least scenario in which one of them shares the slot
     let first : IsFirst g order
     (λ s. list_any (λ d. shares c.args.column.now d s) (columns_of c.args.tables.now.nodes c.args.other))
     c.in_ok-found.found =

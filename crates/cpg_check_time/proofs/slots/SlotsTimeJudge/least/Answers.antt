@@ -1,3 +1,4 @@
+-- Proof of `least`: the least scenario in which a column has a slot that another item of its node has too.
 use Rattle.std.proofs.Common.{◌≡◌, ◌==◌, ◌∙◌, true, false, sym, eqb-true, true≢false, eq-eqb}
 use Rattle.cpg_base.specs.Bus.{next_slot}
 use Rattle.cpg_base.specs.Graph.{home, is_sent}

@@ -1,3 +1,4 @@
+-- Proof of `Cluster::choose`: asks the nodes from the given one on, round the circle, until one takes its turn.
 use Rattle.std.proofs.Common.{◌≡◌, ◌+◌, refl, sym, ap, arith, length, subst}
 use Rattle.std.proofs.lemmas.List.{length-map}
 use Rattle.cpg_cluster.specs.Playing.{Playing}
@@ -52,6 +53,7 @@ count-j c = omega (
 -- a node that waits, or is done, leaves the state as it was, and the rest of the choice
 pub loop-asked-preserved : goal.loop-asked-preserved
 loop-asked-preserved c = elim c.match-step.branch [
+  -- the node waits: one more has waited
   | in-Waits w ↦
       let r = waits_more c.args.self.now c.loop-asked.self c.step.new.self c.len-nodes.result c.args.first
       c.loop-asked.asked c.loop-asked.waits
@@ -63,6 +65,7 @@ loop-asked-preserved c = elim c.match-step.branch [
             c.len-nodes.result c.args.first (c.loop-asked.asked + 1) n)
             (sym w.waits-is) r.1;
       }
+  -- the node is done
   | in-Done w ↦
       let r = done_more c.args.self.now c.loop-asked.self c.step.new.self c.len-nodes.result c.args.first
       c.loop-asked.asked c.loop-asked.waits

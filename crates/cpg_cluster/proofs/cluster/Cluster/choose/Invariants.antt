@@ -1,3 +1,4 @@
+-- Loops of `Cluster::choose`: asks the nodes from the given one on, round the circle, until one takes its turn.
 use Rattle.std.proofs.Common.{◌≡◌, ◌-◌}
 use Rattle.cpg_cluster.proofs.Driven.{IsChoosing}
 use Rattle.cpg_cluster.proofs.cluster.Cluster.choose.Given as goal

@@ -1,3 +1,4 @@
+-- Proof of `Cluster::drive`: asks nodes until every node is done.
 use Rattle.std.proofs.Common.{◌/◌, ◌%◌, ◌^◌, ◌*◌, ◌+◌, ◌≡◌, ◌<◌, ◌≤◌, refl, sym, ap, ◌∙◌, arith, length, subst, List}
 use Rattle.std.proofs.Common.{true}
 use Rattle.std.specs.Prelude.{is_some}

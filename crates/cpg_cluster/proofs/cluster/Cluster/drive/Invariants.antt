@@ -1,3 +1,4 @@
+-- Loops of `Cluster::drive`: asks nodes until every node is done.
 use Rattle.std.proofs.Common.{◌≡◌, ◌≤◌, ◌+◌, ◌*◌}
 use Rattle.cpg_cluster.specs.Driving.{remaining}
 use Rattle.cpg_cluster.proofs.Drives.{IsDriving}

@@ -1,3 +1,4 @@
+-- Proof of `Cluster::new`: all nodes before their first turns, with each execution as long as planned.
 use Rattle.std.proofs.Common.{sym, subst, ap, ◌∙◌, List, ℕ}
 use Rattle.cpg_base.specs.Scenario.{full_lengths}
 use Rattle.cpg_cluster.specs.Correct.{IsWorld}

@@ -1,3 +1,4 @@
+-- Proof of `Cluster::step`: asks a node.
 use Rattle.std.proofs.Common.{set, ◌≡◌, ◌<◌, ◌≤◌, arith, sym, ap, ◌∙◌, ℕ, length, filter, get_or, List, Some, subst}
 use Rattle.std.specs.Prelude.{All}
 use Rattle.std.specs.Vec.{vec_capacity}
@@ -134,6 +135,7 @@ pub gather_frames-requires-clause-room : goal.gather_frames-requires-clause-room
 gather_frames-requires-clause-room c =
     let n = c.self.inside in
     let v = c.self.invariant in
+    -- the frames that arrive are those by the members' acts
     let is : frames_by n.problem n.scenario.values c.as_slice-2.result.now c.in-Some.time c.hears.result.now
     c.as_slice-3.result.now
     ≡ frames_by n.problem n.scenario.values n.members.items c.in-Some.time
@@ -141,6 +143,7 @@ gather_frames-requires-clause-room c =
     (λ i. frames_by n.problem n.scenario.values (c.as_slice-2.ensures.value i) c.in-Some.time
     ((c.hears.ensures.hears ∙ ap (λ (t : NodeTable). t.hears) c.table.ensures) i)
     (c.as_slice-3.ensures.value i)) in
+    -- they are no more than the node's hear rows, for which there is room
     omega (
       arith,
       ap (λ (l : List Frame). length l) is,
@@ -326,19 +329,23 @@ invariant_of-self c =
     let n = c.self.inside in
     let v = c.self.invariant in
     record {
+      -- it is a play, one ask further
       playing = (playing_then n.problem (record { scenario = n.scenario; lengths = n.lengths }) n.members.items
           v.playing v.members c.args.node c.index_mut-member.result.now
           c.index_mut-member.ensures.value (within-a c) c.in-Some.time (mut-a c) c.as_slice-4.result.now (frames-a c)
           (took-a c) c.take_turn.new.member c.take_turn.ensures.node c.take_turn.ensures.acts c.take_turn.ensures.noted
           c.take_turn.ensures.ends c.take_turn.ensures.reports c.take_turn.ensures.same
           c.take_turn.ensures.room);
+      -- there are still at most 16 members
       few = omega (arith, v.few, length-set n.members.items c.args.node c.take_turn.new.member);
+      -- each member keeps what it should
       members = (fits_then n.problem (record { scenario = n.scenario; lengths = n.lengths }) n.members.items v.playing
           v.members c.args.node c.index_mut-member.result.now
           c.index_mut-member.ensures.value (within-a c) c.in-Some.time (mut-a c) c.as_slice-4.result.now (frames-a c)
           (took-a c) c.take_turn.new.member c.take_turn.ensures.node c.take_turn.ensures.acts c.take_turn.ensures.noted
           c.take_turn.ensures.ends c.take_turn.ensures.reports c.take_turn.ensures.same
           c.take_turn.ensures.room);
+      -- and there is room for the frames of each node's turns
       frames = (heard_then n.problem (record { scenario = n.scenario; lengths = n.lengths }) n.members.items v.playing
           v.members c.args.node c.index_mut-member.result.now
           c.index_mut-member.ensures.value (within-a c) c.in-Some.time (mut-a c) c.as_slice-4.result.now (frames-a c)
@@ -390,6 +397,7 @@ returns-in-Some-waited_on-clause-least c h =
 pub returns-in_default-clause-whole : goal.returns-in_default-clause-whole
 returns-in_default-clause-whole c _ =
     let n = c.self.inside in
+    -- there is such a member
     let within : c.args.node < length n.members.items =
     omega (
       arith,
@@ -398,6 +406,7 @@ returns-in_default-clause-whole c _ =
       c.self.invariant.playing.shape.count,
       length-map n.members.items (λ (m : Member). m.node.dispatcher.table),
     ) in
+    -- its node has no next instant
     let none = ap next (dispatcher_is n.members.items c.args.node c.index-member.result.now within
     ∙ ap (λ (m : Member). m.node.dispatcher) (sym c.index-member.ensures)) ∙ sym c.next.ensures.next ∙
     c.in_default.is in

@@ -1,3 +1,4 @@
+-- Proof of `Cluster::with_lengths`: all nodes before their first turns.
 use Rattle.std.proofs.Common.{◌≡◌, ◌≤◌, ◌<◌, arith, sym, ◌∙◌, ℕ, length, List, subst, rules}
 use Rattle.std.specs.Prelude.{All}
 use Rattle.std.specs.Vec.{vec_capacity}
@@ -50,11 +51,14 @@ invariant_of-result c =
     let ms = c.in_ok-members.members.items in
     let a = c.problem.ensures.admitted in
     record {
+      -- the play is opened, with at most 16 members
       playing = subst IsPlaying (sym (parts c))
           (playing_open g tables w a.limits (of c) ms (open' c) a.well_formed c.requires.valid c.requires.world);
       few = omega (arith, (open' c).count, (of c).count, a.limits.few_nodes);
+      -- each member keeps what it should
       members = subst (λ (g : Graph). AllFit g ms) (sym (c.in_ok-problem.ensures ∙ c.problem-2.ensures.problem))
           (fits_open g tables w a.limits (of c) ms (open' c));
+      -- and there is room for the frames of the node that hears most
       frames = λ i d l.
           let few = subst (λ (ms : List Member).
           All (λ (m : Member). length m.node.dispatcher.table.hears ≤ c.most_heard.result) ms)

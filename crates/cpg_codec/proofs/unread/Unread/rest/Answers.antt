@@ -1,3 +1,4 @@
+-- Proof of `Unread::rest`: the bytes that aren't read.
 use Rattle.std.proofs.Common.{◌≡◌, ◌∙◌, List, ℕ, ap, drop, rules}
 use Rattle.cpg_io.proofs.Writes.{rest_of}
 use Rattle.cpg_codec.proofs.unread.Unread.rest.Goals as goal

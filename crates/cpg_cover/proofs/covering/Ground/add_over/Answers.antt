@@ -1,3 +1,4 @@
+-- Proof of `Ground::add_over`: adds what is beyond the ranges of literals: the numbers there needn't be matched.
 use Rattle.std.proofs.Common.{◌∷◌, [], arith}
 use Rattle.std.proofs.lemmas.Bool.{both_ways, and_parts}
 use Rattle.cpg_cover.specs.Fewest.{beyond, holds_at, is_any_at, matches_at}

@@ -1,3 +1,4 @@
+-- Loops of `Ground::add_over`: adds what is beyond the ranges of literals: the numbers there needn't be matched.
 use Rattle.std.proofs.Common.{◌≡◌, ℕ, true}
 use Rattle.cpg_cover.specs.Fewest.{IsNarrow, beyond, is_any_at}
 use Rattle.cpg_cover.proofs.covering.Ground.add_over.Given as goal

@@ -1,3 +1,5 @@
+-- Proof of `Ground::asked`: what literals ask beyond the lows, but for those that hold everywhere; `None` if one can't
+-- hold.
 use Rattle.std.proofs.Common.{rules, ◌≡◌, get_or, true, arith}
 use Rattle.cpg_cube.specs.Bounds.{spans}
 use Rattle.cpg_cube.specs.declared.literal.Literal.{Literal}

@@ -1,3 +1,5 @@
+-- Loops of `Ground::asked`: what literals ask beyond the lows, but for those that hold everywhere; `None` if one can't
+-- hold.
 use Rattle.std.proofs.Common.{◌≡◌, ℕ, take, true}
 use Rattle.cpg_cover.specs.Fewest.{IsOn, beyond, matches_at}
 use Rattle.cpg_cover.proofs.covering.Ground.asked.Given as goal

@@ -1,3 +1,4 @@
+-- Loops of `Bounds::fits`: whether all literals touch the ranges, with no more faults than are left.
 use Rattle.std.proofs.Common.{◌≡◌, drop}
 use Rattle.std.specs.Prelude.{is_some}
 use Rattle.cpg_cube.specs.Bounds.{budget_left, touches, more_asked}

@@ -1,7 +1,9 @@
+-- Proof of `Bounds::of`: the ranges of a cube.
 use Rattle.std.proofs.Common.{rules, arith}
 use Rattle.cpg_cube.proofs.BoundSteps.{bounds_whole, bounds_push}
 use Rattle.cpg_cube.proofs.bounds.Bounds.of.Goals as goal
 
+-- before the first literal each range is whole
 pub loop-literal-init : goal.loop-literal-init
 loop-literal-init c = record { bounds = bounds_whole; lows = search rules; highs = search rules }
 

@@ -1,3 +1,4 @@
+-- Proof of `Bounds::raise`: raises the least numbers to those of a cube, if they are greater.
 use Rattle.std.proofs.Common.{rules, arith}
 use Rattle.cpg_cube.proofs.BoundSteps.{raised_push}
 use Rattle.cpg_cube.proofs.bounds.Bounds.raise.Goals as goal

@@ -1,3 +1,4 @@
+-- Loops of `Bounds::raise`: raises the least numbers to those of a cube, if they are greater.
 use Rattle.std.proofs.Common.{◌≡◌, take, length}
 use Rattle.cpg_cube.specs.Bounds.{AreRaised}
 use Rattle.cpg_cube.proofs.bounds.Bounds.raise.Given as goal

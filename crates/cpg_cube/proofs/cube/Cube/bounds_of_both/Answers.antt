@@ -1,3 +1,5 @@
+-- Proof of `Cube::bounds_of_both`: the bounds of this cube, the lows raised to those of another; `None` exactly if no
+-- scenario matches both.
 use Rattle.std.proofs.Common.{rules, ◌≡◌, ◌∙◌, sym, false, true, None, Some}
 use Rattle.std.specs.Prelude.{is_some}
 use Rattle.cpg_cube.specs.Fit.{IsCube, asked_of_literal, is_open}

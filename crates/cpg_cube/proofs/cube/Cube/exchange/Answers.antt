@@ -1,3 +1,4 @@
+-- Proof of `Cube::exchange`: becomes what it was before it was narrowed, narrowed by another literal on the variable.
 use Rattle.std.proofs.Common.{◌≤◌, ◌≡◌, ◌∙◌, List, Some, length, length-set, arith, refl, sym, ap, subst}
 use Rattle.std.specs.Prelude.{slice_set}
 use Rattle.std.specs.List.{refill}

@@ -1,3 +1,4 @@
+-- Proof of `Cube::is_within`: whether the cube lies within another.
 use Rattle.std.proofs.Common.{rules, ◌≡◌, ◌∙◌, sym, None, Some}
 use Rattle.cpg_cube.specs.Fit.{IsCube, asked_of_literal, is_open}
 use Rattle.cpg_cube.specs.Bounds.{AreBounds, budget_left}

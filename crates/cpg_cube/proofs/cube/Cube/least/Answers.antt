@@ -1,3 +1,5 @@
+-- Proof of `Cube::least`: the least scenario that the cube matches, which is the least in every order of the processes;
+-- `None` exactly if it matches none.
 use Rattle.std.proofs.Common.{rules, ◌≡◌, true, false}
 use Rattle.cpg_cube.specs.Fit.{IsCube, is_met}
 use Rattle.cpg_cube.proofs.CubeLows.{lows-least}

@@ -1,3 +1,4 @@
+-- Proof of `Cube::meets`: whether a scenario within the problem's faults matches this cube and another.
 use Rattle.std.proofs.Common.{rules, ◌≡◌, ◌∙◌, false, true}
 use Rattle.cpg_cube.specs.Fit.{do_meet, both_lows}
 use Rattle.cpg_cube.proofs.CubeLaws.{apart_from_meet}

@@ -1,3 +1,4 @@
+-- Proof of `Cube::narrowed`: the cube with a literal more, met with the one on its variable.
 use Rattle.cpg_cube.proofs.Narrow.{rising-narrowed}
 use Rattle.cpg_cube.proofs.cube.Cube.narrowed.Goals as goal
 

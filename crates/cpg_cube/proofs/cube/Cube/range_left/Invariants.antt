@@ -1,3 +1,4 @@
+-- Loops of `Cube::range_left`: the range of a literal's variable that is left where both match.
 use Rattle.std.proofs.Common.{◌≡◌, drop}
 use Rattle.cpg_cube.specs.Narrow.{range_left}
 use Rattle.cpg_cube.proofs.cube.Cube.range_left.Given as goal

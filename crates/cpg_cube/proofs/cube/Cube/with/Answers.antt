@@ -1,3 +1,5 @@
+-- Proof of `Cube::with`: the cube that matches where this one does and the literal holds, and `None` exactly if that
+-- leaves the variable an empty range.
 use Rattle.std.proofs.Common.{rules, ◌≡◌, None}
 use Rattle.cpg_cube.specs.Narrow.{with_literal}
 use Rattle.cpg_cube.proofs.Narrow.{with-none, matches-narrowed}
@@ -9,5 +11,6 @@ returns-then-left-clause-none c s =
     let e : with_literal c.args.literal c.args.self.now ≡ None = search rules in
     with-none s c.args.literal c.args.self.now e
 
+-- the new cube matches where the old one does and the literal holds
 pub returns-clause-both : goal.returns-clause-both
 returns-clause-both c s = rw c.in_ok-cube.ensures (matches-narrowed s c.args.literal c.args.self.now)

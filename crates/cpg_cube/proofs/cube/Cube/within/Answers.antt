@@ -1,3 +1,4 @@
+-- Proof of `Cube::within`: whether each scenario within the problem's faults that matches this cube matches another.
 use Rattle.std.proofs.Common.{◌∙◌, sym}
 use Rattle.cpg_cube.proofs.Within.{within_from, to_within}
 use Rattle.cpg_cube.proofs.cube.Cube.within.Goals as goal

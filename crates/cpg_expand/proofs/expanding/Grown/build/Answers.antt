@@ -1,3 +1,4 @@
+-- Proof of `Grown::build`: does what `build_bounded` does, if no item has too many views.
 use Rattle.cpg_expand.specs.WideRows.{HaveWideRows}
 use Rattle.cpg_expand.proofs.WideRowsMade.{narrow_unnamed}
 use Rattle.cpg_expand.proofs.expanding.Grown.build.Goals as goal

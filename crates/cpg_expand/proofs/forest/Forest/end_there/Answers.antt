@@ -1,3 +1,4 @@
+-- Proof of `Forest::end_there`: the ends of a process, 0 if it isn't active.
 use Rattle.std.proofs.Common.{refl}
 use Rattle.cpg_expand.specs.Forest.{ForestState, ends_of}
 use Rattle.cpg_expand.proofs.GuardTrees.{ends_read, ends_tree, read_end}

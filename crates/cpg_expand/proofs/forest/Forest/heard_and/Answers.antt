@@ -1,3 +1,4 @@
+-- Proof of `Forest::heard_and`: the times from which on a node has heard a condition and something else is there.
 use Rattle.std.proofs.Common.{◌≡◌, ◌∙◌, refl, sym, ap, subst}
 use Rattle.cpg_base.specs.Bus.{slot_length}
 use Rattle.cpg_base.specs.Graph.{home, node_of}

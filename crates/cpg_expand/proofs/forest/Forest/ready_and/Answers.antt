@@ -1,3 +1,4 @@
+-- Proof of `Forest::ready_and`: the times from which on a node is ready and something else is there.
 use Rattle.std.proofs.Common.{◌<◌, ◌≡◌, refl, sym, subst}
 use Rattle.cpg_base.specs.Graph.{process_count}
 use Rattle.cpg_tree.specs.Tree.{TreeState}

@@ -1,3 +1,4 @@
+-- Proof of `Forest::ready_and_frame`: the times from which on a node is ready and a frame is there.
 use Rattle.std.proofs.Common.{ℕ, ◌<◌, ◌≡◌, ◌∙◌, Option, refl, sym, ap, subst}
 use Rattle.cpg_base.specs.Bus.{slot_length}
 use Rattle.cpg_base.specs.Graph.{home, process_count}

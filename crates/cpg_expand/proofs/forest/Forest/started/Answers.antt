@@ -1,3 +1,4 @@
+-- Proof of `Forest::started`: the starts of a process on a node once it is ready and at a release or later.
 use Rattle.std.proofs.Common.{◌<◌, ◌≡◌, [], refl, sym, subst}
 use Rattle.cpg_base.specs.Graph.{process_count}
 use Rattle.cpg_tree.specs.Tree.{TreeState}

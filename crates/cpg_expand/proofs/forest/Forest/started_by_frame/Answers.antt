@@ -1,3 +1,5 @@
+-- Proof of `Forest::started_by_frame`: the starts of a process on a node once it is ready and a frame is there, and at
+-- a release or later.
 use Rattle.std.proofs.Common.{ℕ, ◌<◌, ◌≡◌, ◌∙◌, max, Option, Some, refl, sym, ap, subst}
 use Rattle.cpg_base.specs.Bus.{slot_length}
 use Rattle.cpg_base.specs.Graph.{home, process_count}

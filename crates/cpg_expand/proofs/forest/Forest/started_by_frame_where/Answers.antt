@@ -1,3 +1,5 @@
+-- Proof of `Forest::started_by_frame_where`: the starts of a process where it is active, and no time elsewhere: once
+-- its node is ready and a frame is there, and at a release or later.
 use Rattle.std.proofs.Common.{◌<◌, ◌≡◌, ◌∙◌, refl, sym, ap, subst}
 use Rattle.cpg_base.specs.Bus.{slot_length}
 use Rattle.cpg_base.specs.Graph.{home, process_count}

@@ -1,3 +1,5 @@
+-- Proof of `Forest::started_by_input`: the starts of a process on a node once it is ready and an input from another
+-- node is there, and at a release or later.
 use Rattle.std.proofs.Common.{subst}
 use Rattle.cpg_base.specs.Bus.{slot_length}
 use Rattle.cpg_base.specs.Graph.{home}

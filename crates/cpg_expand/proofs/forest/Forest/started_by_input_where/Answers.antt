@@ -1,3 +1,5 @@
+-- Proof of `Forest::started_by_input_where`: the starts of a process where it is active, and no time elsewhere: once
+-- its node is ready and an input from another node is there, and at a release or later.
 use Rattle.std.proofs.Common.{subst}
 use Rattle.cpg_base.specs.Bus.{slot_length}
 use Rattle.cpg_base.specs.Graph.{home}

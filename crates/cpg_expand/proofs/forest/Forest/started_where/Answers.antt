@@ -1,3 +1,5 @@
+-- Proof of `Forest::started_where`: the starts of a process where it is active, and no time elsewhere: once its node is
+-- ready, and at a release or later.
 use Rattle.std.proofs.Common.{ℕ, Option, None, subst}
 use Rattle.cpg_tree.specs.Tree.{TreeState, IsConstant}
 use Rattle.cpg_tree.specs.Variables.{is_variable}
@@ -13,6 +15,7 @@ returns c =
     let g = c.args.problem.now in
     let f = c.args.self.now in
     let active = c.args.active.now in
+    -- a tree without times, for where the process isn't active
     let never : TreeState (Option ℕ) = c.in_ok-never.never in
     let of_never : IsTree g never = constant_tree g None c.faults.result never c.faults.ensures.faults
     c.in_ok-never.ensures.each c.in_ok-never.ensures.is

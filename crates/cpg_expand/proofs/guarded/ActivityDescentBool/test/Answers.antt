@@ -1,3 +1,4 @@
+-- Proof of `test`: a tree that is true if a guard leads to an active leaf, for a guard that tests a condition.
 use Rattle.cpg_tree.proofs.Forks.{of_answer}
 use Rattle.cpg_expand.proofs.GuardTrees.{active_test}
 use Rattle.cpg_expand.proofs.guarded.ActivityDescentBool.test.Goals as goal

@@ -1,3 +1,4 @@
+-- Proof of `test`: when a node has heard what a guard tests, for a guard that tests a condition.
 use Rattle.cpg_expand.proofs.GuardTrees.{heard_test}
 use Rattle.cpg_expand.proofs.guarded.GuardHearingDescentU64.test.Goals as goal
 

@@ -1,3 +1,4 @@
+-- Proof of `test`: the starts of a process, for a guard that tests a condition.
 use Rattle.cpg_tree.proofs.Forks.{of_answer}
 use Rattle.cpg_expand.specs.Forest.{ready_by}
 use Rattle.cpg_expand.proofs.GuardTrees.{start_test}

@@ -1,3 +1,4 @@
+-- Proof of `Peak::or`: this peak, or the greatest time of the tree of a later process, if that goes before it.
 use Rattle.cpg_base.specs.Graph.{process_count}
 use Rattle.cpg_base.proofs.Places.{length_order}
 use Rattle.cpg_expand.proofs.measuring.Peak.or.Goals as goal

@@ -1,3 +1,5 @@
+-- Proof of `Peak::or_past`: this peak, or how far the ends of a later process are past its due at most, if that goes
+-- before it.
 use Rattle.std.proofs.Common.{◌≡◌, ℕ, Option, subst}
 use Rattle.cpg_tree.specs.Tree.{IsMap}
 use Rattle.cpg_tree.specs.Variables.{is_variable}

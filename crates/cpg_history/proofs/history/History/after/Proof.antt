@@ -17,9 +17,11 @@ use Rattle.cpg_history.specs.declared.history.History.TheInside.{Inside}
 use Rattle.cpg_history.proofs.history.History.after.Statement.{statement}
 use Rattle.cpg_history.proofs.history.History.after.Code as code
 
+-- neither of the two arguments, which are references, has to be dropped
 abbrev stayed : Stays f.ended.signature.params f.ended.kept
 stayed = (stay_dropped _ yes, (stay_dropped _ yes, tt))
 
+-- `after` keeps its contract in every model of the machine
 pub after_spec : {M : Type 1} → statement M
 after_spec 𝓤 𝓛 𝓜 𝓡 wired =
     let c = f.clauses 𝓛 𝓜.mem 𝓡.returns in let W = walk_of 𝓛 f.ended stayed c in
@@ -39,17 +41,20 @@ after_spec 𝓤 𝓛 𝓜 𝓡 wired =
     let past : List Fetch = after a.1.0.now a.0.now in
     let seen : (inner : Inside) × ((inner.fetches ≡ past) × Unit {0}) =
     (record { made = tt; fetches = past }, (refl, tt)) in
+    -- the machine's steps: it enters, makes the struct of one empty field, returns it, and frees what it allocated
     qed 𝓛 ((raw (alive 𝓛 f.signature κs qs) ⊛ ‵ (owns (types_at f.signature.params κs) a y.0.4))
     ∷ raw ((c κs a).requires tt) ∷ []) ∵
     keep ! (0 ∷ []) $ split ! $ keep ! (0 ∷ []) $
     enter ! _ _ _ _ _ $ alloc_all ! (λ l. pass_all ! refl ((tt, tt), ((tt, tt), tt)) $
     sets ! (agg ! (and_then ! (unit_lit !) (no_more !))) refl (tt, (tt, tt)) $
     returns ! (look_at ! 0 refl) $ free_all ! refl $
+    -- what is returned has to be a struct with this history
     suffices ! _ (ends_at 𝓛 f.ended stayed c y empty past (tt, (tt, tt)) (tt, (tt, tt))) $ says ! refl $
     nothing ! $ nothing ! $ owned ! fields.the_row _ (makes fields.the_type (λ _ _. tt, tt) 𝓛)
     (record { made = tt }) (empty ∷ []) (
       (vunit ∷ [], tt),
       (refl, (refl, tt)),
     ) $ fjoin ! $ fjoin ! $
+    -- what it stands for is `seen`
     fpack ! _ (λ x. fsep (inside.the_row.own_val x.0 (empty ∷ [])) ftrue) seen $
     nothing ! $ nothing ! $ fjoin ! $ nothing ! $ fjoin ! $ move ! (2 ∷ 0 ∷ 1 ∷ []) $ done !))

@@ -1,3 +1,4 @@
+-- Proof of `Line::add`: adds a literal.
 use Rattle.std.proofs.Common.{rules, ◌≡◌, ◌∙◌, ◌+◌, ◌*◌, ◌++◌, ◌≤◌, ◌<◌, ap, ap₂, arith, get_or, length, refl, take}
 use Rattle.std.proofs.lemmas.List.{get_or_default, length-set}
 use Rattle.std.specs.Vec.{vec_len}
@@ -12,10 +13,12 @@ returns-clause-line c =
     let old = c.args.self.now in
     let is = c.requires.line in
     let put = c.place_after-end.new.out in
+    -- there is room for one more end, and the last one is where the text stops
     let room : old.count ≤ length old.literals.items = omega (arith, is.few, is.literals) in
     let at : c.index-at.result.now ≡ get_or old.ends.items old.count 0 =
     c.index-at.ensures
     ∙ get_or_default old.ends.items old.count c.index-at.result.now 0 (omega (arith, c.requires.few, is.ends)) in
+    -- the text keeps its length, which is that of the room
     let long : length put ≡ 256 * 84 =
     c.place_after-end.ensures.len ∙ ap length c.as_mut_slice.ensures.value ∙ is.text in
     let stands : length old.text.items ≡ vec_len old.text = search rules in
@@ -24,6 +27,7 @@ returns-clause-line c =
     let short = end_short labels old.literals.items old.text.items old.ends.items old.count is.are room in
     let few : c.place_after-end.result ≤ get_or old.ends.items old.count 0 + 84 =
     omega (arith, at, c.place_after-end.ensures.few) in
+    -- the line with the literal; the counts and lengths stay those of the room
     record {
       are = rw same (line_added labels old.literals.items old.text.items old.ends.items old.count is.are room _ put _
           c.args.literal c.place_after-end.result refl refl

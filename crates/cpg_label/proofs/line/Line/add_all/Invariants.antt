@@ -1,3 +1,4 @@
+-- Loops of `Line::add_all`: adds literals.
 use Rattle.std.proofs.Common.{◌≡◌, ◌+◌, ◌++◌, take}
 use Rattle.cpg_label.specs.Lines.{IsLine}
 use Rattle.cpg_label.proofs.line.Line.add_all.Given as goal

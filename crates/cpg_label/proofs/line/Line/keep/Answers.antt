@@ -1,3 +1,4 @@
+-- Proof of `Line::keep`: leaves this many literals.
 use Rattle.std.proofs.Common.{arith}
 use Rattle.cpg_label.proofs.Lines.{line_kept}
 use Rattle.cpg_label.proofs.line.Line.keep.Goals as goal

@@ -1,3 +1,4 @@
+-- Proof of `Line::new`: the line of no literals.
 use Rattle.std.proofs.Common.{rules, ◌≡◌, arith, length}
 use Rattle.std.specs.Vec.{vec_len}
 use Rattle.cpg_label.proofs.Lines.{line_new}

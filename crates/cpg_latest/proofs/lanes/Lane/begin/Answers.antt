@@ -1,3 +1,4 @@
+-- Proof of `Lane::begin`: starts a process if it is active, and otherwise lets its node wait for what decides it.
 use Rattle.std.proofs.Common.{◌∙◌, ◌+◌, length, refl, sym, ap, subst, arith}
 use Rattle.cpg_latest.specs.Course.{IsLane}
 use Rattle.cpg_latest.specs.Lanes.{CanBegin, HasSentTo}
@@ -25,6 +26,7 @@ begin-last-requires-clause-course c =
     (c.loop-faults.invariant.half.left c.loop-faults.faults c.index_mut-course.result.now (omega arith)
     (omega (arith, c.loop-faults-test.true, c.requires.lane.count, ap length c.self.view_is)))
 
+-- there is a last end for each node
 pub begin-last-requires-clause-last : goal.begin-last-requires-clause-last
 begin-last-requires-clause-last c = c.loop-faults.invariant.last
 

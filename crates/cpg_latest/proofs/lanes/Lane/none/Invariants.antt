@@ -1,3 +1,4 @@
+-- Loops of `Lane::none`: a lane in which nothing is known.
 use Rattle.std.proofs.Common.{◌≡◌, length, replicate}
 use Rattle.cpg_run.specs.Known.{no_times}
 use Rattle.cpg_latest.proofs.lanes.Lane.none.Given as goal

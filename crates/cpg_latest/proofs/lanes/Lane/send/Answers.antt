@@ -1,3 +1,4 @@
+-- Proof of `Lane::send`: sends the item at a place of what a process sends, if it is active.
 use Rattle.std.proofs.Common.{◌≡◌, ◌∙◌, ◌+◌, ◌^◌, ◌<◌, false, true, refl, sym, ap, length, get_or, Contains, subst}
 use Rattle.std.proofs.Common.{arith}
 use Rattle.std.proofs.lemmas.List.Elements.{Contains-get_or}
@@ -92,15 +93,18 @@ send_item-requires-clause-early c =
     let order = c.args.setting.now.order.now in
     let p = c.args.process in
     let values = c.args.asked.now.scenario.now.values in
+    -- the course at hand is one of the lane, and the item is the one at the place
     let few : c.loop-faults.faults < g.faults + 1 =
     omega (arith, c.loop-faults-test.true, c.requires.lane.count, ap length c.self.view_is) in
     let here : get_or c.queue.result.now c.args.at 0 ≡ queued g p c.args.at =
     ap (λ xs. get_or xs c.args.at 0) c.queue.ensures in
+    -- what is known in the course before the send
     let s =
     subst (HasSentTo c.args.setting.now c.args.frozen.now p (c.args.at + 1) c.args.at values c.loop-faults.faults)
     (sym c.index_mut-course.ensures.value)
     (c.loop-faults.invariant.left c.loop-faults.faults c.index_mut-course.result.now (omega arith) few) in
     let sent = c.is_sent.ensures.sent c.if-not-is_sent.false in
+    -- so the end of the process in it is small
     (item_small g order c.requires.setting.topological c.args.frozen.now values p c.requires.process
     (on_graph g c.requires.setting.admitted.1.limits p c.requires.process) c.args.at c.requires.at
     c.loop-faults.faults few
@@ -114,15 +118,18 @@ send_item-requires-clause-time c =
     let order = c.args.setting.now.order.now in
     let p = c.args.process in
     let values = c.args.asked.now.scenario.now.values in
+    -- the course at hand is one of the lane, and the item is the one at the place
     let few : c.loop-faults.faults < g.faults + 1 =
     omega (arith, c.loop-faults-test.true, c.requires.lane.count, ap length c.self.view_is) in
     let here : get_or c.queue.result.now c.args.at 0 ≡ queued g p c.args.at =
     ap (λ xs. get_or xs c.args.at 0) c.queue.ensures in
+    -- what is known in the course before the send
     let s =
     subst (HasSentTo c.args.setting.now c.args.frozen.now p (c.args.at + 1) c.args.at values c.loop-faults.faults)
     (sym c.index_mut-course.ensures.value)
     (c.loop-faults.invariant.left c.loop-faults.faults c.index_mut-course.result.now (omega arith) few) in
     let sent = c.is_sent.ensures.sent c.if-not-is_sent.false in
+    -- so the time of the send in it is small
     subst (λ y. send_at g c.args.frozen.now p y c.index_mut-course.result.now < 2 ^ 59) (sym here)
     (item_small g order c.requires.setting.topological c.args.frozen.now values p c.requires.process
     (on_graph g c.requires.setting.admitted.1.limits p c.requires.process) c.args.at c.requires.at
@@ -137,16 +144,19 @@ loop-faults-preserved c =
     let order = c.args.setting.now.order.now in
     let p = c.args.process in
     let values = c.args.asked.now.scenario.now.values in
+    -- the course at hand is one of the lane, and the item is the one at the place
     let few : c.loop-faults.faults < g.faults + 1 =
     omega (arith, c.loop-faults-test.true, c.requires.lane.count, ap length c.self.view_is) in
     let here : get_or c.queue.result.now c.args.at 0 ≡ queued g p c.args.at =
     ap (λ xs. get_or xs c.args.at 0) c.queue.ensures in
     let course = c.index_mut-course.result.now in
+    -- what is known in the course before the send
     let s =
     subst (HasSentTo c.args.setting.now c.args.frozen.now p (c.args.at + 1) c.args.at values c.loop-faults.faults)
     (sym c.index_mut-course.ensures.value)
     (c.loop-faults.invariant.left c.loop-faults.faults course (omega arith) few) in
     let sent = c.is_sent.ensures.sent c.if-not-is_sent.false in
+    -- the courses up to this one have sent the item, the others have not
     half_more (HasSentTo c.args.setting.now c.args.frozen.now p (c.args.at + 1) c.args.at values)
     (HasSentTo c.args.setting.now c.args.frozen.now p (c.args.at + 1) (c.args.at + 1) values)
     (g.faults + 1) c.loop-faults.faults c.loop-faults.self-inside.courses.items _ c.send_item.new.course

@@ -1,3 +1,4 @@
+-- Loops of `Lane::send`: sends the item at a place of what a process sends, if it is active.
 use Rattle.std.proofs.Common.{◌+◌}
 use Rattle.cpg_latest.specs.Course.{AreHalf}
 use Rattle.cpg_latest.specs.Lanes.{HasSentTo}

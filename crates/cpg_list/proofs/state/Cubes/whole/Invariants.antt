@@ -1,3 +1,4 @@
+-- Loops of `Cubes::whole`: makes `count` cubes that match every scenario.
 use Rattle.std.proofs.Common.{◌≡◌, [], replicate}
 use Rattle.cpg_list.proofs.state.Cubes.whole.Given as goal
 

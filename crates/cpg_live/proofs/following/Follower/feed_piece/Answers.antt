@@ -1,3 +1,4 @@
+-- Proof of `Follower::feed_piece`: reads the next piece of the stream and feeds it.
 use Rattle.std.proofs.Common.{rules, ◌≡◌, ◌+◌, ◌++◌, ◌∙◌, List, arith, sym, ap, subst, length, take}
 use Rattle.std.proofs.lemmas.List.{length-append}
 use Rattle.cpg_io.proofs.Agreeing.{read_rest}
@@ -19,8 +20,10 @@ invariant_of-self g c =
     let bound = c.in_ok-count.ensures.bound in
     let grown = c.feed.ensures.grows in
     let table = table_in c.self.inside in
+    -- the state is the one after all bytes that were fed, and the table is still the node's
     let live = c.feed.ensures.whole table old.fed old.live in
     let same = table_after table (old.fed ++ piece) c.feed.new.self live in
+    -- the bytes, their count, and the room for the lines of the acts
     record {
       fed = old.fed ++ piece;
       live = live ∙ ap (λ t. after t (old.fed ++ piece)) (sym same);
@@ -53,8 +56,10 @@ returns-clause-piece g c =
     let old = c.self.invariant in
     let piece = take c.in_ok-count.count c.read.new.buf in
     let table = table_in c.self.inside in
+    -- feeding leaves the node's table as it is
     let same : c.feed.new.self.progress.dispatcher.table ≡ table =
     table_after table (old.fed ++ piece) c.feed.new.self (c.feed.ensures.whole table old.fed old.live) in
+    -- the piece that was read, and the follower's state after it
     record {
       piece = piece;
       long = search rules;

@@ -1,3 +1,5 @@
+-- Proof of `Follower::follow_piece`: follows the next piece: reads it, feeds it, and writes the lines of the acts
+-- that it brings, before anything else is read.
 use Rattle.std.proofs.Common.{rules, ◌≡◌, ◌∙◌, ◌<◌, ◌≤◌, true, false, None, Some, arith, ap, refl, subst}
 use Rattle.std.specs.Prelude.{is_err}
 use Rattle.cpg_io.specs.Sink.{Took, TookPrefix}
@@ -25,8 +27,10 @@ returns-then-is_err-clause-along g c start name past a =
     let rest = g.S.Shelf.state c.feed_piece.new.shelf in
     let now = (g.O.Sink.state c.args.out.now).taken in
     let out = (g.O.Sink.state c.tell.new.out).taken in
+    -- the fetch of the stream and the state after the piece
     let k = fed_on name past shelf rest c.in-Ok.fed.count start now f n a c.in-Ok.ensures.piece in
     let failed : is_err c.tell.result ≡ true = search rules in
+    -- the sink has counted a fault, and took a front of the lines
     record {
       fetch = k.fetch;
       named = k.named;
@@ -48,9 +52,12 @@ returns-in-Some-clause-along g c start name past a =
     let rest = g.S.Shelf.state c.feed_piece.new.shelf in
     let now = (g.O.Sink.state c.args.out.now).taken in
     let out = (g.O.Sink.state c.tell.new.out).taken in
+    -- the fetch of the stream and the state after the piece
     let k = fed_on name past shelf rest c.in-Ok.fed.count start now f n a c.in-Ok.ensures.piece in
+    -- all lines were told, and the state is bad
     let told_all : is_err c.tell.result ≡ false = search rules in
     let lawless : n.live.lawless ≡ Some c.in-Some.lawless = search rules in
+    -- the stream is refused by what is bad, behind all lines
     record {
       fetch = k.fetch;
       named = k.named;
@@ -78,11 +85,14 @@ returns-then-self-gt-STREAM_LIMIT-clause-along g c start name past a =
     let rest = g.S.Shelf.state c.feed_piece.new.shelf in
     let now = (g.O.Sink.state c.args.out.now).taken in
     let out = (g.O.Sink.state c.tell.new.out).taken in
+    -- the fetch of the stream and the state after the piece
     let k = fed_on name past shelf rest c.in-Ok.fed.count start now f n a c.in-Ok.ensures.piece in
+    -- all lines were told, and the bytes are more than the limit
     let told_all : is_err c.tell.result ≡ false = search rules in
     let none : n.live.lawless ≡ None = search rules in
     let read : c.self.inside.read ≡ n.read = ap (λ (f : Follower). f.read) (c.self.view_is ∙ c.tell.ensures.state) in
     let over : STREAM_LIMIT < n.read = omega (arith, c.if-self-gt-STREAM_LIMIT.true, read) in
+    -- the stream is refused as too long, behind all lines
     record {
       fetch = k.fetch;
       named = k.named;

@@ -1,3 +1,4 @@
+-- Proof of `Follower::new`: a node of these tables before the first byte of its stream.
 use Rattle.std.proofs.Common.{◌≡◌, ◌∙◌, [], refl, sym, ap, arith}
 use Rattle.cpg_table.specs.Table.{table_at}
 use Rattle.cpg_live.specs.Stream.{LiveState, open_stream}

@@ -1,3 +1,4 @@
+-- Proof of `Follower::tell`: writes the lines of the acts that haven't been written yet, in one write.
 use Rattle.std.proofs.Common.{◌≡◌, ◌∙◌, arith, ap, drop, length, refl, subst}
 use Rattle.std.specs.Prelude.{List, OnErr}
 use Rattle.cpg_io.specs.Sink.{TookPrefix}

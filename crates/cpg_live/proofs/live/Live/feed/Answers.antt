@@ -1,3 +1,5 @@
+-- Proof of `Live::feed`: takes the next bytes of the stream: all records that they complete, up to the first unlawful
+-- one, which is the answer from then on.
 use Rattle.std.proofs.Common.{ap, ◌∙◌}
 use Rattle.cpg_live.specs.Stream.{LiveState}
 use Rattle.cpg_live.proofs.Cutting.{feeds, kept}

@@ -1,3 +1,4 @@
+-- Proof of `Live::judge`: takes a record, unless it is unlawful.
 use Rattle.std.proofs.Common.{◌≡◌, true, ap, ◌∙◌, subst, arith}
 use Rattle.cpg_node.specs.Dispatcher.{is_after}
 use Rattle.cpg_node.proofs.Rooms.{after_later}

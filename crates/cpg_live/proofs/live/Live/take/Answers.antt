@@ -1,3 +1,5 @@
+-- Proof of `Live::take`: takes a record of a lawful kind and time, unless it is unlawful after the turns that come
+-- first.
 use Rattle.std.proofs.Common.{◌≡◌, true, sym, ap, ◌∙◌, subst}
 use Rattle.cpg_node.specs.Dispatcher.{is_after}
 use Rattle.cpg_live.specs.Stream.{NodeProgress, LiveState}

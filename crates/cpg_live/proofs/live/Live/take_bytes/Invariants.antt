@@ -1,3 +1,4 @@
+-- Loops of `Live::take_bytes`: takes bytes, one after another.
 use Rattle.std.proofs.Common.{◌≡◌, drop}
 use Rattle.cpg_live.specs.Feeding.{take_bytes}
 use Rattle.cpg_live.proofs.live.Live.take_bytes.Given as goal

@@ -1,3 +1,4 @@
+-- Proof of `NodeProgress::end`: takes the end of an execution of a process with this many faults.
 use Rattle.std.proofs.Common.{◌≡◌, true, sym, ◌∙◌, subst}
 use Rattle.cpg_node.specs.Dispatcher.{is_after}
 use Rattle.cpg_live.specs.Stream.{NodeProgress}

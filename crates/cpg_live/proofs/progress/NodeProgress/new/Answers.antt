@@ -1,3 +1,4 @@
+-- Proof of `NodeProgress::new`: the node of a table before its first turn.
 use Rattle.std.proofs.Common.{◌≡◌, ◌≤◌, length, arith, sym, ap, subst, rules}
 use Rattle.std.specs.Vec.{vec_capacity}
 use Rattle.cpg_table.specs.Lawful.{IsTable}

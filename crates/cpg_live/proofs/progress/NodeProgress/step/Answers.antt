@@ -1,3 +1,5 @@
+-- Proof of `NodeProgress::step`: takes the turns that come before an event at a time, and then the event, unless it
+-- is lawless.
 use Rattle.std.proofs.Common.{◌≡◌, true, sym, subst}
 use Rattle.cpg_node.specs.Dispatcher.{is_after}
 use Rattle.cpg_live.specs.Stream.{NodeProgress}

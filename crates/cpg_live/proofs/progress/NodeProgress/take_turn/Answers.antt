@@ -1,3 +1,4 @@
+-- Proof of `NodeProgress::take_turn`: takes the turn of the next instant.
 use Rattle.std.proofs.Common.{◌≡◌, [], Some, length, arith, sym, ap, ◌∙◌, subst}
 use Rattle.std.specs.Vec.{vec_capacity}
 use Rattle.std.proofs.lemmas.List.{length-append}

@@ -1,3 +1,4 @@
+-- Proof of `NodeProgress::turn_before`: takes all turns at instants before this.
 use Rattle.std.proofs.Common.{◌≡◌, sym, ap, ◌∙◌, arith}
 use Rattle.cpg_live.specs.Stream.{turned}
 use Rattle.cpg_live.proofs.Turns.{turned_zero}

@@ -1,3 +1,4 @@
+-- Proof of `NodeProgress::turn_to`: takes all turns at instants that aren't later than this.
 use Rattle.std.proofs.Common.{◌+◌, refl, sym, ap, ◌∙◌}
 use Rattle.cpg_live.specs.Stream.{turned}
 use Rattle.cpg_live.proofs.Turns.{turned_next, turned_last, few_none, few_next}

@@ -1,3 +1,4 @@
+-- Loops of `Log::time_of`: when an item is logged, and `None` exactly if it isn't.
 use Rattle.std.proofs.Common.{◌≡◌, drop}
 use Rattle.cpg_log.specs.Log.{logged_time}
 use Rattle.cpg_log.proofs.log.Log.time_of.Given as goal

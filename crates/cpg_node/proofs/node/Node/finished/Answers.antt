@@ -1,3 +1,4 @@
+-- Proof of `Node::finished`: notes an execution that ended at a time, maybe early.
 use Rattle.std.proofs.Common.{ap, sym, ◌∙◌, length, ◌≡◌, subst, arith, List, Option}
 use Rattle.std.specs.Vec.{with_items}
 use Rattle.std.proofs.lemmas.List.{with_items_is}
@@ -18,6 +19,7 @@ invariant_of-self c =
     let n = c.self.inside in
     record {
       made = c.self.invariant.made;
+      -- the execution with its report is put at the place of its process; starts and the next instant stay
       count =
           ap length (runs c) ∙ length_zip (with_report c.args.ended) n.table.own n.running.items c.self.invariant.count;
       mirror = c.self.invariant.mirror;

@@ -1,3 +1,4 @@
+-- Proof of `Node::new`: the node of a table before its first turn.
 use Rattle.std.proofs.Common.{sym, subst, None, refl, rules}
 use Rattle.std.proofs.lemmas.List.Elements.{All-replicate}
 use Rattle.cpg_node.specs.Plan.{Planned}

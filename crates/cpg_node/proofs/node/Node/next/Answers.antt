@@ -1,3 +1,4 @@
+-- Proof of `Node::next`: the next instant at which something may happen, in time units of the graph file.
 use Rattle.std.proofs.Common.{ℕ, ◌<◌, ◌≡◌, ◌^◌, Option, Some, None, refl, sym, ◌∙◌}
 use Rattle.std.specs.Prelude.{IfSome}
 use Rattle.cpg_node.proofs.Turning.{next_early}

@@ -1,3 +1,4 @@
+-- Proof of `Node::turn`: takes the turn of the next instant.
 use Rattle.std.proofs.Common.{ap₂, ℕ, ◌-◌, take, drop, map, filter, slice_get, ap, sym, ◌∙◌, ◌≡◌, ◌++◌, length, subst}
 use Rattle.std.proofs.Common.{arith, List, Option, Some}
 use Rattle.std.specs.Prelude.{All}
@@ -48,6 +49,7 @@ timed-8 c =
     c.gather_acts.new.acts.items c.gather_acts.ensures.acts v.early)
     n.table.own n.running.items v.starts)
 
+-- the starts of what runs after the turn are small enough to be added to
 pub earliest_end-end-requires-clause-starts : goal.earliest_end-end-requires-clause-starts
 earliest_end-end-requires-clause-starts c = subst AreTimed (sym c.as_slice-8.ensures.value) (timed-8 c)
 
@@ -86,6 +88,7 @@ invariant_of-self c =
     let v = c.self.invariant in
     record {
       made = v.made;
+      -- what runs is one for each process, with early starts
       count = ap length (runs c) ∙ length_zip (running_after (c.args.ended.now ++ c.gather_due.new.due.items)
           c.gather_acts.new.acts.items c.in-Some.time) n.table.own n.running.items v.count;
       mirror = heard_length c ∙ v.mirror;
@@ -100,6 +103,7 @@ invariant_of-self c =
           n.table.own n.running.items v.starts);
       planned = v.planned;
       early = v.early;
+      -- the places of the plan and of the times move behind the instant
       entries = line_moves n.table n.heard.items n.running.items n.last c.in-Some.time n.plan.items
           c.as_slice-3.result.now c.deref.result.now n.plan_place c.past_entries-plan_end.result v.planned
           v.entries (sym v.next ∙ c.in-Some.is)
@@ -107,6 +111,7 @@ invariant_of-self c =
           c.past_entries-plan_end.ensures.before c.past_entries-plan_end.ensures.here;
       times = v.times;
       instants = instants c;
+      -- the next instant is the earlier of the next end and the next time
       next = c.earlier-self-inside.ensures ∙ ap₂ earlier (left c) (c.earliest_end-end.ensures
           ∙ ap₂ (λ (os : List Own) (rs : List (Option Running)). least_of (filter (is_after (Some c.in-Some.time))
           (flat_map (λ ends. ends) (zip_with possible_ends os rs)))) c.own-3.ensures.own
@@ -126,6 +131,7 @@ turned : (c : goal.After-self-6-1) → let n = c.self.inside in
 turned c =
     let n = c.self.inside in
     let v = c.self.invariant in
+    -- the reports and frames of the turn, as the node notes them, are those of the specified turn
     turn_is n.table n.heard.items n.running.items n.last c.in-Some.time c.args.ended.now c.gather_due.new.due.items
     c.args.frames.now
     (with_items n.heard c.hear_all.new.heard).items c.gather_acts.new.acts.items

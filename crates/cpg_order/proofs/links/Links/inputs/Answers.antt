@@ -1,3 +1,4 @@
+-- Proof of `Links::inputs`: the numbers of the edges that lead to a process, the lowest first.
 use Rattle.std.proofs.Common.{◌<◌, ◌∙◌, [], sym, ap, subst, get_or, length}
 use Rattle.std.proofs.lemmas.List.{get_or_default}
 use Rattle.cpg_base.specs.Graph.{process_count, inputs}

@@ -1,3 +1,4 @@
+-- Proof of `Links::of`: the links of a graph.
 use Rattle.std.proofs.Common.{ℕ, List, ◌≡◌, ◌∙◌, refl, ap, length, map, arith, None, false}
 use Rattle.cpg_base.specs.Numbers.{numbers_below}
 use Rattle.cpg_base.specs.Graph.{process_count, edge_count, inputs, outputs, source, target}

@@ -1,3 +1,4 @@
+-- Loops of `Links::of`: the links of a graph.
 use Rattle.std.proofs.Common.{◌≡◌, map}
 use Rattle.cpg_base.specs.Numbers.{numbers_below}
 use Rattle.cpg_base.specs.Graph.{process_count, source, target}

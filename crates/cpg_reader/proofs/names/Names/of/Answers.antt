@@ -1,3 +1,4 @@
+-- Proof of `Names::of`: the names of elements, if no two are equal.
 use Rattle.std.proofs.Common.{◌∙◌, Err, sym, ap, map, []}
 use Rattle.cpg_reader.specs.declared.place.ReadFault.TheVariants.{DoubleName}
 use Rattle.cpg_reader.specs.Names.{apart, apart_from}

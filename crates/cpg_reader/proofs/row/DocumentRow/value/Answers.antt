@@ -1,3 +1,4 @@
+-- Proof of `DocumentRow::value`: the value at a key, if there is one.
 use Rattle.toml.proofs.Views.{table_get}
 use Rattle.cpg_reader.proofs.row.DocumentRow.value.Goals as goal
 

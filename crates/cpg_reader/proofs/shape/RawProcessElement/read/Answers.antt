@@ -1,3 +1,4 @@
+-- Proof of `RawProcessElement::read`: reads an element from its table.
 use Rattle.std.proofs.Common.{◌∙◌, refl, rules}
 use Rattle.std.proofs.lemmas.Result.{err_from_is_err_and}
 use Rattle.cpg_reader.specs.Rows.{row_view}

@@ -1,9 +1,11 @@
+-- Proof of `Places::are_everywhere`: whether each scenario is known to come to a place: no leaf is without one.
 use Rattle.std.proofs.Common.{◌∙◌, All, sym, subst}
 use Rattle.cpg_tree.proofs.Passes.{of_true}
 use Rattle.cpg_row_trees.specs.Places.{IsThere}
 use Rattle.cpg_row_trees.proofs.PlacesSeen.{place_seen, there_in}
 use Rattle.cpg_row_trees.proofs.places.Places.are_everywhere.Goals as goal
 
+-- if each leaf has a place, each scenario comes to one
 pub returns : goal.returns
 returns c = of_true c.are_all_there.result c.are_all_there.ensures (λ all s none.
     let is = c.self.invariant in

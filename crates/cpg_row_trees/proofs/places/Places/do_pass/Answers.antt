@@ -1,8 +1,10 @@
+-- Proof of `Places::do_pass`: whether a test passes at each place that scenarios of a space come to.
 use Rattle.std.proofs.Common.{ℕ, ◌∙◌, Option, sym, subst}
 use Rattle.cpg_tree.proofs.Passes.{of_true}
 use Rattle.cpg_row_trees.proofs.PlacesSeen.{place_seen}
 use Rattle.cpg_row_trees.proofs.places.Places.do_pass.Goals as goal
 
+-- the test passes at each leaf, so at what each scenario comes to
 pub returns : goal.returns
 returns g c = of_true c.do_pass.result c.do_pass.ensures (λ all s lies.
     let is = c.self.invariant in

@@ -1,3 +1,5 @@
+-- Proof of `Places::do_pass_with`: whether a test passes at each two places that scenarios of a space come to here
+-- and in another tree.
 use Rattle.std.proofs.Common.{ℕ, ◌∙◌, Option, sym, subst}
 use Rattle.cpg_tree.proofs.Passes.{of_true}
 use Rattle.cpg_tree.specs.Decision.{value_at}

@@ -1,9 +1,12 @@
+-- Proof of `Places::gather`: adds the places that scenarios of a space come to, as long as there is one and a test
+-- passes at each; false if it stopped before the last.
 use Rattle.std.proofs.Common.{ℕ, ◌∙◌, Option, sym, subst}
 use Rattle.cpg_tree.proofs.Passes.{of_true}
 use Rattle.cpg_row_trees.specs.Places.{IsAmong}
 use Rattle.cpg_row_trees.proofs.PlacesSeen.{place_seen}
 use Rattle.cpg_row_trees.proofs.places.Places.gather.Goals as goal
 
+-- the test passes at what each scenario comes to, and that is among the places that were added
 pub returns : goal.returns
 returns g c = of_true c.in_ok-all.all c.in_ok-all.ensures.found (λ all s lies.
     let is = c.self.invariant in

@@ -1,9 +1,11 @@
+-- Proof of `Admitted::with_fault_number`: the graph with another fault number.
 use Rattle.std.proofs.Common.{◌∙◌, sym, ap, subst}
 use Rattle.cpg_base.specs.Graph.{Graph}
 use Rattle.cpg_rules.specs.Admission.{IsAdmitted}
 use Rattle.cpg_rules.proofs.FaultNumbers.{admitted_same}
 use Rattle.cpg_rules.proofs.admission.Admitted.with_fault_number.Goals as goal
 
+-- the graph with another fault number is admitted with the same order and guards
 pub invariant_of-result : goal.invariant_of-result
 invariant_of-result c =
     let self = c.self.inside in (
@@ -12,6 +14,7 @@ invariant_of-result c =
       c.self.invariant.1 ∙ sym (ap (λ (g : Graph). g.order) c.in_ok-problem.ensures),
     )
 
+-- callers see an admitted graph
 pub returns-clause-admitted : goal.returns-clause-admitted
 returns-clause-admitted c =
     let self = c.self.inside in

@@ -1,3 +1,4 @@
+-- Recursion of `SharedParts::are_equal`: whether two parts have equal trees.
 use Rattle.std.proofs.Common.{◌+◌}
 use Rattle.cpg_rules.specs.Trees.{size_of}
 use Rattle.cpg_rules.specs.Sharing.{tree_at}

@@ -1,3 +1,4 @@
+-- Recursion of `SharedParts::is_live_somewhere`: whether some leaf of a part is active.
 use Rattle.cpg_rules.specs.Trees.{size_of}
 use Rattle.cpg_rules.specs.Sharing.{tree_at}
 use Rattle.cpg_rules.proofs.shared.SharedParts.+is_live_somewhere.Given as goal

@@ -1,3 +1,4 @@
+-- Recursion of `SharedParts::live`: the part that has the activation where the source is active and the test passes.
 use Rattle.cpg_rules.specs.Trees.{size_of}
 use Rattle.cpg_rules.specs.Sharing.{tree_at}
 use Rattle.cpg_rules.proofs.shared.SharedParts.+live.Given as goal

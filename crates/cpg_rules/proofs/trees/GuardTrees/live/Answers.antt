@@ -1,3 +1,4 @@
+-- Proof of `GuardTrees::live`: whether an edge is live in a scenario.
 use Rattle.std.proofs.Common.{◌∙◌, arith}
 use Rattle.cpg_rules.proofs.EdgeGuards.{live_by-is, length-edges}
 use Rattle.cpg_rules.proofs.trees.GuardTrees.live.Goals as goal

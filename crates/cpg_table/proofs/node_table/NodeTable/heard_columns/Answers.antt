@@ -1,3 +1,4 @@
+-- Proof of `NodeTable::heard_columns`: the columns of an item that the node hears; none if it doesn't hear it.
 use Rattle.std.proofs.Common.{◌∙◌, [], ap, sym, option_map, unwrap_or}
 use Rattle.cpg_table.specs.Found.{row_columns}
 use Rattle.cpg_table.proofs.RowColumns.{columns_in_row}

@@ -1,3 +1,5 @@
+-- Proof of `NodeTable::new`: the table of a node with these rows: for each item that it starts, then for each that it
+-- sends, then for each that it hears (docs/FORMATS.md).
 use Rattle.std.proofs.Common.{◌∙◌, All, sym, ap, subst}
 use Rattle.cpg_table.specs.Shape.{items_of}
 use Rattle.cpg_table.specs.Lawful.{IsLawfulRow}

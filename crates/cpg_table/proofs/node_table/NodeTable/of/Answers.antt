@@ -1,3 +1,4 @@
+-- Proof of `NodeTable::of`: the table of a node with the lawful rows of its items.
 use Rattle.std.proofs.Common.{◌≡◌, ◌∙◌, ◌++◌, All, List, take, drop, sym, ap, ap₂, subst}
 use Rattle.cpg_table.specs.Table.{Row}
 use Rattle.cpg_table.specs.Shape.{items_of}
@@ -17,6 +18,7 @@ returns-clause-table c =
     let ys = sends_of c.args.head.now c.args.node in
     let zs = hears_of c.args.head.now c.args.node in
     let is : items_of rows ≡ xs ++ (ys ++ zs) = c.requires.rows.items in
+    -- the starts are the first n rows, the sends the next m, and the hears the others
     let starts : c.split_off.new.self.items ≡ take n rows = c.in_ok-sends.ensures.items in
     let rest : c.in_ok-sends.sends.items ≡ drop n rows = c.in_ok-sends.ensures.tail in
     let sends : c.split_off-2.new.self.items ≡ take m (drop n rows) = c.in_ok-hears.ensures.items ∙ ap (take m) rest in
@@ -24,6 +26,7 @@ returns-clause-table c =
     let all : c.split_off.new.self.items ++ (c.split_off-2.new.self.items ++ c.in_ok-hears.hears.items) ≡ rows =
     ap₂ (λ ps qs. ps ++ qs) starts (ap₂ (λ ps qs. ps ++ qs) sends hears ∙ take-append-drop m (drop n rows))
     ∙ take-append-drop n rows in
+    -- each part has the items of its kind, and all rows are lawful
     record {
       faults = c.faults.ensures.faults;
       first_broadcast = c.first_broadcast.ensures;

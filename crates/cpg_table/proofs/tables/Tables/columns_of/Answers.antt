@@ -1,3 +1,4 @@
+-- Proof of `Tables::columns_of`: the columns of an item's start row or send row; none if it has no row.
 use Rattle.std.proofs.Common.{rules, ◌≡◌, ◌<◌, List, length, get_or, Some, None, ◌∙◌, ap, subst}
 use Rattle.std.proofs.lemmas.List.{get_or_default}
 use Rattle.cpg_table.specs.Table.{NodeTable, empty_table, table_at}

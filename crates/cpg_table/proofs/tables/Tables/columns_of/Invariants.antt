@@ -1,3 +1,4 @@
+-- Loops of `Tables::columns_of`: the columns of an item's start row or send row; none if it has no row.
 use Rattle.std.proofs.Common.{◌≡◌, drop}
 use Rattle.cpg_table.specs.Table.{columns_of}
 use Rattle.cpg_table.proofs.tables.Tables.columns_of.Given as goal

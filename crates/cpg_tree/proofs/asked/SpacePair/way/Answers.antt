@@ -1,9 +1,11 @@
+-- Proof of `SpacePair::way`: where the scenarios asked for go at a fork.
 use Rattle.std.proofs.Common.{ap₂, refl}
 use Rattle.cpg_tree.specs.Asked.{SpacePair}
 use Rattle.cpg_tree.specs.Space.{Space}
 use Rattle.cpg_tree.proofs.Forks.{from_false}
 use Rattle.cpg_tree.proofs.asked.SpacePair.way.Goals as goal
 
+-- two spaces as a pair
 abbrev pair_of : Space → Space → SpacePair
 pair_of asked walked = record { asked = asked; walked = walked }
 

@@ -1,3 +1,4 @@
+-- Proof of `Tree<bool>::greater_where`: the greater number of two trees if a chooser is true.
 use Rattle.std.proofs.Common.{max, ◌∙◌, drop, take, ap, sym, subst}
 use Rattle.cpg_tree.specs.Tree.{TreeState, IsJoinWhere, DoPathsPass}
 use Rattle.cpg_tree.proofs.BoundLaws.{first_bounds, second_bounds}

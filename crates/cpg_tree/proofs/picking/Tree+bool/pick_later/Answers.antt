@@ -1,3 +1,4 @@
+-- Proof of `Tree<bool>::pick_later`: in each scenario the number of one of two trees.
 use Rattle.cpg_tree.specs.Later.{time_later}
 use Rattle.cpg_tree.specs.Read.{later_by, read_by}
 use Rattle.cpg_tree.proofs.Flats.{all_added}

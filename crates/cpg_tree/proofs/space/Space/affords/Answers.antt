@@ -1,9 +1,11 @@
+-- Proof of `Space::affords`: whether the faults that are left suffice for the lows of literals from a place on.
 use Rattle.std.proofs.Common.{arith}
 use Rattle.std.proofs.lemmas.Bool.{false_from_ne_true}
 use Rattle.cpg_cube.specs.Cube.{matches}
 use Rattle.cpg_tree.proofs.Demands.{demands_left, demand_fits, demand_rest}
 use Rattle.cpg_tree.proofs.space.Space.affords.Goals as goal
 
+-- before the first literal no fault is used up
 pub loop-at-init : goal.loop-at-init
 loop-at-init c s lies all = demands_left c.args.self.now s lies c.args.literals.now c.requires all c.args.from
 

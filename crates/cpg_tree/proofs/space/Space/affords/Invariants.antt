@@ -1,3 +1,4 @@
+-- Loops of `Space::affords`: whether the faults that are left suffice for the lows of literals from a place on.
 use Rattle.std.proofs.Common.{◌≡◌, ◌≤◌, true, sum_by, drop}
 use Rattle.cpg_base.specs.Scenario.{Scenario}
 use Rattle.cpg_cube.specs.Cube.{matches}

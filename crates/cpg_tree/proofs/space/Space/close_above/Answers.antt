@@ -1,3 +1,5 @@
+-- Proof of `Space::close_above`: leaves the numbers up to the cut, if there are others, and returns the high from
+-- before, for `reopen_above`.
 use Rattle.std.proofs.Common.{rules, ap, List, ℕ, ◌∙◌, set-set}
 use Rattle.cpg_tree.specs.Space.{Space}
 use Rattle.cpg_tree.proofs.Spaces.{lies_below}
@@ -10,6 +12,7 @@ returns-clause-back c =
     let with_highs : List ℕ → Space = λ xs. record { low = space.low; high = xs; left = space.left } in
     ap with_highs (set-set space.high c.args.variable c.args.cut c.highest-high.result) ∙ c.highest-high.ensures
 
+-- a scenario whose number is at most the cut stays in the space
 pub returns-clause-lies : goal.returns-clause-lies
 returns-clause-lies c s lies h =
     lies_below c.args.self.now s lies c.args.variable c.args.cut (search rules) (search rules) h

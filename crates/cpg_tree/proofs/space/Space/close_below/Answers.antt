@@ -1,3 +1,5 @@
+-- Proof of `Space::close_below`: leaves the numbers above the cut, if there are others, and returns what was before,
+-- for `reopen_below`.
 use Rattle.std.proofs.Common.{ap, List, ℕ, ◌+◌, ◌∙◌, set-set}
 use Rattle.cpg_tree.specs.declared.space.Lifted.{Lifted}
 use Rattle.cpg_tree.specs.Space.{Space, reopened_below}

@@ -1,3 +1,4 @@
+-- Proof of `Space::is_open_above`: whether a number above the cut is in range, and the faults that are left allow it.
 use Rattle.std.proofs.Common.{rules, sym, ◌∙◌, ◌≤◌}
 use Rattle.cpg_base.specs.Scenario.{Scenario, number_of}
 use Rattle.cpg_tree.specs.Space.{IsInSpace}

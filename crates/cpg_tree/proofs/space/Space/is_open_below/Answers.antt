@@ -1,3 +1,4 @@
+-- Proof of `Space::is_open_below`: whether a number up to the cut is in range.
 use Rattle.std.proofs.Common.{rules, ◌<◌}
 use Rattle.cpg_base.specs.Scenario.{Scenario, number_of}
 use Rattle.cpg_tree.specs.Space.{IsInSpace}

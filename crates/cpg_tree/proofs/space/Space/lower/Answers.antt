@@ -1,7 +1,10 @@
+-- Proof of `Space::lower`: leaves the scenarios in which a variable's number is at most this; false only if there are
+-- none.
 use Rattle.std.proofs.Common.{rules}
 use Rattle.cpg_tree.proofs.Spaces.{lies_below}
 use Rattle.cpg_tree.proofs.space.Space.lower.Goals as goal
 
+-- a scenario whose number is at most the high stays in the space
 pub returns-clause-lies : goal.returns-clause-lies
 returns-clause-lies c s lies h =
     lies_below c.args.self.now s lies c.args.variable c.args.high (search rules) (search rules) h

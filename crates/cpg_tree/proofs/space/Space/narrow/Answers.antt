@@ -1,3 +1,4 @@
+-- Proof of `Space::narrow`: leaves the scenarios in which a literal holds; false only if there are none.
 use Rattle.std.proofs.Common.{inl, inr}
 use Rattle.std.proofs.lemmas.Bool.{cases_lt}
 use Rattle.cpg_base.specs.Scenario.{number_of}

@@ -1,3 +1,4 @@
+-- Proof of `Space::raise`: leaves the scenarios with a number above the cut, if there are others.
 use Rattle.std.proofs.Common.{rules, sym, subst, ◌+◌, ◌-◌, ℕ}
 use Rattle.std.specs.Prelude.{slice_set}
 use Rattle.cpg_tree.specs.Space.{Space, IsInSpace}

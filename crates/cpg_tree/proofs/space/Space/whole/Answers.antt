@@ -1,8 +1,10 @@
+-- Proof of `Space::whole`: all scenarios of at most `k` faults.
 use Rattle.std.proofs.Common.{rules, arith, refl}
 use Rattle.std.proofs.lemmas.List.{get_or-replicate}
 use Rattle.cpg_tree.proofs.Spaces.{lies_whole}
 use Rattle.cpg_tree.proofs.space.Space.whole.Goals as goal
 
+-- before the first variable all highs are 1
 pub loop-variable-init : goal.loop-variable-init
 loop-variable-init c =
     record { long = search rules; done = λ v l. absurd (omega arith); rest = λ v l h. get_or-replicate 256 v 1 0 h }

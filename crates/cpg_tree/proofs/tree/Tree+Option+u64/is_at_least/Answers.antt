@@ -1,3 +1,4 @@
+-- Proof of `Tree<Option<u64>>::is_at_least`: whether each value is a time of at least this.
 use Rattle.std.proofs.Common.{ℕ, [], Option, All, subst}
 use Rattle.cpg_tree.specs.Tree.{TreeState}
 use Rattle.cpg_tree.proofs.AtLeast.{IsFrom, at_least_paths}

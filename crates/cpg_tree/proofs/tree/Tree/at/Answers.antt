@@ -1,3 +1,4 @@
+-- Proof of `Tree::at`: the value of the path that matches a scenario.
 use Rattle.std.proofs.Common.{sym, subst}
 use Rattle.cpg_tree.specs.Tree.{TreeState, IsValueAt}
 use Rattle.cpg_tree.proofs.Publics.{value_path, state_seen}

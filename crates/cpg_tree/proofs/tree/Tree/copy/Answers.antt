@@ -1,3 +1,4 @@
+-- Proof of `Tree::copy`: an equal tree.
 use Rattle.std.proofs.Common.{ℕ, sym, ap, ◌∙◌, subst}
 use Rattle.cpg_tree.specs.Decision.{IsGood}
 use Rattle.cpg_tree.proofs.Publics.{state, state_seen}

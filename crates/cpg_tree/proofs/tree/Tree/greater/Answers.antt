@@ -1,3 +1,4 @@
+-- Proof of `Tree::greater`: what a function makes of the greater number of two trees.
 use Rattle.std.proofs.Common.{ℕ, max, ◌∙◌, subst}
 use Rattle.cpg_tree.specs.Space.{IsWhole}
 use Rattle.cpg_tree.proofs.Fits.{fits_whole}

@@ -1,3 +1,4 @@
+-- Proof of `Tree::join_with`: the answers of a function to the values of two trees.
 use Rattle.cpg_tree.proofs.Flats.{all_added}
 use Rattle.cpg_tree.proofs.Publics.{join_shown, join_passes, good_made}
 use Rattle.cpg_tree.proofs.tree.Tree.join_with.Goals as goal

@@ -1,3 +1,4 @@
+-- Proof of `Tree::map`: the answers of a function to the values.
 use Rattle.cpg_tree.proofs.Flats.{all_added}
 use Rattle.cpg_tree.proofs.Publics.{good_mapped, map_shown, map_passes}
 use Rattle.cpg_tree.proofs.tree.Tree.map.Goals as goal

@@ -1,3 +1,4 @@
+-- Proof of `Tree::pick`: in each scenario the value of one of two trees.
 use Rattle.cpg_tree.proofs.Flats.{all_added}
 use Rattle.cpg_tree.proofs.Publics.{pick_shown, pick_passes, good_made}
 use Rattle.cpg_tree.proofs.tree.Tree.pick.Goals as goal

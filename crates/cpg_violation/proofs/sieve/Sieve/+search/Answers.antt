@@ -1,3 +1,4 @@
+-- Proof of `Sieve::search`: adds the places to which scenarios come that the cube matches.
 use Rattle.std.specs.Prelude.{nat_le}
 use Rattle.cpg_base.specs.Scenario.{number_of}
 use Rattle.cpg_violation.specs.Sieves.{places_in}
@@ -13,5 +14,6 @@ search-returns-in_ok-search_side-in-Cut-2-clause-all t c = rw (← c.self.view_i
     (c.in_ok-search_side-in-Cut.ensures.all s i m e (rw c.deref.ensures h)))
     (λ e h. c.in_ok-search_side-in-Cut-2.ensures.all s i m e (rw c.deref-in-Cut.ensures h)) k)
 
+-- the side adds what `search` adds there
 pub search_side-returns-clause-all : goal.search_side-returns-clause-all
 search_side-returns-clause-all t c = λ s i m e k. c.in_ok-search.ensures.all s i m k
