@@ -17,5 +17,5 @@ pub record IsHearing (h : Hearing) : Type 0 where
   -- each row keeps V1 to V3
   pub rules : AllHold h.admitted.now.graph h.tables.now.nodes row_rules
   pub telling_rows :
-  -- for each item its row, and by what means it tells: by an end or by frames
+      -- for each item its row, and by what means it tells: by an end or by frames
       AreTellingRows h.admitted.now.graph h.tables.now.nodes (item_count h.admitted.now.graph) h.telling_rows.items

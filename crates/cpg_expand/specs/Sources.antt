@@ -2,10 +2,10 @@
 use Rattle.std.specs.Prelude.{◌≡◌, List}
 use Rattle.cpg_cube.specs.declared.column.Column.{Column}
 use Rattle.cpg_tree_columns.specs.Columns.{columns_of_paths}
-use Rattle.cpg_expand.specs.declared.made_row.Source.{Source}
-use Rattle.cpg_expand.specs.declared.made_row.Source.TheVariants.{Listed, Kept}
+use Rattle.cpg_expand.specs.declared.made_row.RowSource.{RowSource}
+use Rattle.cpg_expand.specs.declared.made_row.RowSource.TheVariants.{Listed, Kept}
 
 -- the columns are those that are listed, or those of the tree
-abbrev pub ShowsSource : Source → List Column → Type 0
+abbrev pub ShowsSource : RowSource → List Column → Type 0
 ShowsSource (Listed listed) columns = listed.now ≡ columns
 ShowsSource (Kept tree) columns = columns_of_paths tree.now.paths ≡ columns

@@ -28,5 +28,5 @@ pub use activity::active_item;
 pub use bounding::leaf_limit_is_this;
 pub use built_rows::BuiltRows;
 pub use expanding::{Grown, expand, grow, grow_bounded, grow_narrow};
-pub use made_row::{MadeColumns, MadeRow, Source, listed_rows};
+pub use made_row::{MadeColumns, MadeRow, RowSource, listed_rows};
 pub use measuring::Peak;

@@ -42,7 +42,7 @@ impl Model for MadeRow {
 
 /// Where the columns of a row are read.
 #[derive(Clone, Copy)]
-pub enum Source<'a> {
+pub enum RowSource<'a> {
     Listed(&'a [Column]),
     Kept(&'a Tree<Option<u64>>),
 }
@@ -87,12 +87,12 @@ impl MadeRow {
     }
 
     /// Where the columns are read.
-    pub fn source(&self) -> Source<'_>
+    pub fn source(&self) -> RowSource<'_>
         ensures { ShowsSource result self.now.columns }
     {
         match &self.columns {
-            MadeColumns::Listed(columns) => Source::Listed(columns.as_slice()),
-            MadeColumns::Kept { tree, .. } => Source::Kept(tree),
+            MadeColumns::Listed(columns) => RowSource::Listed(columns.as_slice()),
+            MadeColumns::Kept { tree, .. } => RowSource::Kept(tree),
         }
     }
 

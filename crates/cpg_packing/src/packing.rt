@@ -38,19 +38,19 @@ fn items_of(alloc: Global, head: &Head, count: u32) -> Result<Vec<NodeItems>, Ou
 
 /// What is made before the first byte is written.
 #[derive(Drop)]
-struct Frame {
+struct Outline {
     head: Head,
     nodes: Vec<NodeItems>,
 }
 
 /// The head of a graph, and the items of its nodes.
-fn frame_of(alloc: Global, problem: &Problem) -> Result<Frame, OutOfMemory>
-    ensures head { IfOk result (λ frame. frame.head ≡ head_of problem.now) }
-    ensures nodes { IfOk result (λ frame. frame.nodes.items ≡ items_of_nodes problem.now) }
+fn outline_of(alloc: Global, problem: &Problem) -> Result<Outline, OutOfMemory>
+    ensures head { IfOk result (λ outline. outline.head ≡ head_of problem.now) }
+    ensures nodes { IfOk result (λ outline. outline.nodes.items ≡ items_of_nodes problem.now) }
 {
     let head = head_of(alloc, problem)?;
     let nodes = items_of(alloc, &head, problem.nodes().len() as u32)?;
-    Ok(Frame { head, nodes })
+    Ok(Outline { head, nodes })
 }
 
 /// Puts the rows of each node.
@@ -77,27 +77,27 @@ fn put_nodes<O: Sink>(
 }
 
 /// Puts the head and the rows of each node.
-fn put_frame<O: Sink>(
+fn put_all<O: Sink>(
     buffer: &mut Buffer,
     sink: &mut O,
     problem: &Problem,
     rows: &[MadeRow],
-    frame: &Frame,
+    outline: &Outline,
     path: &mut PathCube,
 ) -> Result<(), Failed>
     requires formed { WellFormed problem.now }
     requires packable { All IsPackableRow rows.now }
     requires long { length rows.now ≡ item_count problem.now }
     requires path { path.old ≡ [] }
-    requires head { frame.now.head ≡ head_of problem.now }
-    requires nodes { frame.now.nodes.items ≡ items_of_nodes problem.now }
+    requires head { outline.now.head ≡ head_of problem.now }
+    requires nodes { outline.now.nodes.items ≡ items_of_nodes problem.now }
     ensures put { Puts (O.state sink.old).taken (O.state sink.new).taken buffer.old buffer.new result (pack_bytes problem.now rows.now) }
     ensures cause { HasCause (O.state sink.old).faults (O.state sink.new).faults result }
 {
     // called for its contract: the graph is within its limits
     let _nodes = problem.nodes();
-    put_head(buffer, sink, &frame.head)?;
-    put_nodes(buffer, sink, problem, rows, frame.nodes.as_slice(), path)
+    put_head(buffer, sink, &outline.head)?;
+    put_nodes(buffer, sink, problem, rows, outline.nodes.as_slice(), path)
 }
 
 /// Writes through an empty buffer, from the root of each tree on.
@@ -106,21 +106,21 @@ fn write_through<O: Sink>(
     sink: &mut O,
     problem: &Problem,
     rows: &[MadeRow],
-    frame: &Frame,
+    outline: &Outline,
     path: &mut PathCube,
 ) -> Result<(), Failed>
     requires formed { WellFormed problem.now }
     requires packable { All IsPackableRow rows.now }
     requires long { length rows.now ≡ item_count problem.now }
     requires path { path.old ≡ [] }
-    requires head { frame.now.head ≡ head_of problem.now }
-    requires nodes { frame.now.nodes.items ≡ items_of_nodes problem.now }
+    requires head { outline.now.head ≡ head_of problem.now }
+    requires nodes { outline.now.nodes.items ≡ items_of_nodes problem.now }
     requires empty { buffer.old ≡ [] }
     ensures whole { OnOk result (Took (O.state sink.old).taken (O.state sink.new).taken (pack_bytes problem.now rows.now)) }
     ensures part { OnErr result (TookPrefix (O.state sink.old).taken (O.state sink.new).taken (pack_bytes problem.now rows.now)) }
     ensures cause { HasCause (O.state sink.old).faults (O.state sink.new).faults result }
 {
-    put_frame(buffer, sink, problem, rows, frame, path)?;
+    put_all(buffer, sink, problem, rows, outline, path)?;
     buffer.write(sink)
 }
 
@@ -146,9 +146,9 @@ pub fn write_made<O: Sink>(
 {
     // called for its contract: the graph is within its limits
     let _nodes = problem.nodes();
-    let frame = frame_of(alloc, problem)?;
+    let outline = outline_of(alloc, problem)?;
     let mut path = PathCube::whole(alloc)?;
     let mut buffer = Buffer::new(alloc)?;
-    write_through(&mut buffer, sink, problem, rows, &frame, &mut path)?;
+    write_through(&mut buffer, sink, problem, rows, &outline, &mut path)?;
     Ok(())
 }

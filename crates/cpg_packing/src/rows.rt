@@ -10,7 +10,7 @@ ghost use Rattle.cpg_table.specs.Valid.{later_by};
 use crate::walking::put_paths;
 use cpg_codec::{Buffer, put_column, put_short};
 use cpg_cube::Column;
-use cpg_expand::{MadeRow, Source};
+use cpg_expand::{MadeRow, RowSource};
 use cpg_io::{Failed, Sink};
 use cpg_tree_columns::PathCube;
 
@@ -48,8 +48,8 @@ fn put_columns<O: Sink>(
     ensures cause { HasCause (O.state sink.old).faults (O.state sink.new).faults result }
 {
     match row.source() {
-        Source::Listed(columns) => put_later(buffer, sink, columns, delay),
-        Source::Kept(tree) => put_paths(buffer, sink, tree.items(), tree.faults(), delay, path),
+        RowSource::Listed(columns) => put_later(buffer, sink, columns, delay),
+        RowSource::Kept(tree) => put_paths(buffer, sink, tree.items(), tree.faults(), delay, path),
     }
 }
 

@@ -7,8 +7,8 @@ use Rattle.cpg_base.specs.Numbers.{numbers_below}
 use Rattle.cpg_base.proofs.Lists.{below_push, same_flat_map}
 use Rattle.cpg_cube.specs.declared.column.Column.{Column}
 use Rattle.cpg_expand.specs.Sources.{ShowsSource}
-use Rattle.cpg_expand.specs.declared.made_row.Source.{Source}
-use Rattle.cpg_expand.specs.declared.made_row.Source.TheVariants.{Listed, Kept}
+use Rattle.cpg_expand.specs.declared.made_row.RowSource.{RowSource}
+use Rattle.cpg_expand.specs.declared.made_row.RowSource.TheVariants.{Listed, Kept}
 use Rattle.cpg_table.specs.Table.{NodeTable, Row, columns_of}
 use Rattle.cpg_table.specs.Writing.{row_for}
 use Rattle.cpg_label.specs.CubeText.{columns_text}
@@ -19,7 +19,7 @@ use Rattle.cpg_show.specs.TableText.{worst_line}
 use Rattle.cpg_show.specs.declared.sheet.SheetPart.{SheetPart}
 
 -- a source has the columns that it shows
-source_shows : (source : Source) (columns : List Column) → ShowsSource source columns →
+source_shows : (source : RowSource) (columns : List Column) → ShowsSource source columns →
     columns_of_source source ≡ columns
 source_shows (Listed listed) columns is = is
 source_shows (Kept tree) columns is = is

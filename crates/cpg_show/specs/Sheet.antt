@@ -2,8 +2,8 @@
 use Rattle.std.specs.Prelude.{ℕ, List, ◌++◌, string_bytes}
 use Rattle.std.specs.List.{flat_map}
 use Rattle.cpg_cube.specs.declared.column.Column.{Column}
-use Rattle.cpg_expand.specs.declared.made_row.Source.{Source}
-use Rattle.cpg_expand.specs.declared.made_row.Source.TheVariants.{Listed, Kept}
+use Rattle.cpg_expand.specs.declared.made_row.RowSource.{RowSource}
+use Rattle.cpg_expand.specs.declared.made_row.RowSource.TheVariants.{Listed, Kept}
 use Rattle.cpg_label.specs.Labels.{Labels}
 use Rattle.cpg_label.specs.CubeText.{columns_text}
 use Rattle.cpg_tree_columns.specs.Columns.{columns_of_paths}
@@ -11,7 +11,7 @@ use Rattle.cpg_show.specs.declared.sheet.SheetPart.{SheetPart}
 use Rattle.cpg_show.specs.declared.sheet.Sheet.{Sheet}
 
 -- the columns that a source has: those that are listed, or those of the tree
-abbrev pub columns_of_source : Source → List Column
+abbrev pub columns_of_source : RowSource → List Column
 columns_of_source (Listed columns) = columns.now
 columns_of_source (Kept tree) = columns_of_paths tree.now.paths
 

@@ -9,7 +9,7 @@ ghost use Rattle.cpg_show.specs.Sheet.{part_text, sheet_text};
 use crate::sheet::{Sheet, SheetPart, write_sheet};
 use cpg_base::OutOfMemory;
 use cpg_codec::WriteFault;
-use cpg_expand::Source;
+use cpg_expand::RowSource;
 use cpg_head::Head;
 use cpg_io::Sink;
 use cpg_label::{Labels, write_act, write_heard};
@@ -49,7 +49,7 @@ fn add_acts<'a>(
     for row in rows {
         parts.push(SheetPart {
             head: act_line(alloc, labels, row.item())?,
-            columns: Source::Listed(row.columns()),
+            columns: RowSource::Listed(row.columns()),
         })?;
     }
     Ok(())
@@ -68,7 +68,7 @@ fn add_hears<'a>(
     for row in rows {
         parts.push(SheetPart {
             head: hear_line(alloc, labels, row.item())?,
-            columns: Source::Listed(row.columns()),
+            columns: RowSource::Listed(row.columns()),
         })?;
     }
     Ok(())

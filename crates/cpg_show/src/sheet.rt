@@ -10,7 +10,7 @@ ghost use Rattle.cpg_show.specs.Sheet.{columns_of_source, part_text, sheet_text}
 use crate::putting::{put_columns, put_text};
 use crate::walking::put_paths;
 use cpg_codec::{Buffer, WriteFault};
-use cpg_expand::Source;
+use cpg_expand::RowSource;
 use cpg_io::{Failed, Sink};
 use cpg_label::{Labels, Line};
 use cpg_tree_columns::PathCube;
@@ -20,7 +20,7 @@ use std::alloc::Global;
 #[derive(Drop)]
 pub(crate) struct SheetPart<'a> {
     pub head: String,
-    pub columns: Source<'a>,
+    pub columns: RowSource<'a>,
 }
 
 /// A text of rows: all of it but the lines of the columns is at hand.
@@ -37,7 +37,7 @@ fn put_source<O: Sink>(
     sink: &mut O,
     labels: &Labels<'_>,
     line: &mut Line,
-    source: Source<'_>,
+    source: RowSource<'_>,
     path: &mut PathCube,
 ) -> Result<(), Failed>
     requires line { IsLine labels.now line.old }
@@ -48,8 +48,8 @@ fn put_source<O: Sink>(
     ensures cause { HasCause (O.state sink.old).faults (O.state sink.new).faults result }
 {
     match source {
-        Source::Listed(columns) => put_columns(buffer, sink, labels, line, columns),
-        Source::Kept(tree) => {
+        RowSource::Listed(columns) => put_columns(buffer, sink, labels, line, columns),
+        RowSource::Kept(tree) => {
             put_paths(
                 buffer,
                 sink,

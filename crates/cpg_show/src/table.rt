@@ -13,7 +13,7 @@ ghost use Rattle.cpg_table.specs.Writing.{row_for};
 use crate::sheet::{Sheet, SheetPart, write_sheet};
 use cpg_base::{Item, Order, OutOfMemory, Problem};
 use cpg_codec::WriteFault;
-use cpg_expand::{MadeRow, Source};
+use cpg_expand::{MadeRow, RowSource};
 use cpg_io::Sink;
 use cpg_label::{Labels, write_act};
 use cpg_rules::Admitted;
@@ -85,13 +85,13 @@ fn head_line_of(
 }
 
 /// Where the columns of an item are read; there are none if it has no row.
-fn source_of(rows: &[MadeRow], item: u32) -> Source<'_>
+fn source_of(rows: &[MadeRow], item: u32) -> RowSource<'_>
     ensures { ShowsSource result (row_for rows.now item).columns }
 {
     match rows.get(item as usize) {
         // rows stand by the number of their item
         Some(row) => row.source(),
-        None => Source::Listed(&[]),
+        None => RowSource::Listed(&[]),
     }
 }
 

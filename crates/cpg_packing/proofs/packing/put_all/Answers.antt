@@ -6,15 +6,15 @@ use Rattle.cpg_codec.proofs.Puts.{Puts-then, Puts-first}
 use Rattle.cpg_head.specs.GraphHead.{head_of}
 use Rattle.cpg_packing.specs.PackBytes.{AreItemsWithin, items_of_nodes, node_bytes}
 use Rattle.cpg_packing.proofs.Fitting.{nodes_within}
-use Rattle.cpg_packing.proofs.packing.put_frame.Goals as goal
+use Rattle.cpg_packing.proofs.packing.put_all.Goals as goal
 
--- the items of each node are items of the graph
+-- the items of each node are the graph's
 pub put_nodes-requires-clause-items : goal.put_nodes-requires-clause-items
 put_nodes-requires-clause-items g c =
     subst (All (AreItemsWithin c.args.problem.now)) (sym (c.as_slice.ensures.value ∙ c.requires.nodes))
     (nodes_within c.args.problem.now c.nodes-nodes.ensures.within)
 
--- the sink fails at the head: it took a front of the bytes
+-- the head failed, so a proper front of all was taken
 pub returns-in_err-put_head-clause-put : goal.returns-in_err-put_head-clause-put
 returns-in_err-put_head-clause-put g c =
     let h = c.args.problem.now in
@@ -22,7 +22,7 @@ returns-in_err-put_head-clause-put g c =
     Puts-first _ _ _ _ (head_bytes (head_of h)) (flat_map (node_bytes h c.args.rows.now) (items_of_nodes h))
     c.from_residual.result p.0 p.1 (rw c.requires.head at c.in_err-put_head.ensures.put)
 
--- the bytes of the head, and behind them those of the nodes
+-- the head was put, so what becomes of the rows of the nodes becomes of all
 pub returns-clause-put : goal.returns-clause-put
 returns-clause-put g c =
     let h = c.args.problem.now in
