@@ -18,7 +18,7 @@ use Rattle.cpg_tree_columns.specs.Columns.{column_of, columns_of_paths}
 use Rattle.cpg_tree.specs.Space.{HasAtMostFaults}
 use Rattle.cpg_tree.specs.Tree.{Path, TreeState, IsOnPath, IsMap, HasOnePathEach}
 use Rattle.cpg_expand.specs.Active.{IsActivityOf}
-use Rattle.cpg_expand.specs.Agreeing.{IsTree}
+use Rattle.cpg_tree.specs.GraphTrees.{IsTree}
 use Rattle.cpg_tree.proofs.OnePath.{scenario_few, the_path}
 use Rattle.cpg_audit.specs.Excluded.{idle_time, is_some_idle}
 use Rattle.cpg_log.specs.declared.log.Logged.{Logged}

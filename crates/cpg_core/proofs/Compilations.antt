@@ -19,7 +19,7 @@ use Rattle.cpg_core.specs.Compiled.{IsCompileOrder, IsMeasured, IsLateUnder, IsI
 use Rattle.cpg_core.specs.Compilation.{IsCompilation}
 use Rattle.cpg_core.proofs.Local.{know_locally}
 use Rattle.cpg_expand.specs.declared.expanding.Grown.{Grown}
-use Rattle.cpg_expand.specs.declared.measuring.Peak.{Peak}
+use Rattle.cpg_tree_columns.specs.declared.measuring.Peak.{Peak}
 use Rattle.cpg_expand.specs.GrownFor.{IsGrownFor}
 use Rattle.cpg_expand.specs.WideRows.{DoTablesFit}
 use Rattle.cpg_run.specs.declared.built.Built.{Built}

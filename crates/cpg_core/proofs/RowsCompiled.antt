@@ -11,7 +11,7 @@ use Rattle.cpg_built_laws.proofs.TablesExist.{is_written, written}
 use Rattle.cpg_expand.specs.BuiltRows.{AreBuiltRows, IsAssembledOf, built_of}
 use Rattle.cpg_expand.specs.declared.built_rows.BuiltRows.{BuiltRows}
 use Rattle.cpg_expand.specs.declared.expanding.Grown.{Grown}
-use Rattle.cpg_expand.specs.declared.measuring.Peak.{Peak}
+use Rattle.cpg_tree_columns.specs.declared.measuring.Peak.{Peak}
 use Rattle.cpg_expand.proofs.RowsBuilt.{built_fit, built_tables, built_writable}
 use Rattle.cpg_core.specs.declared.compiling.Compiled.{Compiled}
 use Rattle.cpg_core.specs.Compilation.{AreCompiledRows, IsCompilation}

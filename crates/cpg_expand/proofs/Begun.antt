@@ -39,7 +39,8 @@ use Rattle.cpg_expand.specs.Begun.{IsBegun, IsFrozenStart, any_start}
 use Rattle.cpg_expand.specs.Earlier.{IsCut}
 use Rattle.cpg_expand.specs.Sent.{sent_before, sent_so_far, IsFreeOnce}
 use Rattle.cpg_expand.specs.Agreeing.{HasValueFrom}
-use Rattle.cpg_expand.specs.Forest.{ForestState, HasTrees, no_tree, times_of, ends_of, later_tree, ready_at, ready_by}
+use Rattle.cpg_expand.specs.Forest.{ForestState, HasTrees, times_of, ends_of, later_tree, ready_at, ready_by}
+use Rattle.cpg_tree.specs.GraphTrees.{no_tree}
 use Rattle.cpg_expand.specs.Ending.{IsReadyAfter, goes_on}
 use Rattle.cpg_expand.specs.declared.forest.Ready.{Ready}
 use Rattle.cpg_expand.specs.declared.forest.Ready.TheVariants.{After, At}

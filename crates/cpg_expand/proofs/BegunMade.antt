@@ -12,11 +12,12 @@ use Rattle.cpg_order.specs.Guard.{Guard, IsGuardOf}
 use Rattle.cpg_rules.specs.Admission.{IsAdmitted}
 use Rattle.cpg_table.proofs.NodeRows.{all_below}
 use Rattle.cpg_tree.specs.Tree.{TreeState}
-use Rattle.cpg_expand.specs.Agreeing.{IsTree}
+use Rattle.cpg_tree.specs.GraphTrees.{IsTree}
 use Rattle.cpg_expand.specs.Begun.{IsBegunBy}
 use Rattle.cpg_expand.specs.Earlier.{AreAlong}
 use Rattle.cpg_expand.specs.Ending.{IsEndTree, IsReadyAfter, goes_on}
-use Rattle.cpg_expand.specs.Forest.{ForestState, HasTrees, IsWait, no_tree}
+use Rattle.cpg_expand.specs.Forest.{ForestState, HasTrees, IsWait}
+use Rattle.cpg_tree.specs.GraphTrees.{no_tree}
 use Rattle.cpg_expand.specs.declared.forest.Ready.{Ready}
 use Rattle.cpg_expand.specs.declared.forest.Ready.TheVariants.{After, At}
 use Rattle.cpg_expand.specs.Guarded.{IsActiveTree, LeadsBelow}

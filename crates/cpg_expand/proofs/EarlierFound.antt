@@ -9,7 +9,7 @@ use Rattle.cpg_rules.specs.Guards.{Guards, tree_of}
 use Rattle.cpg_tree.specs.Space.{HasAtMostFaults}
 use Rattle.cpg_tree.specs.Tree.{Path, TreeState, IsConstant, IsOnPath, IsPick}
 use Rattle.cpg_tree.proofs.OnePath.{the_path}
-use Rattle.cpg_expand.specs.Agreeing.{IsTree}
+use Rattle.cpg_tree.specs.GraphTrees.{IsTree}
 use Rattle.cpg_expand.specs.Earlier.{IsAskedOf, IsAskedTree, IsBetween, IsBothTree, IsCut, is_always}
 use Rattle.cpg_expand.specs.Guarded.{IsTestedOn, is_tested}
 use Rattle.cpg_expand.proofs.AgreeingTrees.{agrees_constant}

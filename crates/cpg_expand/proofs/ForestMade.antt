@@ -3,7 +3,7 @@ use Rattle.std.proofs.Common.{ℕ, ◌+◌, ◌≡◌, List, [], ◌∷◌, ◌+
 use Rattle.std.proofs.lemmas.List.Elements.{All-push}
 use Rattle.cpg_base.specs.Graph.{Graph}
 use Rattle.cpg_tree.specs.Tree.{TreeState, IsConstant}
-use Rattle.cpg_expand.specs.Agreeing.{IsTree}
+use Rattle.cpg_tree.specs.GraphTrees.{IsTree}
 use Rattle.cpg_expand.specs.Forest.{IsWait}
 use Rattle.cpg_expand.specs.Grown.{IsReadyFirst}
 use Rattle.cpg_expand.specs.declared.forest.Ready.{Ready}

@@ -4,8 +4,9 @@ use Rattle.std.proofs.lemmas.List.{get_or_read_under}
 use Rattle.std.proofs.lemmas.List.Elements.{All-get_or, All-set}
 use Rattle.cpg_base.specs.Graph.{Graph}
 use Rattle.cpg_tree.specs.Tree.{TreeState}
-use Rattle.cpg_expand.specs.Agreeing.{IsTree}
-use Rattle.cpg_expand.specs.Forest.{ForestState, HasTrees, no_tree}
+use Rattle.cpg_tree.specs.GraphTrees.{IsTree}
+use Rattle.cpg_expand.specs.Forest.{ForestState, HasTrees}
+use Rattle.cpg_tree.specs.GraphTrees.{no_tree}
 use Rattle.cpg_expand.specs.Waiting.{free_of}
 
 -- each node has a tree of when its slots are free

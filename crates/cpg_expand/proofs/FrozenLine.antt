@@ -17,11 +17,13 @@ use Rattle.cpg_run.specs.Run.{Times, IsRun, unfrozen_time, time_by}
 use Rattle.cpg_run.specs.Carried.{decided, heard, received, passed, carried_at_start}
 use Rattle.cpg_tree.specs.Space.{HasAtMostFaults}
 use Rattle.cpg_tree.specs.Tree.{TreeState, IsMap}
-use Rattle.cpg_expand.specs.Agreeing.{HasValueFrom, IsTree}
+use Rattle.cpg_expand.specs.Agreeing.{HasValueFrom}
+use Rattle.cpg_tree.specs.GraphTrees.{IsTree}
 use Rattle.cpg_expand.specs.Guarded.{IsActiveTree, value_known, values_known}
-use Rattle.cpg_expand.specs.Values.{time_if}
+use Rattle.cpg_tree_times.specs.Values.{time_if}
 use Rattle.cpg_expand.proofs.AgreeingTrees.{agrees_map, agrees_weaker}
-use Rattle.cpg_expand.proofs.GuardTrees.{each_of, few_of}
+use Rattle.cpg_expand.proofs.GuardTrees.{each_of}
+use Rattle.cpg_tree.proofs.GraphTrees.{few_of}
 
 -- given: a process whose guard leads to its activation, by conditions that decide it
 -- `s`, `few`: a scenario within the faults of the graph; `p`, `guard`, `leads`: the guard leads to p's activation

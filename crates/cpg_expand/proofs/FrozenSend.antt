@@ -16,10 +16,12 @@ use Rattle.cpg_run.specs.Carried.{decided, carried_at_end, carried_at_send, sent
 use Rattle.cpg_run.proofs.Runs.{time_is}
 use Rattle.cpg_tree.specs.Space.{HasAtMostFaults}
 use Rattle.cpg_tree.specs.Tree.{TreeState, IsMap}
-use Rattle.cpg_expand.specs.Agreeing.{HasValueFrom, IsTree}
-use Rattle.cpg_expand.specs.Values.{time_if}
+use Rattle.cpg_expand.specs.Agreeing.{HasValueFrom}
+use Rattle.cpg_tree.specs.GraphTrees.{IsTree}
+use Rattle.cpg_tree_times.specs.Values.{time_if}
 use Rattle.cpg_expand.proofs.AgreeingTrees.{agrees_map, agrees_weaker}
-use Rattle.cpg_expand.proofs.GuardTrees.{each_of, few_of}
+use Rattle.cpg_expand.proofs.GuardTrees.{each_of}
+use Rattle.cpg_tree.proofs.GraphTrees.{few_of}
 
 -- given: a tree of where an item goes, which says no more than what decides that
 -- `s`, `few`: a scenario within the faults of the graph; `x`: an item

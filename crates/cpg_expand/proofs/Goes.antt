@@ -17,11 +17,13 @@ use Rattle.cpg_cube.specs.declared.literal.Literal.{Literal}
 use Rattle.cpg_run.specs.Carried.{number_known, sent_by_value}
 use Rattle.cpg_tree.specs.Space.{HasAtMostFaults}
 use Rattle.cpg_tree.specs.Tree.{TreeState, IsMap}
-use Rattle.cpg_expand.specs.Agreeing.{HasValueFrom, IsTree}
+use Rattle.cpg_expand.specs.Agreeing.{HasValueFrom}
+use Rattle.cpg_tree.specs.GraphTrees.{IsTree}
 use Rattle.cpg_expand.specs.Guarded.{value_known}
 use Rattle.cpg_expand.specs.Sending.{IsTestedTree, IsLiveTree, IsGoesTree, asked, asked_by}
 use Rattle.cpg_expand.proofs.AgreeingTrees.{agrees_map, agrees_weaker}
-use Rattle.cpg_expand.proofs.GuardTrees.{each_of, few_of}
+use Rattle.cpg_expand.proofs.GuardTrees.{each_of}
+use Rattle.cpg_tree.proofs.GraphTrees.{few_of}
 
 -- the value that is wanted, if it is true, is the condition's own
 same_true : (b : Bool) → same_bool true b ≡ b

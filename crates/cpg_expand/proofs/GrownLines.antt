@@ -21,7 +21,8 @@ use Rattle.cpg_run.proofs.RunExists.{a_run}
 use Rattle.cpg_run.proofs.RunUnique.{AgreeBefore, agree_before}
 use Rattle.cpg_tree.specs.Tree.{IsConstant}
 use Rattle.cpg_expand.specs.Agreeing.{HasValueFrom}
-use Rattle.cpg_expand.specs.Forest.{ForestState, HasTrees, no_tree, times_of, ends_of, ready_at, ready_by}
+use Rattle.cpg_expand.specs.Forest.{ForestState, HasTrees, times_of, ends_of, ready_at, ready_by}
+use Rattle.cpg_tree.specs.GraphTrees.{no_tree}
 use Rattle.cpg_expand.specs.declared.forest.Ready.{Ready}
 use Rattle.cpg_expand.specs.declared.forest.Ready.TheVariants.{After, At}
 use Rattle.cpg_expand.specs.Grown.{RowsHold, IsReadyLine, IsFreeLine, Lines, IsEarlier, AreSettledOf, IsGrown}

@@ -28,11 +28,12 @@ use Rattle.cpg_run.proofs.EarlyTimes.{early_from_low}
 use Rattle.cpg_tree.specs.Tree.{TreeState}
 use Rattle.cpg_expand.specs.Forest.{ForestState, times_of}
 use Rattle.cpg_expand.specs.Grown.{RowsHold, IsEarlier, IsGrown}
-use Rattle.cpg_expand.specs.MadeRows.{AreEntriesOf, AreMergedOf, IsRowOf, AreRowsOf}
-use Rattle.cpg_expand.specs.Peaks.{GiveEnds}
+use Rattle.cpg_tree_columns.specs.MadeRows.{AreEntriesOf, AreMergedOf, IsRowOf, AreRowsOf}
+use Rattle.cpg_expand.specs.RunEnds.{GiveEnds}
 use Rattle.cpg_expand.specs.TreeRows.{IsTreeOf}
 use Rattle.cpg_expand.proofs.Begun.{own_rows, own_rows_hold}
-use Rattle.cpg_expand.proofs.TreeColumns.{column_there, tree_row_carries, merged_row_carries}
+use Rattle.cpg_tree_columns.proofs.TreeColumns.{column_there}
+use Rattle.cpg_expand.proofs.RowsCarry.{tree_row_carries, merged_row_carries}
 use Rattle.cpg_expand.proofs.GuardTrees.{times_tree}
 
 -- what is said of a problem, an order and a slice of trees is said of the graph, the list and the trees that they are

@@ -24,17 +24,21 @@ use Rattle.cpg_tree.specs.Read.{later_path, later_by}
 use Rattle.cpg_tree.specs.Tree.{Path, TreeState, is_on, IsOnPath, HasOnePathEach, DoPathsPass, IsConstant, IsMap, IsJoin, IsPick, IsNumber}
 use Rattle.cpg_tree.specs.Variables.{is_variable}
 use Rattle.cpg_tree.proofs.Spaces.{number_le_top}
-use Rattle.cpg_expand.specs.Agreeing.{Agrees, HasValueFrom, IsTree}
+use Rattle.cpg_expand.specs.Agreeing.{Agrees, HasValueFrom}
+use Rattle.cpg_tree.specs.GraphTrees.{IsTree}
+use Rattle.cpg_tree.proofs.GraphTrees.{few_of, same_tree}
 use Rattle.cpg_run.specs.Carried.{number_known}
 use Rattle.cpg_run.specs.Carrying.{ContainsKept}
-use Rattle.cpg_expand.specs.Values.{time_later, ended, slot_from}
+use Rattle.cpg_tree_times.specs.Values.{ended, slot_from}
+use Rattle.cpg_tree.specs.Later.{time_later}
 use Rattle.cpg_bus.specs.Share.{ShareState}
 use Rattle.cpg_base.specs.Numbers.{same_bool}
 use Rattle.cpg_expand.specs.Sending.{IsTestedTree, IsSentTree, IsFreeTree}
 use Rattle.cpg_expand.specs.Ending.{durations_of, IsEndTree, IsReadyTree}
 use Rattle.cpg_expand.specs.Waiting.{ready_of, IsWaitTree}
 use Rattle.cpg_expand.specs.Later.{IsLaterTree, IsNoMore, IsLatest, IsReleased}
-use Rattle.cpg_expand.specs.Forest.{ForestState, HasTrees, IsWait, no_tree, times_of, ends_of, later_tree, ready_at, heard_tree, heard_delay}
+use Rattle.cpg_expand.specs.Forest.{ForestState, HasTrees, IsWait, times_of, ends_of, later_tree, ready_at, heard_tree, heard_delay}
+use Rattle.cpg_tree.specs.GraphTrees.{no_tree}
 use Rattle.cpg_expand.specs.Forest.{input_tree, input_delay}
 use Rattle.cpg_expand.specs.declared.forest.Ready.{Ready}
 use Rattle.cpg_expand.specs.declared.forest.Ready.TheVariants.{At}
@@ -52,13 +56,6 @@ constant_tree g x k t e each is known =
     let same = ap (λ (u : TreeState _). u.faults) is ∙ e in
     record { faults = same; each = subst (λ n. HasOnePathEach n t.paths) same each; known = known }
 
--- a tree with the faults of another is one of the graph, if its variables are the graph's
-pub same_tree : {T U : Type 0} (g : Graph) (a : TreeState T) (t : TreeState U) → a.faults ≡ g.faults → t.faults ≡ a.faults →
-    HasOnePathEach t.faults t.paths →
-    DoPathsPass (is_variable g) t.paths →
-    IsTree g t
-same_tree g a t is same each known = record { faults = same ∙ is; each = subst (λ n. HasOnePathEach n t.paths) (same ∙ is) each; known = known }
-
 -- a tree of the graph has one path for each scenario of at most the graph's faults
 pub each_of : {T : Type 0} (g : Graph) (m : ℕ) (t : TreeState T) → m ≡ g.faults → IsTree g t → HasOnePathEach m t.paths
 each_of g m t e is = subst (λ n. HasOnePathEach n t.paths) (sym e) is.each
@@ -74,10 +71,6 @@ pub value_passes : (g : Graph) (c : ℕ) → c < condition_count g → is_variab
 value_passes g c l = or_right (nat_lt (128 + c) (process_count g)) (nat_le 128 (128 + c) && nat_lt (128 + c) (value_variable (condition_count g)))
     (and_from (nat_le 128 (128 + c)) (nat_lt (128 + c) (value_variable (condition_count g))) (le-leb 128 (128 + c) (omega arith))
     (lt-ltb (128 + c) (value_variable (condition_count g)) (omega (arith, l))))
-
--- a scenario of at most k faults has at most m faults, if m equals k
-pub few_of : (k m : ℕ) (s : Scenario) → m ≡ k → HasAtMostFaults k s → HasAtMostFaults m s
-few_of k m s e few = subst (λ n. HasAtMostFaults n s) (sym e) few
 
 -- ---- times that are later by a delay
 

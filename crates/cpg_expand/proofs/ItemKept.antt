@@ -2,7 +2,8 @@
 use Rattle.std.proofs.Common.{ℕ, ◌≡◌, ◌≢◌, Bool, List, Option, set, refl, ap, ◌∙◌, get_or-set_other}
 use Rattle.cpg_base.specs.Graph.{Graph, home}
 use Rattle.cpg_tree.specs.Tree.{TreeState}
-use Rattle.cpg_expand.specs.Forest.{ForestState, times_of, ends_of, no_tree, ready_at, ready_by}
+use Rattle.cpg_expand.specs.Forest.{ForestState, times_of, ends_of, ready_at, ready_by}
+use Rattle.cpg_tree.specs.GraphTrees.{no_tree}
 use Rattle.cpg_expand.specs.declared.forest.Ready.{Ready}
 use Rattle.cpg_expand.specs.declared.forest.Ready.TheVariants.{After, At}
 use Rattle.cpg_expand.specs.Sent.{IsItemAdded}

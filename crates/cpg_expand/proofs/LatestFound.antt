@@ -17,13 +17,13 @@ use Rattle.cpg_tree_columns.specs.Meeting.{HasWhere, IsMostWhere, IsNowhere}
 use Rattle.cpg_tree.specs.Space.{HasAtMostFaults}
 use Rattle.cpg_tree.specs.Tree.{TreeState}
 use Rattle.cpg_tree.proofs.OnePath.{scenario_few, the_path}
-use Rattle.cpg_expand.specs.Agreeing.{IsTree}
+use Rattle.cpg_tree.specs.GraphTrees.{IsTree}
 use Rattle.cpg_expand.specs.Forest.{ForestState, times_of, ends_of, heard_tree, heard_delay, input_tree, input_delay}
 use Rattle.cpg_expand.specs.Earlier.{IsBetween, IsAskedTree, IsBothTree}
 use Rattle.cpg_expand.specs.Latest.{HasEnded, HasEndedOf, HasHeard, HasHeardOf, HasInput, HasInputOf, HasLater}
 use Rattle.cpg_expand.specs.Latest.{HasQueued, HasQueuedOf, IsRaised, or_later}
-use Rattle.cpg_expand.specs.Tops.{IsTop}
-use Rattle.cpg_expand.specs.Values.{time_later}
+use Rattle.cpg_tree_columns.specs.Tops.{IsTop}
+use Rattle.cpg_tree.specs.Later.{time_later}
 use Rattle.cpg_expand.specs.Waited.{stands_before}
 
 -- ---- the greatest time of a tree where another one is true

@@ -21,10 +21,11 @@ use Rattle.cpg_tree_columns.specs.Meeting.{HasWhere}
 use Rattle.cpg_tree.specs.Space.{HasAtMostFaults}
 use Rattle.cpg_tree.specs.Tree.{Path, TreeState, IsOnPath}
 use Rattle.cpg_tree.proofs.OnePath.{scenario_few, the_path}
-use Rattle.cpg_expand.specs.Agreeing.{IsTree}
+use Rattle.cpg_tree.specs.GraphTrees.{IsTree}
 use Rattle.cpg_expand.specs.Forest.{ForestState, times_of}
 use Rattle.cpg_expand.specs.Latest.{HasQueuedOf, IsLatestSend, IsSlotAt}
-use Rattle.cpg_expand.specs.Values.{slot_at, time_later}
+use Rattle.cpg_tree_times.specs.Values.{slot_at}
+use Rattle.cpg_tree.specs.Later.{time_later}
 use Rattle.cpg_expand.specs.Waited.{stands_before}
 use Rattle.cpg_expand.proofs.FrozenFound.{some_same}
 

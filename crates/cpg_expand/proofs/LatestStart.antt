@@ -19,11 +19,11 @@ use Rattle.cpg_tree_columns.specs.Greatest.{HasValueAt}
 use Rattle.cpg_tree_columns.specs.Meeting.{HasWhere}
 use Rattle.cpg_tree.specs.Tree.{Path, TreeState, IsOnPath}
 use Rattle.cpg_tree.proofs.OnePath.{scenario_few, the_path}
-use Rattle.cpg_expand.specs.Agreeing.{IsTree}
+use Rattle.cpg_tree.specs.GraphTrees.{IsTree}
 use Rattle.cpg_expand.specs.Earlier.{IsBetween, IsAskedOf}
 use Rattle.cpg_expand.specs.Forest.{ForestState, ends_of, heard_tree, heard_delay, input_tree, input_delay}
 use Rattle.cpg_expand.specs.Latest.{HasEndedOf, HasHeardOf, HasInputOf, IsLatestAt, IsLatestOf, IsLatestStart}
-use Rattle.cpg_expand.specs.Values.{time_later}
+use Rattle.cpg_tree.specs.Later.{time_later}
 use Rattle.cpg_expand.proofs.AgreeingTrees.{agrees_constant}
 use Rattle.cpg_expand.proofs.FrozenFound.{some_same}
 use Rattle.cpg_expand.proofs.UnfrozenStart.{release_in, inputs_in}

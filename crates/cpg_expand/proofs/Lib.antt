@@ -1,5 +1,5 @@
 pub mod AgreeingTrees
-pub mod TreeColumns
+pub mod RowsCarry
 pub mod GuardTrees
 pub mod StartsWhere
 pub mod PartsKnown
@@ -22,8 +22,6 @@ pub mod StartByTrees
 pub mod UnfrozenStart
 pub mod Begun
 pub mod GrownNext
-pub mod PeaksGrow
-pub mod PeaksTop
 pub mod PeaksMeasured
 pub mod SendValue
 pub mod FrozenSend
@@ -40,7 +38,6 @@ pub mod RowsMade
 pub mod GrownRows
 pub mod Stepped
 pub mod ActiveItems
-pub mod SlotTrees
 pub mod ReadyMade
 pub mod TestedTrees
 pub mod EarlierFound

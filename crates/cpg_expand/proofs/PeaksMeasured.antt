@@ -17,13 +17,14 @@ use Rattle.cpg_run.proofs.Ends.{end_below, finish_is_end, finish_of_none}
 use Rattle.cpg_run.proofs.RunExists.{a_run}
 use Rattle.cpg_run.proofs.ZeroScenario.{zero_lawful, zero_first}
 use Rattle.cpg_tree.specs.Tree.{TreeState}
-use Rattle.cpg_expand.specs.Agreeing.{IsTree}
-use Rattle.cpg_expand.specs.Forest.{no_tree}
-use Rattle.cpg_expand.specs.Values.{time_past}
-use Rattle.cpg_expand.specs.Peaks.{tree_at, EndsAt, EndsPast, GiveEnds, IsPeakBy, IsPeak}
-use Rattle.cpg_expand.specs.declared.measuring.Peak.{Peak}
+use Rattle.cpg_tree.specs.GraphTrees.{IsTree}
+use Rattle.cpg_tree.specs.GraphTrees.{no_tree}
+use Rattle.cpg_tree_columns.specs.Past.{time_past}
+use Rattle.cpg_tree_columns.specs.Peaks.{tree_at, EndsAt, EndsPast, IsPeakBy, IsPeak}
+use Rattle.cpg_expand.specs.RunEnds.{GiveEnds}
+use Rattle.cpg_tree_columns.specs.declared.measuring.Peak.{Peak}
 use Rattle.cpg_tree.proofs.OnePath.{scenario_few, the_path}
-use Rattle.cpg_expand.proofs.PeaksGrow.{past_end}
+use Rattle.cpg_tree_columns.proofs.PeaksGrow.{past_end}
 
 -- ---- how far a time is past its due
 

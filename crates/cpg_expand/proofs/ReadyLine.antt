@@ -21,7 +21,7 @@ use Rattle.cpg_tree.specs.Tree.{TreeState}
 use Rattle.cpg_expand.specs.Agreeing.{HasValueFrom}
 use Rattle.cpg_expand.specs.Ending.{IsReadyTree}
 use Rattle.cpg_expand.specs.Guarded.{IsActiveTree, value_known, values_known}
-use Rattle.cpg_expand.specs.Values.{time_later}
+use Rattle.cpg_tree.specs.Later.{time_later}
 use Rattle.cpg_expand.proofs.AgreeingTrees.{agrees_weaker}
 use Rattle.cpg_expand.proofs.CarriedOn.{end_parts, ready_carried}
 use Rattle.cpg_expand.proofs.StartTimes.{later_exact}

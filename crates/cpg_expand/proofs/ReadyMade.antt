@@ -10,7 +10,8 @@ use Rattle.cpg_cube.specs.declared.literal.Literal.{Literal}
 use Rattle.cpg_order.specs.Guard.{Guard}
 use Rattle.cpg_tree.specs.Tree.{TreeState, IsConstant}
 use Rattle.cpg_expand.specs.Agreeing.{Agrees}
-use Rattle.cpg_expand.specs.Forest.{ForestState, later_tree, no_tree}
+use Rattle.cpg_expand.specs.Forest.{ForestState, later_tree}
+use Rattle.cpg_tree.specs.GraphTrees.{no_tree}
 use Rattle.cpg_expand.specs.Waited.{IsQueuedFor, IsReadyOnce}
 use Rattle.cpg_expand.proofs.GuardTrees.{ready_always}
 

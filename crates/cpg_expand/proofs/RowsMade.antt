@@ -7,8 +7,8 @@ use Rattle.std.proofs.Math.Seq.{get_or-append_seam}
 use Rattle.cpg_base.specs.Graph.{Graph}
 use Rattle.cpg_table.specs.Table.{Row}
 use Rattle.cpg_tree.specs.Tree.{TreeState}
-use Rattle.cpg_expand.specs.Forest.{no_tree}
-use Rattle.cpg_expand.specs.MadeRows.{IsRowOf, AreFirstRows}
+use Rattle.cpg_tree.specs.GraphTrees.{no_tree}
+use Rattle.cpg_tree_columns.specs.MadeRows.{IsRowOf, AreFirstRows}
 
 -- the row of the next item makes the rows of one item more
 pub rows_more : (g : Graph) (urgency : List ℕ) (times : List (TreeState (Option ℕ))) (n : ℕ) (rows more : List Row)

@@ -17,7 +17,8 @@ use Rattle.cpg_tree.specs.Space.{HasAtMostFaults}
 use Rattle.cpg_tree.specs.Tree.{TreeState}
 use Rattle.cpg_expand.specs.Agreeing.{HasValueFrom}
 use Rattle.cpg_expand.specs.Sending.{IsSentTree, IsFreeTree}
-use Rattle.cpg_expand.specs.Values.{slot_from, time_later}
+use Rattle.cpg_tree_times.specs.Values.{slot_from}
+use Rattle.cpg_tree.specs.Later.{time_later}
 use Rattle.cpg_expand.proofs.AgreeingTrees.{agrees_weaker}
 
 module _ (g : Graph) (order : List ℕ) (rows : List (List Column)) (s : Scenario)

@@ -16,7 +16,7 @@ use Rattle.cpg_run.specs.Most.{IsMost}
 use Rattle.cpg_run.specs.Progress.{IsSentBy, free_after}
 use Rattle.cpg_run.proofs.Runs.{time_is, has_time, has_end}
 use Rattle.cpg_run.proofs.Sends.{send_is, here_sent}
-use Rattle.cpg_expand.specs.Values.{slot_from}
+use Rattle.cpg_tree_times.specs.Values.{slot_from}
 
 -- if an end is there, the first free slot is the next one after it, or the free one if that is later
 slot_after : (share : ShareState) (free end : ℕ) (o : Option ℕ) → o ≡ Some end → end < 2 ^ 59 →

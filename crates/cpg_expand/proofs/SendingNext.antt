@@ -44,7 +44,8 @@ use Rattle.cpg_run.proofs.SameSends.{producer_active}
 use Rattle.cpg_run.proofs.Sends.{here_sent, in_next}
 use Rattle.cpg_run.proofs.Small.{run_small}
 use Rattle.cpg_tree.specs.Tree.{TreeState, IsConstant}
-use Rattle.cpg_expand.specs.Agreeing.{IsTree, HasValueFrom}
+use Rattle.cpg_tree.specs.GraphTrees.{IsTree}
+use Rattle.cpg_expand.specs.Agreeing.{HasValueFrom}
 use Rattle.cpg_expand.specs.Forest.{ForestState, HasTrees, times_of, ends_of}
 use Rattle.cpg_expand.specs.Grown.{RowsHold, IsReadyLine, IsFreeLine, SendLines, LeavesUnsent, IsDone, AreSettledOf}
 use Rattle.cpg_expand.specs.Grown.{IsSending}

@@ -32,10 +32,12 @@ use Rattle.cpg_run.proofs.Sends.{here_sent, free_next, free_same}
 use Rattle.cpg_tree.specs.Space.{HasAtMostFaults}
 use Rattle.cpg_tree.specs.Tree.{TreeState}
 use Rattle.cpg_expand.specs.Agreeing.{HasValueFrom}
-use Rattle.cpg_expand.specs.Forest.{ForestState, HasTrees, times_of, ends_of, no_tree}
+use Rattle.cpg_expand.specs.Forest.{ForestState, HasTrees, times_of, ends_of}
+use Rattle.cpg_tree.specs.GraphTrees.{no_tree}
 use Rattle.cpg_expand.specs.Sent.{IsFreeOnce, IsItemAdded, IsSentFor, sent_so_far}
 use Rattle.cpg_expand.specs.Sending.{IsSentTree, IsFreeTree}
-use Rattle.cpg_expand.specs.Values.{slot_from, time_later}
+use Rattle.cpg_tree_times.specs.Values.{slot_from}
+use Rattle.cpg_tree.specs.Later.{time_later}
 use Rattle.cpg_expand.specs.Waited.{IsQueuedFor}
 use Rattle.cpg_expand.specs.Waiting.{free_of}
 use Rattle.cpg_expand.proofs.FrozenFound.{set_here}

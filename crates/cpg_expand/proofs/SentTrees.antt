@@ -7,7 +7,7 @@ use Rattle.cpg_base.specs.Graph.{Graph, home, producer}
 use Rattle.cpg_base.specs.Order.{place}
 use Rattle.cpg_bus.specs.Share.{ShareState}
 use Rattle.cpg_tree.specs.Tree.{TreeState}
-use Rattle.cpg_expand.specs.Agreeing.{IsTree}
+use Rattle.cpg_tree.specs.GraphTrees.{IsTree}
 use Rattle.cpg_expand.specs.Forest.{ForestState}
 use Rattle.cpg_expand.specs.Latest.{IsLatestSend}
 use Rattle.cpg_expand.specs.Sending.{IsGoesTree, IsSentTree, IsFreeTree}

@@ -46,7 +46,7 @@ use Rattle.cpg_expand.specs.Forest.{input_delay}
 use Rattle.cpg_expand.specs.Grown.{Lines}
 use Rattle.cpg_expand.specs.Guarded.{IsActiveTree}
 use Rattle.cpg_expand.specs.TreeValues.{HasTreeValues}
-use Rattle.cpg_expand.specs.Values.{time_later}
+use Rattle.cpg_tree.specs.Later.{time_later}
 use Rattle.cpg_expand.proofs.LatestStart.{HasEndAt, IsHeardAt, IsStartByTrees}
 use Rattle.cpg_expand.proofs.CarriedOn.{heard_support}
 use Rattle.cpg_expand.proofs.StartLine.{frame_sent, heard_valued, message_at, on_way}

@@ -41,7 +41,7 @@ use Rattle.cpg_expand.specs.Forest.{ForestState, heard_tree, input_tree, heard_d
 use Rattle.cpg_expand.specs.Guarded.{AreThere, IsStartTree, awaited, start_says, start_at, value_known, values_known}
 use Rattle.cpg_expand.specs.Guarded.{support_of, latest_of}
 use Rattle.cpg_expand.specs.TreeValues.{HasTreeValues}
-use Rattle.cpg_expand.specs.Values.{time_later}
+use Rattle.cpg_tree.specs.Later.{time_later}
 use Rattle.cpg_expand.specs.Waiting.{IsWaitTree, ready_of}
 use Rattle.cpg_expand.proofs.AgreeingTrees.{agrees_weaker}
 use Rattle.cpg_expand.proofs.CarriedOn.{heard_support, input_support, tests_carried, input_carried, start_carried}

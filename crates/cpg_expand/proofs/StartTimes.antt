@@ -19,7 +19,7 @@ use Rattle.cpg_order.specs.Urgency.{IsTopological}
 use Rattle.cpg_order.proofs.Acyclic.{activation_is}
 use Rattle.cpg_run.specs.Run.{Times, end_in, frame_there, input_there, heard_there, input_bounds}
 use Rattle.cpg_run.specs.Known.{AreSmall}
-use Rattle.cpg_expand.specs.Values.{time_later}
+use Rattle.cpg_tree.specs.Later.{time_later}
 use Rattle.cpg_expand.specs.Forest.{input_delay, heard_delay}
 use Rattle.cpg_expand.specs.Guarded.{awaited, latest_of, start_at}
 

@@ -25,7 +25,7 @@ use Rattle.cpg_run.specs.Carried.{carried_at_start, carried_at_end}
 use Rattle.cpg_tree.specs.Space.{HasAtMostFaults}
 use Rattle.cpg_tree.specs.Tree.{TreeState}
 use Rattle.cpg_expand.specs.Agreeing.{HasValueFrom}
-use Rattle.cpg_expand.specs.Values.{ended}
+use Rattle.cpg_tree_times.specs.Values.{ended}
 use Rattle.cpg_expand.specs.Ending.{durations_of, IsEndTree}
 use Rattle.cpg_run.specs.Known.{AreSmall}
 use Rattle.cpg_run.specs.Most.{IsMost}

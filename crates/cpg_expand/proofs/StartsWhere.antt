@@ -14,15 +14,17 @@ use Rattle.cpg_cube.specs.declared.literal.Literal.{Literal}
 use Rattle.cpg_tree.specs.Space.{HasAtMostFaults}
 use Rattle.cpg_tree.specs.Read.{later_by}
 use Rattle.cpg_tree.specs.Tree.{TreeState, IsConstant, IsJoinWhere, IsPick}
-use Rattle.cpg_expand.specs.Agreeing.{Agrees, HasValueFrom, IsTree}
+use Rattle.cpg_expand.specs.Agreeing.{Agrees, HasValueFrom}
+use Rattle.cpg_tree.specs.GraphTrees.{IsTree}
 use Rattle.cpg_expand.specs.Descent.{AreLeaves}
 use Rattle.cpg_expand.specs.Forest.{ForestState, ends_of, input_delay, input_tree, later_tree, times_of}
 use Rattle.cpg_expand.specs.Guarded.{AreThere, IsActiveTree, IsStartAfter, IsStartTree, IsStartWhere, WaitsForAll}
 use Rattle.cpg_expand.specs.Guarded.{awaited, start_at, start_says, values_known}
 use Rattle.cpg_expand.specs.Later.{IsLaterTree, IsLatest, IsReleasedWhere}
-use Rattle.cpg_expand.specs.Values.{time_later}
+use Rattle.cpg_tree.specs.Later.{time_later}
 use Rattle.cpg_expand.proofs.AgreeingTrees.{agrees_constant, agrees_elsewhere, agrees_pick, agrees_weaker, agrees_where}
-use Rattle.cpg_expand.proofs.GuardTrees.{as_read, each_of, few_of, from_ends, last_input, one_input, own_input}
+use Rattle.cpg_expand.proofs.GuardTrees.{as_read, each_of, from_ends, last_input, one_input, own_input}
+use Rattle.cpg_tree.proofs.GraphTrees.{few_of}
 use Rattle.cpg_expand.proofs.GuardTrees.{support_as_first}
 
 -- ---- the later of two where a chooser is true

@@ -26,9 +26,9 @@ use Rattle.cpg_table.specs.Lawful.{Tables}
 use Rattle.cpg_table.specs.Table.{NodeTable, Row, columns_of}
 use Rattle.cpg_table.specs.Writing.{AreTablesWith, row_for}
 use Rattle.cpg_tree.specs.Tree.{TreeState}
-use Rattle.cpg_expand.specs.Forest.{no_tree}
+use Rattle.cpg_tree.specs.GraphTrees.{no_tree}
 use Rattle.cpg_expand.specs.GrownFor.{IsWidth}
-use Rattle.cpg_expand.specs.MadeRows.{AreFirstRows, AreRowsOf, IsRowOf}
+use Rattle.cpg_tree_columns.specs.MadeRows.{AreFirstRows, AreRowsOf, IsRowOf}
 use Rattle.cpg_expand.specs.Large.{ShowsLarge}
 use Rattle.cpg_expand.specs.WideRows.{AreFewIf, DoTablesFit, HaveWideRows, IsLoadIf, row_load, rows_load}
 use Rattle.cpg_expand.proofs.RowsMade.{rows_more}

@@ -19,11 +19,3 @@ pub record Agrees {T : Type 0} (s : Scenario) (literals : List Literal) (fact : 
 -- the tree's value in a scenario is this one, and its path says no more than literals
 abbrev pub HasValueFrom : {T : Type 0} → Scenario → List Literal → T → TreeState T → Type 0
 HasValueFrom s literals x t = Agrees s literals (λ y. y ≡ x) t
-
--- a tree of a graph: for its number of faults, with one path for each scenario, and with tests of its variables alone
-pub record IsTree {T : Type 0} (g : Graph) (t : TreeState T) : Type 0 where
-  pub faults : t.faults ≡ g.faults
-  -- each scenario takes one of the paths
-  pub each : HasOnePathEach g.faults t.paths
-  -- each test is of a variable of the graph
-  pub known : DoPathsPass (is_variable g) t.paths

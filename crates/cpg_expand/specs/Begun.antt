@@ -5,7 +5,7 @@ use Rattle.cpg_base.specs.Order.{place}
 use Rattle.cpg_order.specs.Guard.{Guard}
 use Rattle.cpg_rules.specs.Guards.{Guards, tree_of}
 use Rattle.cpg_tree.specs.Tree.{TreeState}
-use Rattle.cpg_expand.specs.Agreeing.{IsTree}
+use Rattle.cpg_tree.specs.GraphTrees.{IsTree}
 use Rattle.cpg_expand.specs.Earlier.{IsCut}
 use Rattle.cpg_expand.specs.Ending.{IsEndTree, IsReadyAfter, goes_on}
 use Rattle.cpg_expand.specs.Forest.{ForestState}

@@ -8,9 +8,11 @@ use Rattle.cpg_cube.specs.declared.literal.Literal.{Literal}
 use Rattle.cpg_run.specs.Carried.{number_known}
 use Rattle.cpg_tree.specs.Space.{HasAtMostFaults}
 use Rattle.cpg_tree.specs.Tree.{TreeState}
-use Rattle.cpg_expand.specs.Agreeing.{IsTree, HasValueFrom}
+use Rattle.cpg_tree.specs.GraphTrees.{IsTree}
+use Rattle.cpg_expand.specs.Agreeing.{HasValueFrom}
 use Rattle.cpg_expand.specs.Forest.{later_tree}
-use Rattle.cpg_expand.specs.Values.{ended, time_later}
+use Rattle.cpg_tree_times.specs.Values.{ended}
+use Rattle.cpg_tree.specs.Later.{time_later}
 use Rattle.cpg_expand.specs.declared.forest.Ready.{Ready}
 use Rattle.cpg_expand.specs.declared.forest.Ready.TheVariants.{After, At}
 

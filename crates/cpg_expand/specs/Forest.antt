@@ -5,7 +5,7 @@ use Rattle.cpg_base.specs.Graph.{Graph, process_count, item_count, node_of, sour
 use Rattle.cpg_base.specs.Graph.{message_item, broadcast_item, home}
 use Rattle.cpg_tree.specs.Read.{later_by}
 use Rattle.cpg_tree.specs.Tree.{TreeState}
-use Rattle.cpg_expand.specs.Agreeing.{IsTree}
+use Rattle.cpg_tree.specs.GraphTrees.{IsTree, no_tree}
 use Rattle.cpg_expand.specs.declared.forest.Ready.{Ready}
 use Rattle.cpg_expand.specs.declared.forest.Ready.TheVariants.{After, At}
 
@@ -20,10 +20,6 @@ pub record ForestState : Type 0 where
   pub free : List (TreeState ℕ)
   -- the item to name if a tree on the way has too many leaves
   pub wide : Option ℕ
-
--- a tree without paths
-abbrev pub no_tree : {T : Type 0} → ℕ → TreeState T
-no_tree k = record { faults = k; paths = [] }
 
 -- what says when a node is ready is of the graph: one of its processes, or a tree
 abbrev pub IsWait : Graph → Ready → Type 0

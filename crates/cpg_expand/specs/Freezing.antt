@@ -1,7 +1,7 @@
 -- What becomes of the times of an item that is frozen.
 use Rattle.std.specs.Prelude.{ℕ, ◌≡◌, Bool, List, Option, Some, None, slice_set, unwrap_or}
 use Rattle.cpg_tree.specs.Tree.{TreeState, IsMap}
-use Rattle.cpg_expand.specs.Values.{time_if}
+use Rattle.cpg_tree_times.specs.Values.{time_if}
 
 -- the frozen times with the latest time of one item set, if it has one
 abbrev pub set_if : List (Option ℕ) → ℕ → Option ℕ → List (Option ℕ)

@@ -5,7 +5,7 @@ use Rattle.cpg_cube.specs.declared.literal.Literal.{Literal}
 use Rattle.cpg_tree.specs.Space.{HasAtMostFaults}
 use Rattle.cpg_tree.specs.Tree.{TreeState}
 use Rattle.cpg_expand.specs.Agreeing.{HasValueFrom}
-use Rattle.cpg_expand.specs.Values.{time_later}
+use Rattle.cpg_tree.specs.Later.{time_later}
 
 -- the times of a tree, 0 if there are none, later by a delay
 abbrev pub IsLaterTree : ℕ → ℕ → TreeState (Option ℕ) → TreeState ℕ → Type 0

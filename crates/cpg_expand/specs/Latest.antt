@@ -10,8 +10,9 @@ use Rattle.cpg_tree_columns.specs.Meeting.{HasWhere}
 use Rattle.cpg_tree.specs.Tree.{TreeState, HasOnePathEach, IsConstant}
 use Rattle.cpg_expand.specs.Earlier.{IsBetween, IsAskedOf}
 use Rattle.cpg_expand.specs.Forest.{ForestState, ends_of, times_of, heard_tree, heard_delay, input_tree, input_delay}
-use Rattle.cpg_expand.specs.Tops.{IsTop, IsTopAt}
-use Rattle.cpg_expand.specs.Values.{slot_at, time_later}
+use Rattle.cpg_tree_columns.specs.Tops.{IsTop, IsTopAt}
+use Rattle.cpg_tree_times.specs.Values.{slot_at}
+use Rattle.cpg_tree.specs.Later.{time_later}
 use Rattle.cpg_expand.specs.Waited.{stands_before}
 
 -- ---- starts

@@ -1,6 +1,5 @@
 pub mod Agreeing
 pub mod TreeRows
-pub mod Values
 pub mod Forest
 pub mod Guarded
 pub mod Earlier
@@ -11,13 +10,10 @@ pub mod Waiting
 pub mod Freezing
 pub mod Latest
 pub mod Sending
-pub mod MadeRows
 pub mod TreeValues
 pub mod Grown
 pub mod Sent
 pub mod Begun
-pub mod Peaks
-pub mod Tops
 pub mod Active
 pub mod Measured
 pub mod GrownFor
@@ -25,5 +21,4 @@ pub mod Waited
 pub mod Large
 pub mod WideRows
 pub mod BuiltRows
-pub mod MadeColumns
-pub mod Sources
+pub mod RunEnds

@@ -13,7 +13,8 @@ use Rattle.cpg_tree.specs.Space.{HasAtMostFaults}
 use Rattle.cpg_tree.specs.Tree.{TreeState}
 use Rattle.cpg_expand.specs.Agreeing.{HasValueFrom}
 use Rattle.cpg_expand.specs.Guarded.{value_known}
-use Rattle.cpg_expand.specs.Values.{slot_from, time_later}
+use Rattle.cpg_tree_times.specs.Values.{slot_from}
+use Rattle.cpg_tree.specs.Later.{time_later}
 
 -- a tree that is true where another is true and a condition has a value
 abbrev pub IsTestedTree : ℕ → ℕ → Bool → TreeState Bool → TreeState Bool → Type 0

@@ -14,7 +14,8 @@ use Rattle.cpg_run.specs.Carried.{queued}
 use Rattle.cpg_run.specs.Most.{IsMost}
 use Rattle.cpg_run.specs.Progress.{IsSentBy, free_after}
 use Rattle.cpg_tree.specs.Tree.{TreeState}
-use Rattle.cpg_expand.specs.Agreeing.{IsTree, HasValueFrom}
+use Rattle.cpg_tree.specs.GraphTrees.{IsTree}
+use Rattle.cpg_expand.specs.Agreeing.{HasValueFrom}
 use Rattle.cpg_expand.specs.Forest.{ForestState, ends_of}
 use Rattle.cpg_expand.specs.Freezing.{IsFrozenBy}
 use Rattle.cpg_expand.specs.Latest.{IsLatestSend}

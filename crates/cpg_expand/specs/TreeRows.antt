@@ -1,4 +1,4 @@
--- The row of a tree: the columns that it lists.
+-- Trees that have the times of an item.
 use Rattle.std.specs.Prelude.{ℕ, ◌≡◌, List, Option, None, get_or, All, IsPermutation}
 use Rattle.cpg_base.specs.Graph.{Graph}
 use Rattle.cpg_base.specs.Scenario.{Scenario, IsScenario}
@@ -8,14 +8,6 @@ use Rattle.cpg_run.specs.Carried.{carried}
 use Rattle.cpg_tree_columns.specs.Columns.{columns_of_paths, IsTidyColumn}
 use Rattle.cpg_tree.specs.Tree.{TreeState, HasOnePathEach}
 use Rattle.cpg_expand.specs.Agreeing.{Agrees}
-
--- the columns that a tree lists, in any order
-pub record AreListedOf (g : Graph) (t : TreeState (Option ℕ)) (columns : List Column) : Type 0 where
-  -- the tree has one path for each scenario
-  pub each : HasOnePathEach g.faults t.paths
-  -- there is a column for each path that has a time
-  pub all : IsPermutation (columns_of_paths t.paths) columns
-  pub tidy : All (IsTidyColumn g) columns
 
 -- in every scenario a tree has the item's time in the run, and its path says no more than what is carried there
 abbrev pub IsTreeOf : Graph → List ℕ → List (Option ℕ) → List (List Column) → ℕ → TreeState (Option ℕ) → Type 0

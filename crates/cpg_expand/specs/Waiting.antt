@@ -7,7 +7,8 @@ use Rattle.cpg_cube.specs.declared.literal.Literal.{Literal}
 use Rattle.cpg_tree.specs.Space.{HasAtMostFaults}
 use Rattle.cpg_tree.specs.Tree.{TreeState}
 use Rattle.cpg_expand.specs.Agreeing.{HasValueFrom}
-use Rattle.cpg_expand.specs.Forest.{ForestState, no_tree, ready_at, ready_by, heard_tree, heard_delay}
+use Rattle.cpg_expand.specs.Forest.{ForestState, ready_at, ready_by, heard_tree, heard_delay}
+use Rattle.cpg_tree.specs.GraphTrees.{no_tree}
 use Rattle.cpg_expand.specs.declared.forest.Ready.{Ready}
 use Rattle.cpg_expand.specs.Guarded.{support_of, latest_of}
 

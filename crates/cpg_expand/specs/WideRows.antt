@@ -7,8 +7,8 @@ use Rattle.cpg_order.specs.Reach.{rows_of_item}
 use Rattle.cpg_table.specs.Table.{NodeTable, Row, columns_of}
 use Rattle.cpg_table.specs.Writing.{row_for}
 use Rattle.cpg_tree.specs.Tree.{TreeState}
-use Rattle.cpg_expand.specs.Forest.{no_tree}
-use Rattle.cpg_expand.specs.MadeRows.{AreFirstRows, IsRowOf}
+use Rattle.cpg_tree.specs.GraphTrees.{no_tree}
+use Rattle.cpg_tree_columns.specs.MadeRows.{AreFirstRows, IsRowOf}
 
 -- how many columns an item's row has in all tables together
 abbrev pub row_load : Graph → List Row → ℕ → ℕ

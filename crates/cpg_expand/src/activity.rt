@@ -2,7 +2,7 @@
 ghost use Rattle.std.specs.Prelude.{◌≡◌, ◌≤◌, ◌<◌, IfOk, true};
 ghost use Rattle.cpg_base.specs.Graph.{is_sent, item_count, process_count};
 ghost use Rattle.cpg_expand.specs.Active.{IsActivityOf};
-ghost use Rattle.cpg_expand.specs.Agreeing.{IsTree};
+ghost use Rattle.cpg_tree.specs.GraphTrees.{IsTree};
 
 use crate::guarded::active;
 use crate::sending::goes;

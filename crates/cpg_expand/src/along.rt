@@ -3,7 +3,7 @@ ghost use Rattle.std.specs.Prelude.{ℕ, ◌≡◌, ◌<◌, ◌⊎◌, IfErr, I
 ghost use Rattle.cpg_base.specs.Graph.{item_count, process_count};
 ghost use Rattle.cpg_bus.specs.Plan.{plan_of};
 ghost use Rattle.cpg_expand.specs.Begun.{IsBegun, IsBegunFrozen, IsBegunThawed};
-ghost use Rattle.cpg_expand.specs.Agreeing.{IsTree};
+ghost use Rattle.cpg_tree.specs.GraphTrees.{IsTree};
 ghost use Rattle.cpg_expand.specs.Ending.{IsEndTree, IsReadyAfter, IsReadyTree, goes_on};
 ghost use Rattle.cpg_expand.specs.Forest.{HasTrees, IsWait, ready_by};
 ghost use Rattle.cpg_expand.specs.Grown.{IsGrownBy};

@@ -3,12 +3,11 @@ ghost use Rattle.std.specs.Prelude.{IfOk};
 ghost use Rattle.cpg_expand.specs.BuiltRows.{IsAssembledOf};
 ghost use Rattle.cpg_table.specs.Writing.{AreWritable};
 
-use crate::made_row::{MadeRow, listed_rows};
-use crate::measuring::Peak;
 use cpg_base::{Order, OutOfMemory};
 use cpg_rules::Admitted;
 use cpg_run::{Built, FrozenTimes};
 use cpg_table::tables_of;
+use cpg_tree_columns::{MadeRow, Peak, listed_rows};
 use std::alloc::Global;
 
 /// All that is built under an order but its tables, which repeat a row for each node that hears its item.

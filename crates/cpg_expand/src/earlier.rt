@@ -2,7 +2,7 @@
 ghost use Rattle.std.specs.Prelude.{◌+◌, ◌≡◌, ◌==◌, ◌&&◌, ◌<◌, ◌≤◌, IfOk, length, nat_le, nat_lt};
 ghost use Rattle.cpg_base.specs.Graph.{condition_count, node_of, process_count};
 ghost use Rattle.cpg_base.specs.Order.{place};
-ghost use Rattle.cpg_expand.specs.Agreeing.{IsTree};
+ghost use Rattle.cpg_tree.specs.GraphTrees.{IsTree};
 ghost use Rattle.cpg_expand.specs.Earlier.{AreAlong, IsAskedTree, IsCut, is_always};
 
 use crate::guarded::tested_on;

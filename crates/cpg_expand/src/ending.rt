@@ -3,14 +3,14 @@ ghost use Rattle.std.specs.Prelude.{◌≡◌, ◌+◌, ◌<◌, IfOk, map};
 ghost use Rattle.cpg_base.specs.Duration.{duration};
 ghost use Rattle.cpg_base.specs.Graph.{process_count};
 ghost use Rattle.cpg_base.specs.Numbers.{numbers_below};
-ghost use Rattle.cpg_expand.specs.Agreeing.{IsTree};
+ghost use Rattle.cpg_tree.specs.GraphTrees.{IsTree};
 ghost use Rattle.cpg_expand.specs.Ending.{IsEndTree, IsReadyAfter, IsReadyTree, goes_on};
 ghost use Rattle.cpg_expand.specs.Forest.{HasTrees, IsWait, ready_by};
 
 use crate::forest::{Forest, Ready};
-use crate::values::ends;
 use cpg_base::{OutOfMemory, Problem};
 use cpg_tree::{Tree, fault};
+use cpg_tree_times::{ends, pick_later};
 use std::alloc::Global;
 
 /// How long an execution of a process lasts with no fault, with one, and so on.
@@ -60,7 +60,7 @@ fn end_or(
     ensures tree { IfOk result (IsTree problem.now) }
     ensures ready { IfOk result (IsReadyTree problem.now.faults active.now end.now wait.now) }
 {
-    let ready = active.pick_later(end, 0, wait)?;
+    let ready = pick_later(active, end, 0, wait)?;
     Ok(ready)
 }
 

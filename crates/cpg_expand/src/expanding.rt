@@ -12,13 +12,12 @@ ghost use Rattle.cpg_run.specs.Built.{IsBuiltFor, ShowsBuildFault};
 
 use crate::BuiltRows;
 use crate::growing::{GrownForest, grown};
-use crate::measuring::{Peak, excess, worst};
 use crate::rows::rows;
-use crate::tops::tops_of;
 use cpg_base::{Order, OutOfMemory};
 use cpg_reach::too_wide;
 use cpg_rules::Admitted;
 use cpg_run::{BuildFault, Built};
+use cpg_tree_columns::{Peak, excess, tops_of, worst};
 use std::alloc::Global;
 
 /// All that is found under an order except its rows: the trees that the rows are made of, and how good the order is.

@@ -1,7 +1,7 @@
 //! The trees that are found along an order.
 ghost use Rattle.std.specs.Prelude.{[], ◌≡◌, ◌<◌, ◌≤◌, None, All, IfOk, length, true};
 ghost use Rattle.cpg_base.specs.Graph.{condition_count, edge_count, is_message, item_count, process_count, home};
-ghost use Rattle.cpg_expand.specs.Agreeing.{IsTree};
+ghost use Rattle.cpg_tree.specs.GraphTrees.{IsTree};
 ghost use Rattle.cpg_expand.specs.Forest.{HasTrees, IsWait, ends_of, heard_delay, heard_tree, input_delay, input_tree, later_tree, ready_by, times_of};
 ghost use Rattle.cpg_expand.specs.Grown.{IsBare, IsReadyFirst};
 ghost use Rattle.cpg_expand.specs.Guarded.{IsStartAfter, IsStartWhere};
@@ -10,11 +10,12 @@ ghost use Rattle.cpg_base.specs.Bus.{slot_length};
 ghost use Rattle.cpg_tree.specs.Read.{later_by};
 ghost use Rattle.cpg_tree.specs.Tree.{IsConstant};
 
-use crate::values::{
-    later, later_of, later_or, started, started_of, started_of_where, started_or, started_or_where,
-};
 use cpg_base::{OutOfMemory, Problem};
 use cpg_tree::Tree;
+use cpg_tree_times::{
+    later, later_of, later_or, max_later, max_of, started, started_of, started_of_where,
+    started_or, started_or_where,
+};
 use std::alloc::Global;
 use std::marker::Model;
 
@@ -183,12 +184,12 @@ impl Forest {
             Ready::After(process) => {
                 // called for its contract: the graph is within its limits
                 let _processes = problem.processes();
-                let both = there.max_later(&self.ends[*process as usize], 0)?;
+                let both = max_later(there, &self.ends[*process as usize], 0)?;
                 Ok(both)
             }
             // the node is ready by a tree
             Ready::At(tree) => {
-                let both = tree.max(there)?;
+                let both = max_of(tree, there)?;
                 Ok(both)
             }
         }
@@ -218,7 +219,7 @@ impl Forest {
             }
             // the node is ready by a tree
             Ready::At(tree) => {
-                let both = tree.max_later(times, delay)?;
+                let both = max_later(tree, times, delay)?;
                 Ok(both)
             }
         }

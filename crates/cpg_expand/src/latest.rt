@@ -5,19 +5,19 @@ ghost use Rattle.cpg_base.specs.Bus.{round, slot_length};
 ghost use Rattle.cpg_base.specs.Graph.{condition_count, edge_count, home, item_count, process_at, process_count};
 ghost use Rattle.cpg_base.specs.Order.{place};
 ghost use Rattle.cpg_expand.specs.Earlier.{AreAlong, IsBothTree};
-ghost use Rattle.cpg_expand.specs.Agreeing.{IsTree};
+ghost use Rattle.cpg_tree.specs.GraphTrees.{IsTree};
 ghost use Rattle.cpg_expand.specs.Forest.{HasTrees, ends_of, heard_delay, heard_tree, times_of};
 ghost use Rattle.cpg_expand.specs.Latest.{HasEnded, HasEndedOf, HasHeard, HasHeardOf, HasInput, HasInputOf, HasLater, HasQueued, HasQueuedOf, IsLatestSend, IsLatestStart, IsRaised, or_later};
-ghost use Rattle.cpg_expand.specs.Tops.{IsTop};
+ghost use Rattle.cpg_tree_columns.specs.Tops.{IsTop};
 ghost use Rattle.cpg_tree_columns.specs.Meeting.{HasWhere};
 
 use crate::earlier::{NodeSpan, asked, stands_between};
 use crate::forest::Forest;
-use crate::values::slot_at;
 use crate::waited::stands_before;
 use cpg_base::{Order, OutOfMemory, Problem};
 use cpg_bus::Share;
 use cpg_tree::{Tree, time_later};
+use cpg_tree_times::slot_at;
 use std::alloc::Global;
 
 /// The greatest time of a tree in a scenario in which another one is true.

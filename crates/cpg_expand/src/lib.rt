@@ -15,18 +15,12 @@ mod forest;
 mod growing;
 mod guarded;
 mod latest;
-mod made_row;
-mod measuring;
 mod rows;
 mod sending;
 mod starting;
-mod tops;
-mod values;
 mod waited;
 
 pub use activity::active_item;
 pub use bounding::leaf_limit_is_this;
 pub use built_rows::BuiltRows;
 pub use expanding::{Grown, expand, grow, grow_bounded, grow_narrow};
-pub use made_row::{MadeColumns, MadeRow, RowSource, listed_rows};
-pub use measuring::Peak;

@@ -8,7 +8,7 @@ ghost use Rattle.cpg_bus.specs.Share.{share_of};
 ghost use Rattle.cpg_expand.specs.Waiting.{free_of};
 ghost use Rattle.cpg_base.specs.Graph.{condition_count, edge_count, home, is_sent, item_count, process_count, producer, source};
 ghost use Rattle.cpg_bus.specs.Plan.{plan_of, queue_of};
-ghost use Rattle.cpg_expand.specs.Agreeing.{IsTree};
+ghost use Rattle.cpg_tree.specs.GraphTrees.{IsTree};
 ghost use Rattle.cpg_expand.specs.Forest.{HasTrees, ends_of};
 ghost use Rattle.cpg_expand.specs.Latest.{IsLatestSend};
 ghost use Rattle.cpg_expand.specs.Sent.{AreItemsAdded, IsItemAdded, IsSentFor};
@@ -17,12 +17,12 @@ ghost use Rattle.cpg_expand.specs.Sending.{IsFreeTree, IsGoesTree, IsLiveTree, I
 use crate::forest::Forest;
 use crate::latest::{Sent, latest_send};
 use crate::starting::freeze;
-use crate::values::{later, same_as, slots};
 use crate::waited::is_queued_for;
 use cpg_base::{Item, Order, OutOfMemory, Problem};
 use cpg_bus::{Plan, Share};
 use cpg_run::FrozenTimes;
 use cpg_tree::{Tree, value};
+use cpg_tree_times::{later, pick_later, same_as, slots};
 use std::alloc::Global;
 
 /// A tree that is true where a given one is and a condition has a value.
@@ -178,7 +178,7 @@ fn freed(
         return Ok(after);
     }
     // where the item goes, a round after it; elsewhere as before
-    let freed = goes.pick_later(sent, round, free)?;
+    let freed = pick_later(goes, sent, round, free)?;
     Ok(freed)
 }
 

@@ -2,7 +2,7 @@
 ghost use Rattle.std.specs.Prelude.{◌≡◌, ◌<◌, ◌≤◌, All, IfErr, IfOk, length};
 ghost use Rattle.cpg_expand.specs.Freezing.{IsFrozenBy, set_if};
 ghost use Rattle.cpg_base.specs.Graph.{condition_count, edge_count, item_count, process_at, process_count};
-ghost use Rattle.cpg_expand.specs.Agreeing.{IsTree};
+ghost use Rattle.cpg_tree.specs.GraphTrees.{IsTree};
 ghost use Rattle.cpg_expand.specs.Forest.{HasTrees, IsWait, ready_by};
 ghost use Rattle.cpg_expand.specs.Guarded.{IsActiveTree, IsStartTree, LeadsBelow};
 ghost use Rattle.cpg_expand.specs.Large.{IsLarge, IsLargeStart, IsLargeWait, ShowsLarge};
@@ -12,11 +12,11 @@ ghost use Rattle.cpg_rules.specs.Trees.{TestsBelow};
 use crate::bounding::few;
 use crate::forest::{Forest, Ready};
 use crate::guarded::{heard, start};
-use crate::values::fixed;
 use cpg_base::{OutOfMemory, Problem};
 use cpg_rules::{GuardTop, GuardTree};
 use cpg_run::{BuildFault, FrozenTimes};
 use cpg_tree::Tree;
+use cpg_tree_times::fixed;
 use std::alloc::Global;
 
 /// Refuses a tree of when a node is ready that has too many leaves. The ends of a process are counted when they are made. The

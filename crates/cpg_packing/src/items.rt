@@ -11,10 +11,9 @@ ghost use Rattle.cpg_packing.specs.PackBytes.{heard_bytes, node_bytes, own_bytes
 use crate::rows::put_row;
 use cpg_base::Problem;
 use cpg_codec::Buffer;
-use cpg_expand::MadeRow;
 use cpg_io::{Failed, Sink};
 use cpg_table::NodeItems;
-use cpg_tree_columns::PathCube;
+use cpg_tree_columns::{MadeRow, PathCube};
 
 /// Puts the rows of these items.
 fn put_own<O: Sink>(

@@ -17,11 +17,10 @@ ghost use Rattle.cpg_table.specs.Writing.{AreWritable};
 use crate::items::put_node;
 use cpg_base::{OutOfMemory, Problem};
 use cpg_codec::{Buffer, WriteFault, put_head};
-use cpg_expand::MadeRow;
 use cpg_head::{Head, head_of};
 use cpg_io::{Failed, Sink};
 use cpg_table::NodeItems;
-use cpg_tree_columns::PathCube;
+use cpg_tree_columns::{MadeRow, PathCube};
 use std::alloc::Global;
 
 /// The numbers of the items of each node.

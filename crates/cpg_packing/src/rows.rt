@@ -10,9 +10,8 @@ ghost use Rattle.cpg_table.specs.Valid.{later_by};
 use crate::walking::put_paths;
 use cpg_codec::{Buffer, put_column, put_short};
 use cpg_cube::Column;
-use cpg_expand::{MadeRow, RowSource};
 use cpg_io::{Failed, Sink};
-use cpg_tree_columns::PathCube;
+use cpg_tree_columns::{MadeRow, PathCube, RowSource};
 
 /// Puts columns, each later by a delay.
 fn put_later<O: Sink>(

@@ -6,9 +6,9 @@ use Rattle.cpg_base.specs.Graph.{Graph, item_count}
 use Rattle.cpg_base.specs.Numbers.{numbers_below}
 use Rattle.cpg_base.proofs.Lists.{below_push, same_flat_map}
 use Rattle.cpg_cube.specs.declared.column.Column.{Column}
-use Rattle.cpg_expand.specs.Sources.{ShowsSource}
-use Rattle.cpg_expand.specs.declared.made_row.RowSource.{RowSource}
-use Rattle.cpg_expand.specs.declared.made_row.RowSource.TheVariants.{Listed, Kept}
+use Rattle.cpg_tree_columns.specs.Sources.{ShowsSource}
+use Rattle.cpg_tree_columns.specs.declared.made_row.RowSource.{RowSource}
+use Rattle.cpg_tree_columns.specs.declared.made_row.RowSource.TheVariants.{Listed, Kept}
 use Rattle.cpg_table.specs.Table.{NodeTable, Row, columns_of}
 use Rattle.cpg_table.specs.Writing.{row_for}
 use Rattle.cpg_label.specs.CubeText.{columns_text}

@@ -2,8 +2,8 @@
 use Rattle.std.specs.Prelude.{ℕ, List, ◌++◌, string_bytes}
 use Rattle.std.specs.List.{flat_map}
 use Rattle.cpg_cube.specs.declared.column.Column.{Column}
-use Rattle.cpg_expand.specs.declared.made_row.RowSource.{RowSource}
-use Rattle.cpg_expand.specs.declared.made_row.RowSource.TheVariants.{Listed, Kept}
+use Rattle.cpg_tree_columns.specs.declared.made_row.RowSource.{RowSource}
+use Rattle.cpg_tree_columns.specs.declared.made_row.RowSource.TheVariants.{Listed, Kept}
 use Rattle.cpg_label.specs.Labels.{Labels}
 use Rattle.cpg_label.specs.CubeText.{columns_text}
 use Rattle.cpg_tree_columns.specs.Columns.{columns_of_paths}

@@ -9,7 +9,7 @@ ghost use Rattle.cpg_show.specs.Sheet.{part_text, sheet_text};
 use crate::sheet::{Sheet, SheetPart, write_sheet};
 use cpg_base::OutOfMemory;
 use cpg_codec::WriteFault;
-use cpg_expand::RowSource;
+use cpg_tree_columns::RowSource;
 use cpg_head::Head;
 use cpg_io::Sink;
 use cpg_label::{Labels, write_act, write_heard};

@@ -10,10 +10,9 @@ ghost use Rattle.cpg_show.specs.Sheet.{columns_of_source, part_text, sheet_text}
 use crate::putting::{put_columns, put_text};
 use crate::walking::put_paths;
 use cpg_codec::{Buffer, WriteFault};
-use cpg_expand::RowSource;
 use cpg_io::{Failed, Sink};
 use cpg_label::{Labels, Line};
-use cpg_tree_columns::PathCube;
+use cpg_tree_columns::{PathCube, RowSource};
 use std::alloc::Global;
 
 /// A line, and the columns below it.

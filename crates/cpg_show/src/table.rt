@@ -2,7 +2,7 @@
 ghost use Rattle.std.specs.Prelude.{◌≡◌, ◌<◌, ◌≤◌, ◌++◌, Err, IfOk, OnOk, codes, flat_map, string_bytes};
 ghost use Rattle.cpg_base.specs.Graph.{item_count};
 ghost use Rattle.cpg_base.specs.Numbers.{numbers_below};
-ghost use Rattle.cpg_expand.specs.Sources.{ShowsSource};
+ghost use Rattle.cpg_tree_columns.specs.Sources.{ShowsSource};
 ghost use Rattle.cpg_io.specs.Causes.{Rose};
 ghost use Rattle.cpg_io.specs.Sink.{Took, TookPrefix};
 ghost use Rattle.cpg_label.specs.Labels.{labels_of, process_name};
@@ -13,7 +13,7 @@ ghost use Rattle.cpg_table.specs.Writing.{row_for};
 use crate::sheet::{Sheet, SheetPart, write_sheet};
 use cpg_base::{Item, Order, OutOfMemory, Problem};
 use cpg_codec::WriteFault;
-use cpg_expand::{MadeRow, RowSource};
+use cpg_tree_columns::{MadeRow, RowSource};
 use cpg_io::Sink;
 use cpg_label::{Labels, write_act};
 use cpg_rules::Admitted;

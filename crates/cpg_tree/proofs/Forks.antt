@@ -9,8 +9,6 @@ use Rattle.cpg_tree.specs.TreeNode.{TreeNode, Leaf, Fork}
 use Rattle.cpg_tree.specs.Decision.{value_at, low_at, high_at, DoForksPass, IsFit}
 use Rattle.cpg_tree.specs.Space.{Space, IsInSpace}
 use Rattle.cpg_tree.specs.Results.{IsForkOf, IsJoinIn, IsJoinOf, IsPickOf, IsResultTree, IsTreeWithin, picked}
-use Rattle.cpg_tree.specs.Asked.{SpacePair, IsInner, IsInBothSpaces, lowered}
-use Rattle.cpg_tree.specs.declared.asked.Highs.{Highs}
 
 -- ---- what a scenario finds
 
@@ -160,23 +158,6 @@ made_narrower domain fewer fact low high r made only = record {
   lows = λ s u d. made.lows s u (only s d);
   highs = λ k s u d. made.highs k s u (only s d);
 }
-
--- answers made in the space that is asked for are made in both spaces
-pub made_in_both : {T U V : Type 0} (answers : T → U → V → Type 0) (spaces : SpacePair) (a : TreeNode T)
-    (b : TreeNode U) (r : TreeNode V) →
-    IsJoinOf answers spaces.asked a b r →
-    IsJoinIn answers (IsInBothSpaces spaces) a b r
-made_in_both answers spaces a b r made =
-    made_narrower (IsInSpace spaces.asked) (IsInBothSpaces spaces) _ _ _ r made (λ s d. d.0)
-
--- answers made with the part of a tree that the space walked comes to are made with the tree
-pub both_whole : {T U V : Type 0} (answers : T → U → V → Type 0) (spaces : SpacePair) (a : TreeNode T)
-    (b part : TreeNode U) (r : TreeNode V) →
-    IsTreeWithin spaces.walked b part →
-    IsJoinIn answers (IsInBothSpaces spaces) a part r → IsJoinIn answers (IsInBothSpaces spaces) a b r
-both_whole answers spaces a b part r same made = made_weaker (IsInBothSpaces spaces) _ _ _ _ _ _ r made
-    (λ s z d t. subst (λ y. answers (value_at a s) y z) (same.value s d.1) t)
-    (λ s u d. omega (arith, same.lows s u d.1)) (λ k s u d. omega (arith, same.highs k s u d.1))
 
 -- answers made with the part of a tree that a space comes to are made with the tree
 pub join_whole : {T U V : Type 0} (answers : T → U → V → Type 0) (space : Space) (a : TreeNode T) (b part : TreeNode U)
@@ -479,45 +460,3 @@ pub fit_parts : {T : Type 0} (space : Space) (v cut : ℕ) (below above n : Tree
     IsFit space n →
     IsFit space (Fork v cut below above)
 fit_parts space v cut below above n is fit = subst (IsFit space) is fit
-
--- ---- two spaces, put back above a cut
-
--- given: two spaces whose highs were lowered, and that get their highs back
-module _ (spaces shut inner opened : SpacePair) (v : ℕ) (highs : Highs) (back : lowered shut v highs ≡ spaces)
-    (same : inner ≡ shut) (put : opened ≡ lowered inner v highs) where
-  -- then they are the two spaces from before
-  pub both_opened : opened ≡ spaces
-  both_opened = put ∙ ap (λ (r : SpacePair). lowered r v highs) same ∙ back
-
-  -- a scenario above the cut lies in the spaces that are closed below it
-  pub both_reopened : (upper : SpacePair) (cut : ℕ) →
-      ((s : Scenario) → IsInBothSpaces opened s → cut < number_of s v → IsInBothSpaces upper s) → (s : Scenario) →
-      IsInBothSpaces spaces s
-      → cut < number_of s v →
-      IsInBothSpaces upper s
-  both_reopened upper cut lies_upper s lies h = lies_upper s (subst (λ r. IsInBothSpaces r s) (sym both_opened) lies) h
-
--- ---- a fork at which all scenarios of two spaces go one way
-
--- given: a fork, and the part of another tree that the space walked comes to
-module _ {T U V : Type 0} (answers : T → U → V → Type 0) (spaces inner : SpacePair) (v cut : ℕ)
-    (below above n : TreeNode T) (is : n ≡ Fork v cut below above)
-    (other part : TreeNode U) (same : IsTreeWithin spaces.walked other part) (r : TreeNode V) where
-  -- answers made in the spaces left, with the part of the other tree that the space walked comes to, are answers of
-  -- both trees
-  pub made_all_below : IsInner spaces (λ s. number_of s v ≤ cut) inner →
-      IsJoinIn answers (IsInBothSpaces inner) below part r →
-      IsJoinIn answers (IsInBothSpaces spaces) n other r
-  made_all_below way made = both_whole answers spaces n other part r same
-      (two_below_of (λ s x z. answers x (value_at part s) z) (λ s x u. low_at part s u) (λ k s x u. high_at k part s u)
-      (IsInBothSpaces spaces) v cut below above n is r
-      (made_narrower (IsInBothSpaces inner) (IsInBothSpaces spaces) _ _ _ r made way.lies) way.goes)
-
-  -- a join that is made of the side above, in the spaces of both, is made of the fork if only scenarios above count
-  pub made_all_above : IsInner spaces (λ s. cut < number_of s v) inner →
-      IsJoinIn answers (IsInBothSpaces inner) above part r →
-      IsJoinIn answers (IsInBothSpaces spaces) n other r
-  made_all_above way made = both_whole answers spaces n other part r same
-      (two_above_of (λ s x z. answers x (value_at part s) z) (λ s x u. low_at part s u) (λ k s x u. high_at k part s u)
-      (IsInBothSpaces spaces) v cut below above n is r
-      (made_narrower (IsInBothSpaces inner) (IsInBothSpaces spaces) _ _ _ r made way.lies) way.goes)

@@ -1,9 +1,5 @@
 pub mod Spaces
 pub mod Forks
-pub mod Greatness
-pub mod BoundLaws
-pub mod GreaterLaws
-pub mod WhereLaws
 pub mod Fits
 pub mod PathLaws
 pub mod Publics
@@ -18,7 +14,6 @@ pub mod Demands
 pub mod OnePath
 pub mod AtLeast
 pub mod Readings
-pub mod Where
 pub mod Flats
 pub mod ForkLaws
 pub mod MapLaws
@@ -28,4 +23,4 @@ pub mod JoinLaws
 pub mod PickLaws
 pub mod GoodLists
 pub mod VariableLaws
-pub mod Scans
+pub mod GraphTrees

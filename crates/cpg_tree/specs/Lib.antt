@@ -1,16 +1,13 @@
 pub mod TreeNode
-pub mod Asked
 pub mod Space
 pub mod Decision
 pub mod Results
 pub mod Paths
 pub mod Tree
 pub mod Variables
-pub mod Greater
-pub mod Bounds
-pub mod AddedInBoth
 pub mod Later
 pub mod Read
 pub mod Flat
 pub mod ReadBack
 pub mod Added
+pub mod GraphTrees

@@ -163,7 +163,7 @@ fn sides_are_apart<T: Copy + Eq>(items: &[TreeItem<T>], middle: usize, variable:
 /// A fork of the two trees that a list ends in, from a start and a middle on, or one tree if both are equal. If the side
 /// above is a fork on the same variable with an equal side below, the first cut is left out.
 #[inline(always)]
-pub(crate) fn fork<T: Copy + Eq>(
+pub fn fork<T: Copy + Eq>(
     out: &mut Vec<TreeItem<T>>,
     start: usize,
     middle: usize,

@@ -58,7 +58,7 @@ pub(crate) fn are_same_items<T: Copy + Eq>(one: &[TreeItem<T>], other: &[TreeIte
 
 /// Adds an item. There is usually room for it, and then nothing else is checked.
 #[inline(always)]
-pub(crate) fn put<T: Copy>(list: &mut Vec<T>, item: T) -> Result<(), OutOfMemory>
+pub fn put<T: Copy>(list: &mut Vec<T>, item: T) -> Result<(), OutOfMemory>
     ensures { IfOk result (λ _. list.new.items ≡ list.old.items ++ (item ∷ [])) }
 {
     if list.len() < list.capacity() {

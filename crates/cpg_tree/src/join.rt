@@ -14,7 +14,7 @@ use cpg_base::OutOfMemory;
 /// Adds the tree of the answers to a value and the values, for the scenarios of a space.
 #[cycle(fill)]
 #[inline(always)]
-pub(crate) fn fill_items<T: Copy, U: Copy, V: Copy + Eq, F: Fn(T, U) -> V>(
+pub fn fill_items<T: Copy, U: Copy, V: Copy + Eq, F: Fn(T, U) -> V>(
     items: &[TreeItem<U>],
     space: &mut Space,
     value: T,

@@ -1,18 +1,13 @@
 //! Trees of values by scenarios.
 #![tactic(auto)]
 
-mod asked;
 mod at;
-mod bounds;
-mod choosing;
-mod fork;
-mod greater;
+pub mod fork;
 mod item;
 mod join;
 mod map;
 mod part;
 mod pick;
-mod picking;
 mod reading;
 mod space;
 mod tally;
@@ -21,10 +16,13 @@ mod tree;
 mod variables;
 
 pub use fork::fork_of;
-pub use item::TreeItem;
+pub use item::{TreeItem, put};
+pub use join::fill_items;
+pub use map::map_items;
 pub use part::part_in;
+pub use pick::within_items;
 pub use reading::{AsIs, Later, Reading, time_later};
-pub use space::Space;
+pub use space::{Lifted, Space};
 pub use tally::{Parting, Tally};
 pub use top::{Top, top_of};
 pub use tree::Tree;

@@ -12,7 +12,7 @@ use cpg_base::OutOfMemory;
 /// Adds the tree of the answers.
 #[cycle(map)]
 #[inline(always)]
-pub(crate) fn map_items<T: Copy, U: Copy + Eq, F: Fn(T) -> U>(
+pub fn map_items<T: Copy, U: Copy + Eq, F: Fn(T) -> U>(
     items: &[TreeItem<T>],
     f: &F,
     out: &mut Vec<TreeItem<U>>,

@@ -15,7 +15,7 @@ use crate::top::{Top, top_of};
 use cpg_base::OutOfMemory;
 
 /// Adds a tree for the scenarios of a space.
-pub(crate) fn within_items<T: Copy + Eq>(
+pub fn within_items<T: Copy + Eq>(
     items: &[TreeItem<T>],
     space: &mut Space,
     out: &mut Vec<TreeItem<T>>,

@@ -105,14 +105,14 @@ impl Space {
     }
 
     /// The high of a variable, for `reopen_above`.
-    pub(crate) fn highest(&self, variable: u8) -> u8
+    pub fn highest(&self, variable: u8) -> u8
         ensures { below_cut self.now variable result ≡ self.now }
     {
         self.high[variable as usize]
     }
 
     /// The low of a variable and the faults left, for `reopen_below`.
-    pub(crate) fn lowest(&self, variable: u8) -> Lifted
+    pub fn lowest(&self, variable: u8) -> Lifted
         ensures { reopened_below self.now variable result ≡ self.now }
     {
         Lifted {

@@ -70,7 +70,7 @@ impl<T> Tree<T> {
 
 impl<T: Copy> Tree<T> {
     /// The tree of a list.
-    pub(crate) fn of(alloc: Global, faults: u8, items: Vec<TreeItem<T>>) -> Tree<T>
+    pub fn of(alloc: Global, faults: u8, items: Vec<TreeItem<T>>) -> Tree<T>
         requires { IsGoodList faults items.items }
         ensures is { (n : TreeNode T) → items.items ≡ flat n → result ≡ record { faults = faults; paths = paths_of faults n } }
         ensures each { HasOnePathEach result.faults result.paths }

@@ -11,3 +11,6 @@ pub mod PathRoom
 pub mod GreatestTimes
 pub mod SidesAlong
 pub mod PathWalks
+pub mod TreeColumns
+pub mod PeaksGrow
+pub mod PeaksTop

@@ -5,3 +5,9 @@ pub mod Along
 pub mod Counted
 pub mod Demanded
 pub mod Path
+pub mod Past
+pub mod MadeColumns
+pub mod Sources
+pub mod MadeRows
+pub mod Tops
+pub mod Peaks

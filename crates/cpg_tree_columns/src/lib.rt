@@ -1,17 +1,26 @@
-//! What is read off the paths of a tree of times: their columns, the greatest number of the tree, and its greatest
-//! number where another tree is true.
+//! What is read off the paths of trees of times: the columns of a tree and the row that they make, the greatest number of
+//! a tree, also where another tree is true, and the peak of many trees.
 #![tactic(auto)]
 
 mod along;
 mod demanding;
 mod listing;
+mod made_row;
+mod measuring;
 mod meeting;
+mod past;
 mod path;
 mod peaks;
+mod rows;
+mod tops;
 
 pub use along::stand_along;
 pub use demanding::{column_count, demands_along};
 pub use listing::{columns, columns_are_tidy, columns_as_found, listing_along};
+pub use made_row::{MadeRow, RowSource, listed_rows};
+pub use measuring::{Peak, excess, worst};
 pub use meeting::most_where;
 pub use path::PathCube;
 pub use peaks::{greatest, most};
+pub use rows::row;
+pub use tops::tops_of;

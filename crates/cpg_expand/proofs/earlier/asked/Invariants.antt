@@ -1,5 +1,5 @@
 -- Loops of `asked`: a tree that is true where a process of a span before a place tests a condition.
-use Rattle.cpg_expand.specs.Agreeing.{IsTree}
+use Rattle.cpg_tree.specs.GraphTrees.{IsTree}
 use Rattle.cpg_expand.specs.Earlier.{IsAskedTree}
 use Rattle.cpg_expand.proofs.earlier.asked.Given as goal
 

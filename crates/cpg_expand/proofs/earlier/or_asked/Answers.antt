@@ -5,7 +5,8 @@ use Rattle.cpg_tree.specs.Tree.{IsConstant}
 use Rattle.cpg_tree.specs.Variables.{is_variable}
 use Rattle.cpg_expand.specs.Guarded.{IsTestedOn}
 use Rattle.cpg_expand.proofs.EarlierFound.{asked_same, asked_too, between_from, not_between}
-use Rattle.cpg_expand.proofs.GuardTrees.{constant_tree, same_tree}
+use Rattle.cpg_expand.proofs.GuardTrees.{constant_tree}
+use Rattle.cpg_tree.proofs.GraphTrees.{same_tree}
 use Rattle.cpg_expand.proofs.earlier.or_asked.Goals as goal
 
 -- the tree has the faults and variables of the graph, as those that it is picked from have

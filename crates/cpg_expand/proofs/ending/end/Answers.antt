@@ -2,8 +2,9 @@
 use Rattle.std.proofs.Common.{ℕ, List, ◌≡◌, ◌∙◌, subst}
 use Rattle.cpg_tree.specs.Tree.{IsJoin, IsNumber}
 use Rattle.cpg_tree.specs.Variables.{is_variable}
-use Rattle.cpg_expand.specs.Values.{ended}
-use Rattle.cpg_expand.proofs.GuardTrees.{end_valued, same_tree, count_passes}
+use Rattle.cpg_tree_times.specs.Values.{ended}
+use Rattle.cpg_expand.proofs.GuardTrees.{end_valued, count_passes}
+use Rattle.cpg_tree.proofs.GraphTrees.{same_tree}
 use Rattle.cpg_expand.proofs.ending.end.Goals as goal
 
 -- the tree has the faults of the starts, and forks on the graph's variables alone

@@ -5,7 +5,9 @@ use Rattle.cpg_tree.specs.Tree.{TreeState}
 use Rattle.cpg_expand.specs.declared.growing.GrownForest.{GrownForest}
 use Rattle.cpg_expand.specs.Forest.{ForestState}
 use Rattle.cpg_expand.specs.Grown.{IsGrown}
-use Rattle.cpg_expand.specs.Peaks.{GiveEnds, IsWorstOfTrees, IsExcessOfTrees}
+use Rattle.cpg_expand.specs.RunEnds.{GiveEnds}
+use Rattle.cpg_tree_columns.specs.Peaks.{EndsAt, EndsPast, IsPeak}
+use Rattle.cpg_expand.proofs.PeaksMeasured.{peak_is_excess, peak_is_worst}
 use Rattle.cpg_expand.proofs.GrownRows.{grown_frozen, grown_gives_ends, said_of}
 use Rattle.cpg_expand.proofs.expanding.measured.Goals as goal
 
@@ -23,23 +25,25 @@ returns c =
     -- the trees of the ends give the ends of each run
     let has_value : GiveEnds g order frozen forest.ends =
     grown_gives_ends g urgency guards a order c.requires.topological frozen forest grown in
-    -- their peaks are the greatest finish and the greatest excess, under any order that they are grown along
-    let worst : IsWorstOfTrees g urgency forest.ends c.in_ok-worst.worst =
-    said_of (λ h us ts. IsWorstOfTrees h us ts c.in_ok-worst.worst) g c.problem-problem.result.now urgency
+    -- these are the trees whose peaks were found
+    let worst : IsPeak g urgency (process_count g) (EndsAt g forest.ends) c.in_ok-worst.worst =
+    said_of (λ h us ts. IsPeak h us (process_count h) (EndsAt h ts) c.in_ok-worst.worst) g c.problem-problem.result.now urgency
     c.order-urgency.result.now forest.ends c.as_slice-ends.result.now
     c.problem-problem.ensures.problem c.order-urgency.ensures.order (c.as_slice-ends.ensures.value
-    ∙ ap (λ (m : GrownForest). m.forest.ends) c.trees.view_is) c.in_ok-worst.ensures.worst in
-    let excess : IsExcessOfTrees g urgency forest.ends c.in_ok-excess.excess =
-    said_of (λ h us ts. IsExcessOfTrees h us ts c.in_ok-excess.excess) g c.problem-problem.result.now urgency
+    ∙ ap (λ (m : GrownForest). m.forest.ends) c.trees.view_is) c.in_ok-worst.ensures in
+    let excess : IsPeak g urgency (process_count g) (EndsPast g forest.ends) c.in_ok-excess.excess =
+    said_of (λ h us ts. IsPeak h us (process_count h) (EndsPast h ts) c.in_ok-excess.excess) g c.problem-problem.result.now urgency
     c.order-urgency.result.now forest.ends c.as_slice-ends.result.now
     c.problem-problem.ensures.problem c.order-urgency.ensures.order (c.as_slice-ends.ensures.value
-    ∙ ap (λ (m : GrownForest). m.forest.ends) c.trees.view_is) c.in_ok-excess.ensures.excess in
-    -- so they are those of this order
+    ∙ ap (λ (m : GrownForest). m.forest.ends) c.trees.view_is) c.in_ok-excess.ensures in
+    -- so they are the greatest finish and the greatest excess of this order
     record {
       same = refl;
       wide = c.requires.wide;
       trees = grown;
       frozen = grown_frozen g urgency guards a order c.requires.topological frozen forest grown;
-      worst = worst order frozen c.requires.topological has_value;
-      excess = excess order frozen c.requires.topological has_value;
+      worst = peak_is_worst g order c.requires.topological frozen forest.ends grown.trees.all_ends grown.trees.ends has_value
+          urgency c.in_ok-worst.worst worst;
+      excess = peak_is_excess g order c.requires.topological frozen forest.ends grown.trees.all_ends grown.trees.ends has_value
+          urgency c.in_ok-excess.excess excess;
     }

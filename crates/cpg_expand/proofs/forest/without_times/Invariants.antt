@@ -1,6 +1,6 @@
 -- Loops of `without_times`: makes `count` trees that have no time in any scenario.
 use Rattle.std.proofs.Common.{◌≡◌, None, All, length}
-use Rattle.cpg_expand.specs.Agreeing.{IsTree}
+use Rattle.cpg_tree.specs.GraphTrees.{IsTree}
 use Rattle.cpg_tree.specs.Tree.{IsConstant}
 use Rattle.cpg_expand.proofs.forest.without_times.Given as goal
 

@@ -1,6 +1,6 @@
 -- Loops of `zeros`: makes `count` trees that are 0 in every scenario.
 use Rattle.std.proofs.Common.{◌≡◌, All, length}
-use Rattle.cpg_expand.specs.Agreeing.{IsTree}
+use Rattle.cpg_tree.specs.GraphTrees.{IsTree}
 use Rattle.cpg_tree.specs.Tree.{IsConstant}
 use Rattle.cpg_expand.proofs.forest.zeros.Given as goal
 

@@ -3,7 +3,8 @@ use Rattle.std.proofs.Common.{◌+◌, ◌∙◌, subst}
 use Rattle.cpg_base.specs.Scenario.{number_of_value}
 use Rattle.cpg_tree.specs.Tree.{IsNumber}
 use Rattle.cpg_tree.specs.Variables.{is_variable}
-use Rattle.cpg_expand.proofs.GuardTrees.{value_picks, same_tree, value_passes}
+use Rattle.cpg_expand.proofs.GuardTrees.{value_picks, value_passes}
+use Rattle.cpg_tree.proofs.GraphTrees.{same_tree}
 use Rattle.cpg_expand.proofs.guarded.by_value.Goals as goal
 
 -- the value and both sides have variables of the graph, so the tree that is picked has, too

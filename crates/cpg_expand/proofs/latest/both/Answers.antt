@@ -3,7 +3,8 @@ use Rattle.std.proofs.Common.{false, subst}
 use Rattle.cpg_tree.specs.Tree.{IsConstant}
 use Rattle.cpg_tree.specs.Variables.{is_variable}
 use Rattle.cpg_expand.proofs.EarlierFound.{both_true}
-use Rattle.cpg_expand.proofs.GuardTrees.{constant_tree, same_tree}
+use Rattle.cpg_expand.proofs.GuardTrees.{constant_tree}
+use Rattle.cpg_tree.proofs.GraphTrees.{same_tree}
 use Rattle.cpg_expand.proofs.latest.both.Goals as goal
 
 -- the tree that is picked has the faults and variables of the graph, as its parts have

@@ -1,8 +1,8 @@
 -- Proof of `rows`: a row for each item: its tree is either kept in it or given back.
 use Rattle.std.proofs.Common.{◌≡◌, ◌<◌, ◌∙◌, ◌∷◌, length, get_or, arith, rules, sym, ap, subst}
-use Rattle.cpg_expand.specs.Agreeing.{IsTree}
-use Rattle.cpg_expand.specs.Forest.{no_tree}
-use Rattle.cpg_expand.specs.MadeRows.{IsRowOf}
+use Rattle.cpg_tree.specs.GraphTrees.{IsTree}
+use Rattle.cpg_tree.specs.GraphTrees.{no_tree}
+use Rattle.cpg_tree_columns.specs.MadeRows.{IsRowOf}
 use Rattle.cpg_expand.proofs.RowsMade.{next_left, rows_more}
 use Rattle.cpg_expand.proofs.WideRowsMade.{few_all, few_first, few_more, wide_shown}
 use Rattle.cpg_expand.specs.Large.{ShowsLarge}

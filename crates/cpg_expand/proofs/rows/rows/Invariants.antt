@@ -1,7 +1,7 @@
 -- Loops of `rows`: a row for each item: its tree is either kept in it or given back.
 use Rattle.std.proofs.Common.{◌≡◌, ◌≤◌, ◌+◌, drop, length}
 use Rattle.cpg_base.specs.declared.limits.TheConstants.{MOST_LOAD}
-use Rattle.cpg_expand.specs.MadeRows.{AreFirstRows}
+use Rattle.cpg_tree_columns.specs.MadeRows.{AreFirstRows}
 use Rattle.cpg_expand.specs.WideRows.{AreFewIf}
 use Rattle.cpg_expand.proofs.rows.rows.Given as goal
 

@@ -3,7 +3,8 @@ use Rattle.std.proofs.Common.{◌≡◌, ◌∙◌, true, false, sym}
 use Rattle.cpg_tree.proofs.Readings.{later_pass, later_each, later_map}
 use Rattle.cpg_tree.specs.Read.{later_by}
 use Rattle.cpg_tree.specs.Variables.{is_variable}
-use Rattle.cpg_expand.proofs.GuardTrees.{each_of, free_valued, free_always, same_tree}
+use Rattle.cpg_expand.proofs.GuardTrees.{each_of, free_valued, free_always}
+use Rattle.cpg_tree.proofs.GraphTrees.{same_tree}
 use Rattle.cpg_expand.proofs.sending.freed.Goals as goal
 
 -- the tree has the faults of the chooser, and forks on the graph's variables alone

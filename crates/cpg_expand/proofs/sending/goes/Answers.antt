@@ -1,7 +1,7 @@
 -- Proof of `goes`: a tree that is true where an item is sent, given where its producer is active.
 use Rattle.std.proofs.Common.{◌∙◌, sym}
 use Rattle.cpg_tree.specs.Variables.{is_variable}
-use Rattle.cpg_expand.proofs.GuardTrees.{same_tree}
+use Rattle.cpg_tree.proofs.GraphTrees.{same_tree}
 use Rattle.cpg_expand.proofs.Goes.{goes_message, goes_other}
 use Rattle.cpg_expand.proofs.sending.goes.Goals as goal
 

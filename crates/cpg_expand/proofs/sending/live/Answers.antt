@@ -1,7 +1,7 @@
 -- Proof of `live`: a tree that is true where an edge is live, given where its source is active.
 use Rattle.std.proofs.Common.{◌∙◌, sym}
 use Rattle.cpg_tree.specs.Variables.{is_variable}
-use Rattle.cpg_expand.proofs.GuardTrees.{same_tree}
+use Rattle.cpg_tree.proofs.GraphTrees.{same_tree}
 use Rattle.cpg_expand.proofs.Goes.{live_simple, live_tested}
 use Rattle.cpg_expand.proofs.sending.live.Goals as goal
 

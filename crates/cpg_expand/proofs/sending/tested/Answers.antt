@@ -3,7 +3,8 @@ use Rattle.std.proofs.Common.{◌+◌, false, subst}
 use Rattle.cpg_base.specs.Scenario.{number_of_value}
 use Rattle.cpg_tree.specs.Tree.{IsConstant, IsNumber}
 use Rattle.cpg_tree.specs.Variables.{is_variable}
-use Rattle.cpg_expand.proofs.GuardTrees.{tested_valued, same_tree, value_passes}
+use Rattle.cpg_expand.proofs.GuardTrees.{tested_valued, value_passes}
+use Rattle.cpg_tree.proofs.GraphTrees.{same_tree}
 use Rattle.cpg_expand.proofs.sending.tested.Goals as goal
 
 -- the tree that is picked has the faults and variables of the graph, as its parts have

@@ -2,7 +2,8 @@
 use Rattle.std.proofs.Common.{None, subst}
 use Rattle.cpg_tree.specs.Tree.{IsConstant}
 use Rattle.cpg_tree.specs.Variables.{is_variable}
-use Rattle.cpg_expand.proofs.GuardTrees.{sent_valued, sent_always, same_tree}
+use Rattle.cpg_expand.proofs.GuardTrees.{sent_valued, sent_always}
+use Rattle.cpg_tree.proofs.GraphTrees.{same_tree}
 use Rattle.cpg_expand.proofs.sending.unfrozen_sent.Goals as goal
 
 -- the tree has the faults of the chooser, and forks on the graph's variables alone

@@ -1,7 +1,7 @@
 -- Proof of `freeze`: sets the latest time of an item as its frozen time, if there is one, and gives the tree of that
 -- one time.
 use Rattle.cpg_tree.specs.Variables.{is_variable}
-use Rattle.cpg_expand.proofs.GuardTrees.{same_tree}
+use Rattle.cpg_tree.proofs.GraphTrees.{same_tree}
 use Rattle.cpg_expand.proofs.starting.freeze.Goals as goal
 
 -- the tree has the faults of the graph and tests variables of the graph alone

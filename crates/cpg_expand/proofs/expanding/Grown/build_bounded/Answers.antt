@@ -7,7 +7,7 @@ use Rattle.cpg_run.specs.Found.{AreRowsFound, DoRowsFit}
 use Rattle.cpg_run.proofs.BuiltTables.{admitted_under}
 use Rattle.cpg_table.specs.Table.{Row}
 use Rattle.cpg_expand.specs.Forest.{ForestState}
-use Rattle.cpg_expand.specs.MadeRows.{AreRowsOf}
+use Rattle.cpg_tree_columns.specs.MadeRows.{AreRowsOf}
 use Rattle.cpg_expand.proofs.GrownRows.{grown_rows_found, said_of}
 use Rattle.cpg_expand.proofs.WideRowsMade.{named_least, rows_fit}
 use Rattle.cpg_expand.specs.Large.{ShowsLarge}

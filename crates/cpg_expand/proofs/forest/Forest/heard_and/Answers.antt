@@ -4,10 +4,11 @@ use Rattle.cpg_base.specs.Bus.{slot_length}
 use Rattle.cpg_base.specs.Graph.{home, node_of}
 use Rattle.cpg_tree.specs.Read.{later_by}
 use Rattle.cpg_tree.specs.Variables.{is_variable}
-use Rattle.cpg_expand.specs.Agreeing.{IsTree}
+use Rattle.cpg_tree.specs.GraphTrees.{IsTree}
 use Rattle.cpg_expand.specs.Forest.{ForestState, ends_of, later_tree, times_of}
 use Rattle.cpg_expand.specs.Later.{IsLatest}
-use Rattle.cpg_expand.proofs.GuardTrees.{ends_read, ends_tree, heard_other, heard_own, read_and_valued, same_tree}
+use Rattle.cpg_expand.proofs.GuardTrees.{ends_read, ends_tree, heard_other, heard_own, read_and_valued}
+use Rattle.cpg_tree.proofs.GraphTrees.{same_tree}
 use Rattle.cpg_expand.proofs.GuardTrees.{times_read, times_tree}
 use Rattle.cpg_expand.proofs.forest.Forest.heard_and.Goals as goal
 

@@ -3,11 +3,12 @@ use Rattle.std.proofs.Common.{◌<◌, ◌≡◌, refl, sym, subst}
 use Rattle.cpg_base.specs.Graph.{process_count}
 use Rattle.cpg_tree.specs.Tree.{TreeState}
 use Rattle.cpg_tree.specs.Variables.{is_variable}
-use Rattle.cpg_expand.specs.Agreeing.{IsTree}
+use Rattle.cpg_tree.specs.GraphTrees.{IsTree}
 use Rattle.cpg_expand.specs.Forest.{ForestState, IsWait, ends_of, later_tree, ready_by}
 use Rattle.cpg_expand.specs.Later.{IsLatest}
 use Rattle.cpg_expand.specs.declared.forest.Ready.{Ready}
-use Rattle.cpg_expand.proofs.GuardTrees.{ends_read, ends_tree, latest_valued, latest_ends, same_tree}
+use Rattle.cpg_expand.proofs.GuardTrees.{ends_read, ends_tree, latest_valued, latest_ends}
+use Rattle.cpg_tree.proofs.GraphTrees.{same_tree}
 use Rattle.cpg_expand.proofs.forest.Forest.ready_and.Goals as goal
 
 -- the node is ready after the ends of a process: these are read from the forest and joined with the other tree

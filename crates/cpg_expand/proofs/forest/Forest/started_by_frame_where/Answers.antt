@@ -5,12 +5,13 @@ use Rattle.cpg_base.specs.Bus.{slot_length}
 use Rattle.cpg_base.specs.Graph.{home, process_count}
 use Rattle.cpg_tree.specs.Read.{later_by}
 use Rattle.cpg_tree.specs.Variables.{is_variable}
-use Rattle.cpg_expand.specs.Agreeing.{IsTree}
+use Rattle.cpg_tree.specs.GraphTrees.{IsTree}
 use Rattle.cpg_expand.specs.Forest.{ForestState, IsWait, ends_of, ready_by, times_of}
 use Rattle.cpg_expand.specs.Later.{IsReleasedWhere}
 use Rattle.cpg_expand.specs.declared.forest.Ready.{Ready}
 use Rattle.cpg_expand.proofs.StartsWhere.{ends_where, read_where}
-use Rattle.cpg_expand.proofs.GuardTrees.{ends_read, ends_tree, same_tree, times_read, times_tree}
+use Rattle.cpg_expand.proofs.GuardTrees.{ends_read, ends_tree, times_read, times_tree}
+use Rattle.cpg_tree.proofs.GraphTrees.{same_tree}
 use Rattle.cpg_expand.proofs.forest.Forest.started_by_frame_where.Goals as goal
 
 -- the node is ready after the ends of a process: where the process is active, the starts are the latest of these, the

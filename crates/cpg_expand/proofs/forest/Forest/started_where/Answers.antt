@@ -3,10 +3,11 @@
 use Rattle.std.proofs.Common.{ℕ, Option, None, subst}
 use Rattle.cpg_tree.specs.Tree.{TreeState, IsConstant}
 use Rattle.cpg_tree.specs.Variables.{is_variable}
-use Rattle.cpg_expand.specs.Agreeing.{IsTree}
+use Rattle.cpg_tree.specs.GraphTrees.{IsTree}
 use Rattle.cpg_expand.specs.Forest.{ready_by}
 use Rattle.cpg_expand.proofs.StartsWhere.{picked_where}
-use Rattle.cpg_expand.proofs.GuardTrees.{constant_tree, same_tree}
+use Rattle.cpg_expand.proofs.GuardTrees.{constant_tree}
+use Rattle.cpg_tree.proofs.GraphTrees.{same_tree}
 use Rattle.cpg_expand.proofs.forest.Forest.started_where.Goals as goal
 
 -- the starts are picked where the process is active, and elsewhere there is no time

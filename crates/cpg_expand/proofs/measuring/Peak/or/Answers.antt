@@ -1,8 +1,0 @@
--- Proof of `Peak::or`: this peak, or the greatest time of the tree of a later process, if that goes before it.
-use Rattle.cpg_base.specs.Graph.{process_count}
-use Rattle.cpg_base.proofs.Places.{length_order}
-use Rattle.cpg_expand.proofs.measuring.Peak.or.Goals as goal
-
--- an order of the graph has as many places as there are processes
-pub or_time-requires-clause-order : goal.or_time-requires-clause-order
-or_time-requires-clause-order c = length_order (process_count c.args.problem.now) c.args.urgency.now c.requires.order

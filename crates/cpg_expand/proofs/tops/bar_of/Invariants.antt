@@ -1,8 +1,0 @@
--- Loops of `bar_of`: the greatest of the numbers, or 0 if there is none.
-use Rattle.std.proofs.Common.{ℕ, ◌≡◌, Option, drop, fold, map, max, unwrap_or}
-use Rattle.cpg_expand.specs.Tops.{bar_of}
-use Rattle.cpg_expand.proofs.tops.bar_of.Given as goal
-
--- the greatest of all tops is the greatest of `bar` and the tops that are left; a top that is absent counts as 0
-abbrev pub invariant-loop-top : goal.invariant-loop-top
-invariant-loop-top l = bar_of l.tops ≡ fold max l.bar (map (λ (o : Option ℕ). unwrap_or o 0) (drop l.top-index l.tops))

@@ -1,0 +1,189 @@
+-- The peak of times that aren't under the greatest of the tops is the peak of all.
+use Rattle.std.proofs.Common.{ℕ, ◌+◌, ◌-◌, ◌<◌, ◌≤◌, ◌≡◌, ◌⊎◌, nat_lt, List, [], ◌∷◌, ◌++◌, map, length, get_or, Option}
+use Rattle.std.proofs.Common.{Some, None, unwrap_or, All, Contains, arith, sym, ap, ◌∙◌, subst, inl, inr}
+use Rattle.std.proofs.Common.{lt-ltb, le-ltb}
+use Rattle.std.specs.Option.{IfNone, IfSome}
+use Rattle.std.proofs.lemmas.Bool.{cases_lt, cond-true, cond-false}
+use Rattle.std.proofs.lemmas.List.{get_or_append_left, get_or-append_right, get_or_default, length-append, length-map}
+use Rattle.std.proofs.lemmas.List.FromFn.{length-range_with_len}
+use Rattle.std.proofs.lemmas.List.Elements.{All-contains, All-get_or}
+use Rattle.std.proofs.lemmas.Option.{none-some, same_Some}
+use Rattle.cpg_base.specs.Graph.{Graph, process_count}
+use Rattle.cpg_base.specs.Duration.{due}
+use Rattle.cpg_base.specs.Numbers.{numbers_below}
+use Rattle.cpg_base.proofs.Lists.{Contains-map_parts, get_or-map-below, greatest_cases}
+use Rattle.cpg_base.specs.Scenario.{Scenario, IsScenario}
+use Rattle.cpg_tree_columns.specs.Greatest.{IsGreatestNumber}
+use Rattle.cpg_tree.specs.Tree.{Path, TreeState}
+use Rattle.cpg_tree.proofs.Passing.{known_from}
+use Rattle.cpg_tree.specs.GraphTrees.{IsTree}
+use Rattle.cpg_tree.specs.GraphTrees.{no_tree}
+use Rattle.cpg_tree_columns.specs.Peaks.{tree_at, EndsAt, EndsPast, IsPeakBy, IsPeak}
+use Rattle.cpg_tree_columns.specs.Tops.{IsTopOf, AreTops, past_tops, bar_of, IsTop, HasTops, HasFrom}
+use Rattle.cpg_tree_columns.specs.Past.{time_past}
+use Rattle.cpg_tree_columns.specs.declared.measuring.Peak.{Peak}
+
+-- ---- the bar is 0 or some process's
+
+-- the bar is 0, or the top of some process
+bar_cases : (tops : List (Option ℕ)) →
+    (bar_of tops ≡ 0) ⊎ ((q : ℕ) × (q < length tops) × (get_or tops q None ≡ Some (bar_of tops)))
+bar_cases tops = elim (greatest_cases (map (λ o. unwrap_or o 0) tops)) [
+  | inl z ↦ inl z
+  | inr c ↦ let r = Contains-map_parts (λ (o : Option ℕ). unwrap_or o 0) tops (bar_of tops) c in at r.0 r.1 r.2
+]
+  where
+    -- for a top that is the bar: it is one of a process unless it is none
+    at : (o : Option ℕ) → Contains tops o → unwrap_or o 0 ≡ bar_of tops →
+        (bar_of tops ≡ 0) ⊎ ((q : ℕ) × (q < length tops) × (get_or tops q None ≡ Some (bar_of tops)))
+    at None m e = inl (sym e)
+    at (Some t) m e = inr (m.0, m.1, get_or_default tops m.0 None (Some t) m.1 ∙ m.2 ∙ ap Some e)
+
+-- given: the greatest time of each process, and a peak
+-- `n`, `has`: the processes, and the times that each has; `tops`, `count`, `are`: the greatest time of each
+module _ (g : Graph) (urgency : List ℕ) (n : ℕ) (has : ℕ → ℕ → Scenario → Type 0) (tops : List (Option ℕ))
+    (count : length tops ≡ n) (are : HasTops g n has tops) (peak : Peak) where
+  -- if no process has a time from the bar on, none has a time at all
+  none_at_all : (q time : ℕ) (s : Scenario) → q < n → IsScenario g s → has q time s →
+      ((r : ℕ) (other : ℕ) (u : Scenario) → r < n → IsScenario g u → HasFrom (bar_of tops) has r other u → ⊥) → ⊥
+  none_at_all q time s l law h none = elim (bar_cases tops) [
+    | inl z ↦ none q time s l law (record { from = omega (arith, z); is = h })
+    | inr r ↦
+        let within : r.0 < n = omega (arith, r.1, count) in
+        let top : IsTop g (has r.0) (Some (bar_of tops)) = subst (IsTop g (has r.0)) r.2 (are r.0 within) in
+        none r.0 (bar_of tops) top.scenario within top.lawful (record { from = omega arith; is = top.there })
+  ]
+
+  -- the peak of the times from the bar on is that of all, whether some process has it or none
+  by : (o : Option ℕ) → IsPeakBy g urgency n (HasFrom (bar_of tops) has) peak o → IsPeakBy g urgency n has peak o
+  -- no process has a time from the bar on, so none has any
+  by None a = record {
+    time = a.time;
+    scenario = a.scenario;
+    none = λ q time s l law h. none_at_all q time s l law h a.none;
+  }
+  -- the peak is from the bar on, and times under the bar are less
+  by (Some p) a = record {
+    most = λ q time s l law h. elim (cases_lt time (bar_of tops)) [
+      | inl under ↦ omega (arith, under, a.is.from)
+      | inr from ↦ a.most q time s l law (record { from = from; is = h })
+    ];
+    least = record {
+      lawful = a.least.lawful;
+      holds = (a.least.holds.0, a.least.holds.1, a.least.holds.2.is);
+      least = λ t law h. a.least.least t law (h.0, h.1, record { from = a.is.from; is = h.2 });
+    };
+    there = a.there;
+    is = a.is.is;
+    first = λ q l h. a.first q l (record { from = a.is.from; is = h });
+  }
+
+  -- the peak of the times above the greatest of these is the peak of all times
+  pub peak_of_all : IsPeak g urgency n (HasFrom (bar_of tops) has) peak → IsPeak g urgency n has peak
+  peak_of_all = by peak.process
+
+-- ---- the tops of trees
+
+-- the greatest number that is found in a tree, or none if no path has a time, is its top
+pub top_from : (t : TreeState (Option ℕ)) (o : Option ℕ) → IfNone o (All (λ p. p.1 ≡ None) t.paths) →
+    IfSome o (IsGreatestNumber t) → IsTopOf t o
+top_from t None none some = none
+top_from t (Some m) none some = some
+
+-- given: the trees of all ends, and the greatest number of each
+-- `trees`, `all`: the trees of the ends; `tops`, `are`: the greatest number of each; `count`: there is a tree per
+-- process
+module _ (g : Graph) (processes : process_count g ≤ 128) (trees : List (TreeState (Option ℕ)))
+    (all : All (IsTree g) trees) (tops : List (Option ℕ)) (are : AreTops trees (length trees) tops)
+    (count : length trees ≡ process_count g) where
+  -- the top of a tree of ends is the greatest end that its process has
+  top_of : (q : ℕ) → IsTree g (tree_at g trees q) → (o : Option ℕ) → IsTopOf (tree_at g trees q) o →
+      IsTop g (EndsAt g trees q) o
+  top_of q tree None none = λ time s law h. none-some time
+      (sym (All-contains (λ (p : Path (Option ℕ)). p.1 ≡ None) (tree_at g trees q).paths h.0 none h.1.stands) ∙ h.2)
+  top_of q tree (Some m) most =
+      let r = most.reached g processes tree.faults (known_from g (tree_at g trees q).paths tree.known) in
+      record {
+        above = λ time s law h. most.above h.0 time h.1.stands h.2;
+        scenario = r.scenario;
+        lawful = r.lawful;
+        there = r.has;
+      }
+
+  -- the tops of the trees of ends are the greatest ends in any scenario
+  pub ends_tops : HasTops g (process_count g) (EndsAt g trees) tops
+  ends_tops q l =
+      let within : q < length trees = omega (arith, l, count) in
+      top_of q (All-get_or (IsTree g) trees q (no_tree g.faults) within all) (get_or tops q None)
+      (are.each q (no_tree g.faults) within)
+
+-- one more top makes the tops of one tree more
+pub tops_more : (trees : List (TreeState (Option ℕ))) (n : ℕ) (tops new : List (Option ℕ)) (tree : TreeState (Option ℕ))
+    (o : Option ℕ) → AreTops trees n tops →
+    n < length trees →
+    ((d : TreeState (Option ℕ)) → get_or trees n d ≡ tree) → IsTopOf tree o → new ≡ tops ++ o ∷ [] →
+    AreTops trees (n + 1) new
+tops_more trees n tops new tree o are within is top more = subst (AreTops trees (n + 1)) (sym more) (record {
+  count = length-append tops (o ∷ []) ∙ ap (λ m. m + 1) are.count;
+  -- the trees so far keep their tops, and the last is of the new tree
+  each = λ q d l. elim (cases_lt q n) [
+    | inl m ↦ subst (IsTopOf (get_or trees q d))
+        (sym (get_or_append_left tops (o ∷ []) None q (omega (arith, m, are.count)))) (are.each q d m)
+    | inr m ↦
+        let e : n ≡ q = omega (arith, l, m) in
+        subst (λ i. IsTopOf (get_or trees i d) (get_or (tops ++ o ∷ []) i None)) e
+        (subst (λ (t : TreeState (Option ℕ)). IsTopOf t (get_or (tops ++ o ∷ []) n None)) (sym (is d))
+        (subst (IsTopOf tree) (sym last) top))
+  ];
+})
+  where
+    -- the last of the tops is the one that is added
+    last : get_or (tops ++ o ∷ []) n None ≡ o
+    last = get_or-append_right tops (o ∷ []) n n None are.count (omega arith)
+        ∙ ap (λ i. get_or (o ∷ []) i None) (let e : n - n ≡ 0 = omega arith in e)
+
+-- ---- how far they are past their dues
+
+-- a time is past its due by as much as it is later
+past_later : (due time x : ℕ) → time_past due (Some time) ≡ Some x → (due < time) × (x ≡ time - due)
+past_later due time x e = elim (cases_lt due time) [
+  | inl l ↦ (l, same_Some _ _ (sym e ∙ cond-true (nat_lt due time) (Some (time - due)) None (lt-ltb due time l)))
+  | inr l ↦ absurd (none-some x (sym (cond-false (nat_lt due time) (Some (time - due)) None (le-ltb due time l)) ∙ e))
+]
+
+module _ (g : Graph) (trees : List (TreeState (Option ℕ))) where
+  -- the top of what is past the dues is the top of the ends, past the due
+  past_top : (q : ℕ) (o : Option ℕ) → IsTop g (EndsAt g trees q) o →
+      IsTop g (EndsPast g trees q) (time_past (due g q) o)
+  -- the process has no end, so none that is past
+  past_top q None is = λ time s law h. is h.0 s law h.1
+  past_top q (Some top) is = elim (cases_lt (due g q) top) [
+    -- its top is past the due
+    | inl l ↦
+        let later : time_past (due g q) (Some top) ≡ Some (top - due g q) =
+        cond-true (nat_lt (due g q) top) (Some (top - due g q)) None (lt-ltb (due g q) top l) in
+        subst (IsTop g (EndsPast g trees q)) (sym later) (record {
+          above = λ time s law h. let past = past_later (due g q) h.0 time h.2 in
+              omega (arith, past.1, is.above h.0 s law h.1);
+          scenario = is.scenario;
+          lawful = is.lawful;
+          there = (top, is.there, later);
+        })
+    -- its top isn't past the due, and no other end is
+    | inr l ↦ subst (IsTop g (EndsPast g trees q))
+        (sym (cond-false (nat_lt (due g q) top) (Some (top - due g q)) None (le-ltb (due g q) top l)))
+        (λ time s law h. let past = past_later (due g q) h.0 time h.2 in
+        absurd (omega (arith, past.0, l, is.above h.0 s law h.1)))
+  ]
+
+  -- the tops of what is past the dues are those of the ends, past the dues
+  pub past_tops_are : (tops : List (Option ℕ)) → HasTops g (process_count g) (EndsAt g trees) tops →
+      HasTops g (process_count g) (EndsPast g trees) (past_tops g tops)
+  past_tops_are tops are q l = subst (IsTop g (EndsPast g trees q))
+      (sym (get_or-map-below (λ p. time_past (due g p) (get_or tops p None)) (process_count g) q None l))
+      (past_top q (get_or tops q None) (are q l))
+
+-- there is a top for each process
+pub past_count : (g : Graph) (tops : List (Option ℕ)) → length (past_tops g tops) ≡ process_count g
+past_count g tops = length-map (numbers_below (process_count g)) (λ q. time_past (due g q) (get_or tops q None))
+    ∙ length-range_with_len 0 (process_count g)

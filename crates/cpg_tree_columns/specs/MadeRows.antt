@@ -1,0 +1,51 @@
+-- The rows that are made of trees.
+use Rattle.std.specs.Prelude.{ℕ, ◌≡◌, ◌<◌, ◌≤◌, List, Option, length, get_or, All, IsPermutation}
+use Rattle.cpg_base.specs.Graph.{Graph, item_count, process_count}
+use Rattle.cpg_cube.specs.Keys.{AreByLows}
+use Rattle.cpg_merging.specs.Merged.{IsMergeOf}
+use Rattle.cpg_table.specs.Table.{Row}
+use Rattle.cpg_cube.specs.declared.column.Column.{Column}
+use Rattle.cpg_tree.specs.Tree.{TreeState, HasOnePathEach}
+use Rattle.cpg_tree.specs.GraphTrees.{no_tree}
+use Rattle.cpg_tree_columns.specs.Columns.{columns_of_paths, IsTidyColumn}
+
+-- the columns that a tree lists, in any order
+pub record AreListedOf (g : Graph) (t : TreeState (Option ℕ)) (columns : List Column) : Type 0 where
+  -- the tree has one path for each scenario
+  pub each : HasOnePathEach g.faults t.paths
+  -- there is a column for each path that has a time
+  pub all : IsPermutation (columns_of_paths t.paths) columns
+  pub tidy : All (IsTidyColumn g) columns
+
+-- the columns of a tree, by their least scenarios
+pub record AreEntriesOf (g : Graph) (urgency : List ℕ) (t : TreeState (Option ℕ)) (entries : List Column) : Type 0 where
+  -- the columns that the tree lists
+  pub are : AreListedOf g t entries
+  -- they stand by their least scenarios
+  pub by_lows : AreByLows (λ (c : Column). c.cube) g urgency entries
+
+-- the columns of a tree, merged
+pub record AreMergedOf (g : Graph) (urgency : List ℕ) (t : TreeState (Option ℕ)) (entries : List Column) : Type 0 where
+  -- the columns that the tree lists, in any order
+  pub columns : List Column
+  pub are : AreListedOf g t columns
+  -- the row has them merged
+  pub merge : IsMergeOf g urgency columns entries
+
+-- the row of an item, merged if it is a start
+pub record IsRowOf (g : Graph) (urgency : List ℕ) (t : TreeState (Option ℕ)) (x : ℕ) (row : Row) : Type 0 where
+  pub item : row.item ≡ x
+  -- the columns of a start are merged
+  pub start : x < process_count g → AreMergedOf g urgency t row.columns
+  -- the columns of what is sent are those that the tree lists
+  pub send : process_count g ≤ x → AreEntriesOf g urgency t row.columns
+
+-- by number the rows of the first n items, each by its tree
+pub record AreFirstRows (g : Graph) (urgency : List ℕ) (times : List (TreeState (Option ℕ))) (n : ℕ)
+    (rows : List Row) : Type 0 where
+  pub count : length rows ≡ n
+  pub each : (x : ℕ) (row : Row) → x < n → IsRowOf g urgency (get_or times x (no_tree g.faults)) x (get_or rows x row)
+
+-- by number the rows of all items, each by its tree
+abbrev pub AreRowsOf : Graph → List ℕ → List (TreeState (Option ℕ)) → List Row → Type 0
+AreRowsOf g urgency times rows = AreFirstRows g urgency times (item_count g) rows

@@ -1,0 +1,19 @@
+-- Proof of `started_of`: the times of a tree later by a delay, those of another one, or a release, whichever are later,
+-- as starts in all scenarios.
+use Rattle.std.proofs.Common.{◌≡◌, max, Some, rules}
+use Rattle.cpg_tree.specs.Tree.{IsJoin}
+use Rattle.cpg_tree.proofs.Forks.{of_answer}
+use Rattle.cpg_tree.specs.Later.{time_later}
+use Rattle.cpg_tree_times.proofs.values.started_of.Goals as goal
+
+-- each start is the later of the two trees' times, or the release if that is later
+pub returns-clause-is : goal.returns-clause-is
+returns-clause-is c =
+    of_answer c.greater_of.result _
+    (IsJoin (λ x y z. z ≡ Some (max (max (time_later c.args.delay x) (time_later 0 y)) c.args.release))
+    c.args.tree.now c.args.other.now) c.greater_of.ensures.is
+    (λ r made. record {
+      faults = made.faults;
+      value = λ s x y z few on_x on_y on_z. let h = made.value s x y z few on_x on_y on_z in search rules;
+      ranges = made.ranges;
+    })

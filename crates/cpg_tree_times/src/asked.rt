@@ -1,0 +1,170 @@
+//! Two spaces at once: the scenarios that are asked for, and those that come to a place of a tree.
+ghost use Rattle.std.specs.Prelude.{◌≡◌, ◌≤◌, ◌<◌, true};
+ghost use Rattle.cpg_base.specs.Scenario.{Scenario, number_of};
+ghost use Rattle.cpg_tree_times.specs.Asked.{IsWay, IsInBothSpaces, lowered, raised_back};
+ghost use Rattle.cpg_tree.specs.Space.{above_cut, below_cut, is_open_above, is_open_below};
+
+use cpg_tree::{Lifted, Space};
+
+/// The scenarios that are asked for, and those that the forks on the way to a place of a tree leave.
+#[derive(Clone, Copy)]
+pub(crate) struct SpacePair {
+    pub(crate) asked: Space,
+    pub(crate) walked: Space,
+}
+
+/// The greatest numbers of a variable in both spaces.
+#[derive(Clone, Copy)]
+pub(crate) struct Highs {
+    /// The high in the space asked for.
+    asked: u8,
+    /// The high in the space walked.
+    walked: u8,
+}
+
+/// The lows of a variable in both spaces, with the faults that were left.
+#[derive(Clone, Copy)]
+pub(crate) struct Lows {
+    /// The low in the space asked for.
+    asked: Lifted,
+    /// The low in the space walked.
+    walked: Lifted,
+}
+
+/// Where the scenarios asked for go at a fork, with what takes the spaces back to what they were.
+#[derive(Clone, Copy)]
+pub(crate) enum Way {
+    /// All below it.
+    Below(Highs),
+    /// All above it.
+    Above(Lows),
+    /// Both ways, as far as the spaces show.
+    Both,
+}
+
+impl SpacePair {
+    /// Leaves the scenarios up to a cut, and returns the highs that it had.
+    pub(crate) fn close_above(&mut self, variable: u8, cut: u8) -> Highs
+        ensures asked { self.new.asked ≡ below_cut self.old.asked variable cut }
+        ensures back { lowered self.new variable result ≡ self.old }
+        ensures lies { (s : Scenario) → IsInBothSpaces self.old s → number_of s variable ≤ cut → IsInBothSpaces self.new s }
+    {
+        Highs {
+            asked: self.asked.close_above(variable, cut),
+            walked: self.walked.close_above(variable, cut),
+        }
+    }
+
+    /// Gives the highs back.
+    pub(crate) fn reopen_above(&mut self, variable: u8, highs: Highs)
+        ensures { self.new ≡ lowered self.old variable highs }
+    {
+        self.asked.reopen_above(variable, highs.asked);
+        self.walked.reopen_above(variable, highs.walked);
+    }
+
+    /// Leaves the scenarios above a cut, and returns the lows that it had.
+    pub(crate) fn close_below(&mut self, variable: u8, cut: u8) -> Lows
+        requires below { is_open_below self.old.asked variable cut ≡ true }
+        requires above { is_open_above self.old.asked variable cut ≡ true }
+        requires walked_below { is_open_below self.old.walked variable cut ≡ true }
+        requires walked_above { is_open_above self.old.walked variable cut ≡ true }
+        ensures asked { self.new.asked ≡ above_cut self.old.asked variable cut }
+        ensures back { raised_back self.new variable result ≡ self.old }
+        ensures lies { (s : Scenario) → IsInBothSpaces self.old s → cut < number_of s variable → IsInBothSpaces self.new s }
+    {
+        Lows {
+            asked: self.asked.close_below(variable, cut),
+            walked: self.walked.close_below(variable, cut),
+        }
+    }
+
+    /// Gives the lows back.
+    pub(crate) fn reopen_below(&mut self, variable: u8, lows: Lows)
+        ensures { self.new ≡ raised_back self.old variable lows }
+    {
+        self.asked.reopen_below(variable, lows.asked);
+        self.walked.reopen_below(variable, lows.walked);
+    }
+
+    /// Asks only for the scenarios up to a cut, and returns the highs that it had.
+    pub(crate) fn ask_below(&mut self, variable: u8, cut: u8) -> Highs
+        ensures asked { self.new.asked ≡ below_cut self.old.asked variable cut }
+        ensures back { lowered self.new variable result ≡ self.old }
+        ensures lies { (s : Scenario) → IsInBothSpaces self.old s → number_of s variable ≤ cut → IsInBothSpaces self.new s }
+    {
+        Highs {
+            asked: self.asked.close_above(variable, cut),
+            walked: self.walked.highest(variable),
+        }
+    }
+
+    /// Asks only for the scenarios above a cut, and returns the lows that it had.
+    pub(crate) fn ask_above(&mut self, variable: u8, cut: u8) -> Lows
+        requires below { is_open_below self.old.asked variable cut ≡ true }
+        requires above { is_open_above self.old.asked variable cut ≡ true }
+        ensures asked { self.new.asked ≡ above_cut self.old.asked variable cut }
+        ensures back { raised_back self.new variable result ≡ self.old }
+        ensures lies { (s : Scenario) → IsInBothSpaces self.old s → cut < number_of s variable → IsInBothSpaces self.new s }
+    {
+        Lows {
+            asked: self.asked.close_below(variable, cut),
+            walked: self.walked.lowest(variable),
+        }
+    }
+
+    /// Walks only the scenarios up to a cut, and returns the highs that it had.
+    fn walk_below(&mut self, variable: u8, cut: u8) -> Highs
+        ensures asked { self.new.asked ≡ self.old.asked }
+        ensures back { lowered self.new variable result ≡ self.old }
+        ensures lies { (s : Scenario) → IsInBothSpaces self.old s → number_of s variable ≤ cut → IsInBothSpaces self.new s }
+    {
+        Highs {
+            asked: self.asked.highest(variable),
+            walked: self.walked.close_above(variable, cut),
+        }
+    }
+
+    /// Walks only the scenarios above a cut, and returns the lows that it had.
+    fn walk_above(&mut self, variable: u8, cut: u8) -> Lows
+        requires below { is_open_below self.old.walked variable cut ≡ true }
+        requires above { is_open_above self.old.walked variable cut ≡ true }
+        ensures asked { self.new.asked ≡ self.old.asked }
+        ensures back { raised_back self.new variable result ≡ self.old }
+        ensures lies { (s : Scenario) → IsInBothSpaces self.old s → cut < number_of s variable → IsInBothSpaces self.new s }
+    {
+        Lows {
+            asked: self.asked.lowest(variable),
+            walked: self.walked.close_below(variable, cut),
+        }
+    }
+
+    /// Where the scenarios asked for go at a fork. If they all go one way, only those that go there are walked from now on.
+    pub(crate) fn way(&mut self, variable: u8, cut: u8) -> Way
+        ensures { IsWay self.old self.new variable cut result }
+    {
+        // the forks on the way leave only numbers above the cut, so both spaces stay as they are
+        if !self.walked.is_open_below(variable, cut) {
+            return Way::Above(Lows {
+                asked: self.asked.lowest(variable),
+                walked: self.walked.lowest(variable),
+            });
+        }
+        // they leave only numbers up to the cut
+        if !self.walked.is_open_above(variable, cut) {
+            return Way::Below(Highs {
+                asked: self.asked.highest(variable),
+                walked: self.walked.highest(variable),
+            });
+        }
+        // all scenarios asked for go above, so only those above are walked
+        if !self.asked.is_open_below(variable, cut) {
+            return Way::Above(self.walk_above(variable, cut));
+        }
+        // all scenarios asked for go below
+        if !self.asked.is_open_above(variable, cut) {
+            return Way::Below(self.walk_below(variable, cut));
+        }
+        Way::Both
+    }
+}
