@@ -5,6 +5,7 @@ ghost use Rattle.cpg_base.specs.Graph.{process_count, condition_count, condition
 ghost use Rattle.cpg_base.specs.Bus.{round};
 ghost use Rattle.cpg_base.specs.Duration.{duration, due};
 ghost use Rattle.cpg_base.specs.Limits.{IsWithinLimits, IsOrderWithin};
+ghost use Rattle.cpg_base.specs.Parts.{HasPartsWithin};
 
 use crate::conditions::Conditions;
 use crate::limits::{
@@ -76,6 +77,53 @@ fn are_counts_within(
     processes <= MOST_PROCESSES && edges <= MOST_EDGES
 }
 
+/// Whether the parts of a graph that gives no order are within the limits, but for the number of its conditions.
+fn are_parts_within(
+    faults: u8,
+    deadline: u64,
+    nodes: &[Name],
+    slots: &[Slot],
+    processes: &[Process],
+    edges: &[Edge],
+) -> bool
+    ensures { IsTrue result ↔ HasPartsWithin (record {
+      faults = faults;
+      deadline = deadline;
+      nodes = nodes.now;
+      slots = slots.now;
+      processes = processes.now;
+      edges = edges.now;
+      order = None;
+    }) }
+{
+    if !are_counts_within(
+        faults,
+        deadline,
+        nodes.len(),
+        slots.len(),
+        processes.len(),
+        edges.len(),
+    ) {
+        return false;
+    }
+    if !are_processes_within(processes, nodes.len()) {
+        return false;
+    }
+    if !are_slots_within(slots, nodes.len()) {
+        return false;
+    }
+    if !are_edges_within(edges, processes.len()) {
+        return false;
+    }
+    if !are_names_apart(nodes) {
+        return false;
+    }
+    if !are_processes_apart(processes) {
+        return false;
+    }
+    are_slots_apart(slots)
+}
+
 /// The length of a round of these slots.
 fn round_of(slots: &[Slot]) -> u64
     requires { sum_by (λ s. s.length) slots.now < 2 ^ 64 }
@@ -114,32 +162,14 @@ impl Problem {
           order = None;
         })) }
     {
-        if !are_counts_within(
+        if !are_parts_within(
             faults,
             deadline,
-            nodes.len(),
-            slots.len(),
-            processes.len(),
-            edges.len(),
+            nodes.as_slice(),
+            slots.as_slice(),
+            processes.as_slice(),
+            edges.as_slice(),
         ) {
-            return None;
-        }
-        if !are_processes_within(processes.as_slice(), nodes.len()) {
-            return None;
-        }
-        if !are_slots_within(slots.as_slice(), nodes.len()) {
-            return None;
-        }
-        if !are_edges_within(edges.as_slice(), processes.len()) {
-            return None;
-        }
-        if !are_names_apart(nodes.as_slice()) {
-            return None;
-        }
-        if !are_processes_apart(processes.as_slice()) {
-            return None;
-        }
-        if !are_slots_apart(slots.as_slice()) {
             return None;
         }
         let Some(conditions) = Conditions::of(processes.len(), edges.as_slice()) else {

@@ -21,3 +21,4 @@ pub mod Taking
 pub mod Fronts
 pub mod Rests
 pub mod Blocks
+pub mod Turns

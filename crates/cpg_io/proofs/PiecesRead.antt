@@ -1,8 +1,12 @@
 -- A piece is read of the fetch before.
-use Rattle.std.proofs.Common.{ℕ, ◌≡◌, ◌∙◌, ◌||◌, true, List, ◌∷◌, ◌++◌, ap, drop, length}
-use Rattle.std.specs.Prelude.{Result, Ok, Err}
+use Rattle.std.proofs.Common.{ℕ, ◌+◌, ◌<◌, ◌≡◌, ◌∙◌, ◌||◌, true, false, List, [], ◌∷◌, ◌++◌, Option, Some, None, ap, ap₂, arith}
+use Rattle.std.proofs.Common.{drop, take, length, length-append, refl, subst, sym}
+use Rattle.std.specs.Prelude.{Result, Ok, Err, IfSome}
+use Rattle.std.specs.Io.KnownBytes.{Consumes}
+use Rattle.std.proofs.KnownBytes.{Consumes-trans}
+use Rattle.std.proofs.lemmas.List.{take-append-drop}
 use Rattle.cpg_history.specs.Fetch.{Fetch, failed, gave, is_none}
-use Rattle.cpg_io.specs.Reading.{GivesPiece}
+use Rattle.cpg_io.specs.Reading.{GivesPiece, ReadsOn}
 use Rattle.cpg_io.specs.declared.reading.ReadAll.{ReadAll}
 use Rattle.cpg_io.specs.declared.reading.ReadAll.TheVariants.{Failed, TooLong, OutOfMemory}
 
@@ -23,3 +27,36 @@ one_fetch limit past now mid f is old new (Err Failed) given = (record f { faile
 one_fetch limit past now mid f is old new (Err TooLong) given = gave_more given.2.piece past now mid f is given.2.gave
 one_fetch limit past now mid f is old new (Err OutOfMemory) given =
     gave_more given.2.piece past now mid f is given.2.gave
+
+-- the bytes read before and the piece are all that is read
+joined : (left left' : Option (List ℕ)) (old new : List ℕ) (n : ℕ) → ReadsOn left left' old new n →
+    old ++ drop (length old) new ≡ new
+joined left left' old new n read =
+    ap (λ (t : List ℕ). t ++ drop (length old) new) (sym read.kept) ∙ take-append-drop (length old) new
+
+-- what was read and what is left are still the whole, if a piece more is read
+pub read_on : (stands left left' : Option (List ℕ)) (old new : List ℕ) (n : ℕ) →
+    IfSome stands (λ whole. Consumes (Some whole) left old) → ReadsOn left left' old new n →
+    IfSome stands (λ whole. Consumes (Some whole) left' new)
+read_on None left left' old new n came read = tt
+read_on (Some whole) left left' old new n came read =
+    subst (λ (bs : List ℕ). Consumes (Some whole) left' bs) (joined left left' old new n read)
+    (Consumes-trans (Some whole) left left' old (drop (length old) new) came read.taken)
+
+-- a piece of some bytes isn't the end
+some_bytes : (piece : List ℕ) → 0 < length piece → is_none piece ≡ false
+some_bytes [] some = absurd (omega (arith, some))
+some_bytes (x ∷ xs) some = refl
+
+-- the newest fetch has given the bytes that were read, if a piece of some bytes more is read
+pub given_on : (name : List ℕ) (left left' : Option (List ℕ)) (past mid now : List Fetch) (old new : List ℕ) (n : ℕ) →
+    mid ≡ record { name = name; given = old; ended = false; failed = false } ∷ past →
+    ReadsOn left left' old new n → now ≡ gave (drop (length old) new) mid → 0 < n →
+    now ≡ record { name = name; given = new; ended = false; failed = false } ∷ past
+given_on name left left' past mid now old new n before read more some =
+    let piece = drop (length old) new in
+    let both = joined left left' old new n read in
+    let count : 0 < length piece = omega (arith, some, read.long, length-append old piece, ap length both) in
+    more ∙ ap (gave piece) before
+    ∙ ap₂ (λ bs e. record { name = name; given = bs; ended = e || false; failed = false } ∷ past) both
+    (some_bytes piece count)

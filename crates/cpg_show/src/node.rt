@@ -9,11 +9,11 @@ ghost use Rattle.cpg_show.specs.Sheet.{part_text, sheet_text};
 use crate::sheet::{Sheet, SheetPart, write_sheet};
 use cpg_base::OutOfMemory;
 use cpg_codec::WriteFault;
-use cpg_tree_columns::RowSource;
 use cpg_head::Head;
 use cpg_io::Sink;
 use cpg_label::{Labels, write_act, write_heard};
 use cpg_table::{NodeTable, Row, Tables};
+use cpg_tree_columns::RowSource;
 use std::alloc::Global;
 
 /// The line of what a node starts or sends.

@@ -13,10 +13,10 @@ ghost use Rattle.cpg_table.specs.Writing.{row_for};
 use crate::sheet::{Sheet, SheetPart, write_sheet};
 use cpg_base::{Item, Order, OutOfMemory, Problem};
 use cpg_codec::WriteFault;
-use cpg_tree_columns::{MadeRow, RowSource};
 use cpg_io::Sink;
 use cpg_label::{Labels, write_act};
 use cpg_rules::Admitted;
+use cpg_tree_columns::{MadeRow, RowSource};
 use std::alloc::{AllocError, Global};
 
 /// Whether an item is started or sent.

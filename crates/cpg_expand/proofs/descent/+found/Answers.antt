@@ -139,3 +139,28 @@ returns-in_err-few-in-Test-clause-fault g t c =
     (c.in_ok-tree-in-Test.ensures.fits c.in-Test.no.now c.in-Test.yes.now low.1 high.1)
     (named_as (IsLarge c.in_ok-tree-in-Test.tree) c.wide.result (g.D.Descent.wide c.args.descent.now)
     c.in_err-few-in-Test.field-0.0 c.wide.ensures c.in_err-few-in-Test.ensures))
+
+-- the tree of the leaf fits the guard, so with it all trees that are kept fit theirs
+pub returns-in_ok-source-in-Leaf-clause-known : goal.returns-in_ok-source-in-Leaf-clause-known
+returns-in_ok-source-in-Leaf-clause-known g t c =
+    added_known (g.D.Descent.made c.args.descent.now) (g.D.Descent.fits c.args.descent.now) c.args.known.now.items
+    c.keep.new.known.items c.args.guard.now c.in_ok-tree-in-Leaf.tree c.in_ok-source-in-Leaf.source c.requires.known
+    c.in_ok-tree-in-Leaf.ensures.made
+    (subst (λ (h : Guard). g.D.Descent.fits c.args.descent.now h c.in_ok-tree-in-Leaf.tree) (sym c.in-Leaf.ensures)
+    c.in_ok-tree-in-Leaf.ensures.fits) c.in_ok-source-in-Leaf.ensures
+
+-- the leaf drops no tree that is kept
+pub returns-in_ok-source-in-Leaf-clause-kept : goal.returns-in_ok-source-in-Leaf-clause-kept
+returns-in_ok-source-in-Leaf-clause-kept g t c =
+    added_kept (g.D.Descent.made c.args.descent.now) (g.D.Descent.fits c.args.descent.now) c.args.known.now.items
+    c.keep.new.known.items c.args.guard.now c.in_ok-tree-in-Leaf.tree c.in_ok-source-in-Leaf.source
+    c.in_ok-source-in-Leaf.ensures
+
+-- the tree of the leaf fits the guard, and it is the one that is added
+pub returns-in_ok-source-in-Leaf-clause-found : goal.returns-in_ok-source-in-Leaf-clause-found
+returns-in_ok-source-in-Leaf-clause-found g t c =
+    added_found (g.D.Descent.made c.args.descent.now) (g.D.Descent.fits c.args.descent.now) c.args.known.now.items
+    c.keep.new.known.items c.args.guard.now c.in_ok-tree-in-Leaf.tree c.in_ok-source-in-Leaf.source
+    c.in_ok-tree-in-Leaf.ensures.made
+    (subst (λ (h : Guard). g.D.Descent.fits c.args.descent.now h c.in_ok-tree-in-Leaf.tree) (sym c.in-Leaf.ensures)
+    c.in_ok-tree-in-Leaf.ensures.fits) c.in_ok-source-in-Leaf.ensures

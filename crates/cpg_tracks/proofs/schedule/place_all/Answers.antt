@@ -80,6 +80,20 @@ index-requires c =
     c.next.ensures c.in-Some.is in
     omega (arith, next.0.fed.within, durations_long g c.in_ok-timing.timing c.in_ok-timing.ensures.timing)
 
+-- the chosen process has a place among the starts
+pub index_mut-requires : goal.index_mut-requires
+index_mut-requires c =
+    let g = c.args.problem.now in
+    let o = c.args.track.now.outcome in
+    let s = c.loop-placed.starts.items in
+    let f = c.loop-placed.free.items in
+    let h = c.loop-placed.invariant.placed in
+    let next = chosen_of g o s f c.as_slice-in-loop-placed.result.now c.loop-placed.fed.items
+    c.as_slice-in-loop-placed-2.result.now c.next.result (Some c.in-Some.chosen)
+    c.as_slice-in-loop-placed.ensures.value c.as_slice-in-loop-placed-2.ensures.value h.free c.loop-placed.invariant.fed
+    c.next.ensures c.in-Some.is in
+    omega (arith, next.0.fed.within, h.placing.count, c.loop-placed.starts.ok.0)
+
 -- the end of the chosen process fits a number of 64 bits
 pub overflow_add-end : goal.overflow_add-end
 overflow_add-end c =
