@@ -1,4 +1,4 @@
-//! What each command does with what its files say.
+//! The work of each command on what its files say: it gives the output, or the halt of the run.
 ghost use Rattle.std.specs.Prelude.{◌≡◌, ◌<◌, IfErr, IfOk, IfSome, List, length};
 ghost use Rattle.std.specs.Str.{bytes_eq};
 ghost use Rattle.cpg_log.specs.Log.{IsLog};
@@ -7,6 +7,7 @@ ghost use Rattle.cpg_words.specs.declared.command.Command.{Command};
 ghost use Rattle.cpg_inputs.specs.declared.inputs.Inputs.{Inputs};
 ghost use Rattle.cpg_inputs.specs.Inputs.{AreFit, AreInputs};
 ghost use Rattle.cpg_inputs.specs.Says.{Value};
+ghost use Rattle.cpg_app.specs.declared.output.Output.{Output};
 ghost use Rattle.cpg_app.specs.Causes.{first_named, IsUncompiled, OrMemory, StopsNaming, StopsVerdict, StopsWork};
 ghost use Rattle.cpg_app.specs.Outputs.{packed, shown, Answers, AreJudgedSafe, IsAuditedText, IsMadeOf, IsNodeText, IsPlayedText, IsSafeText, Opens, Puts};
 
@@ -33,48 +34,52 @@ use cpg_words::Word;
 use std::alloc::Global;
 use std::mem::forget;
 
-/// The table text of an admitted graph, by the rows of its tables, which aren't assembled.
+/// Compiles an admitted graph. Its tables can be written as a text and as a pack. A halt says why it isn't compiled.
+fn made_of(alloc: Global, admitted: Admitted) -> Result<Made, Halt>
+    ensures text { IfOk result (λ made. Puts (Output.Table made) (IsMadeOf admitted shown)) }
+    ensures pack { IfOk result (λ made. Puts (Output.Pack made) (IsMadeOf admitted packed)) }
+    ensures halt { IfErr result (IsUncompiled admitted) }
+{
+    // its contract also says that the graph is admitted
+    let graph = admitted.problem();
+    head_is_lawful(graph);
+    match compile_rows(alloc, &admitted) {
+        Ok(rows) => Ok(Made { admitted, rows }),
+        Err(fault) => Err(halt_of_compile(admitted, fault)),
+    }
+}
+
+/// Compiles an admitted graph, whose tables are to be written as a text. A halt says why it isn't compiled.
 fn text_of(alloc: Global, admitted: Admitted) -> Result<Output, Halt>
     ensures text { IfOk result (λ o. Puts o (IsMadeOf admitted shown)) }
     ensures halt { IfErr result (IsUncompiled admitted) }
 {
-    // its contract says that the graph is admitted
-    let graph = admitted.problem();
-    head_is_lawful(graph);
-    match compile_rows(alloc, &admitted) {
-        Ok(rows) => Ok(Output::Table(Made { admitted, rows })),
-        Err(fault) => Err(halt_of_compile(admitted, fault)),
-    }
+    let made = made_of(alloc, admitted)?;
+    Ok(Output::Table(made))
 }
 
-/// The pack of an admitted graph, by the rows of its tables, which aren't assembled.
+/// Compiles an admitted graph, whose tables are to be written as a pack. A halt says why it isn't compiled.
 fn pack_of(alloc: Global, admitted: Admitted) -> Result<Output, Halt>
     ensures pack { IfOk result (λ o. Puts o (IsMadeOf admitted packed)) }
     ensures halt { IfErr result (IsUncompiled admitted) }
 {
-    // its contract says that the graph is admitted
-    let graph = admitted.problem();
-    head_is_lawful(graph);
-    match compile_rows(alloc, &admitted) {
-        Ok(rows) => Ok(Output::Pack(Made { admitted, rows })),
-        Err(fault) => Err(halt_of_compile(admitted, fault)),
-    }
+    let made = made_of(alloc, admitted)?;
+    Ok(Output::Pack(made))
 }
 
-/// Checks that tables are valid for an admitted graph, and hands the graph back if they are.
+/// Checks tables for an admitted graph, and hands the graph back if they have its head and keep the ten rules.
+/// Otherwise the halt says why not, or that memory ran out.
 fn judged(alloc: Global, admitted: Admitted, tables: &Tables) -> Result<Admitted, Halt>
     ensures same { IfOk result (λ a. a ≡ admitted) }
     ensures safe { IfOk result (λ _. AreJudgedSafe admitted tables.now) }
     ensures halt { IfErr result (OrMemory (StopsVerdict admitted tables.now)) }
 {
-    // its contract says that the graph is admitted
+    // called for their contracts: the graph is admitted, and the tables are lawful under their head
     let _graph = admitted.problem();
-    // its contract says that the tables are lawful under their head
     let _head = tables.head();
-    // yes: the graph comes back; other: the tables are of another graph; no: a rule is broken
     match check(alloc, &admitted, tables) {
         Ok(Verdict::Yes) => Ok(admitted),
-        // this part of the head differs from the graph
+        // the tables are another graph's: this part of their head differs first
         Ok(Verdict::Other(part)) => Err(Halt::Refused(Refusal::OtherGraph(part))),
         Ok(Verdict::No(fault)) => Err(Halt::Unsafe {
             graph: admitted,
@@ -84,13 +89,14 @@ fn judged(alloc: Global, admitted: Admitted, tables: &Tables) -> Result<Admitted
     }
 }
 
-/// The output when tables are checked for an admitted graph.
+/// Returns the output of a check if tables are safe for an admitted graph. Otherwise the halt says why not, or that
+/// memory ran out.
 fn verdict_of(alloc: Global, admitted: Admitted, tables: Tables) -> Result<Output, Halt>
     ensures text { IfOk result (λ o. Puts o (IsSafeText admitted tables)) }
     ensures halt { IfErr result (OrMemory (StopsVerdict admitted tables)) }
 {
     let judged = judged(alloc, admitted, &tables);
-    // the run ends with the answer, and a drop would visit all columns
+    // the run ends with this output, and a drop would go over all columns
     forget(tables);
     let _admitted = judged?;
     match String::from_str(alloc, "safe\n") {
@@ -99,7 +105,8 @@ fn verdict_of(alloc: Global, admitted: Admitted, tables: Tables) -> Result<Outpu
     }
 }
 
-/// Plays tables after finding them valid.
+/// Returns the text of a play of tables if they are safe for an admitted graph. Otherwise the halt says why not, or
+/// that memory ran out.
 fn play(
     alloc: Global,
     admitted: Admitted,
@@ -111,7 +118,7 @@ fn play(
     ensures text { IfOk result (λ o. Puts o (IsPlayedText admitted tables played.now turns)) }
     ensures halt { IfErr result (OrMemory (StopsVerdict admitted tables)) }
 {
-    // its contract says that the tables are lawful under their head
+    // called for its contract: the tables are lawful under their head
     let _head = tables.head();
     let admitted = judged(alloc, admitted, &tables)?;
     match play_text(alloc, &admitted, tables, played, turns) {
@@ -120,7 +127,8 @@ fn play(
     }
 }
 
-/// Audits a log by tables after finding them valid.
+/// Returns the text of an audit of a log by tables if they are safe for an admitted graph. Otherwise the halt says why
+/// not, or that memory ran out.
 fn audited(alloc: Global, admitted: Admitted, tables: &Tables, log: &Log) -> Result<Output, Halt>
     requires { IsLog admitted.graph log.now }
     ensures text { IfOk result (λ o. Puts o (IsAuditedText admitted tables.now log.now)) }
@@ -133,14 +141,14 @@ fn audited(alloc: Global, admitted: Admitted, tables: &Tables, log: &Log) -> Res
     }
 }
 
-/// Whether a node has a name.
+/// Whether a node's name is this one.
 fn is_named(node: &Name, name: &str) -> bool
     ensures { result ≡ bytes_eq node.now name.now }
 {
     node.as_str() == name
 }
 
-/// The number of the first node of that name.
+/// Returns the number of the first node that has this name, or `None` if no node has it.
 fn first_named(head: &Head, name: &str) -> Option<usize>
     ensures first { result ≡ first_named head.now name.now }
     ensures within { IfSome result (λ node. node < length head.now.nodes) }
@@ -149,25 +157,26 @@ fn first_named(head: &Head, name: &str) -> Option<usize>
     head.nodes().iter().position(|node| is_named(node, name))
 }
 
-/// The text of the table of the first node of that name.
+/// Returns the table of the first node that has this name, to be written as a text. The one halt is that no node has
+/// it.
 fn node_named(tables: Tables, name: &str) -> Result<Output, Halt>
     ensures text { IfOk result (λ o. Puts o (IsNodeText tables name.now)) }
     ensures halt { IfErr result (OrMemory (StopsNaming tables name.now)) }
 {
-    // no node of the tables has the name
     let Some(node) = first_named(tables.head(), name) else {
         return Err(Halt::Refused(Refusal::UnknownNode));
     };
+    // tables have at most 16 nodes, so the cast keeps it
     let node = node as u32;
     Ok(Output::NodeTable { tables, node })
 }
 
-/// The first node of that name, before its stream.
+/// Returns the first node that has this name, which is to follow the stream. A halt says that no node has it, or that
+/// memory ran out.
 fn opened(alloc: Global, tables: Tables, name: &str, stream: Word) -> Result<Output, Halt>
     ensures opens { IfOk result (Opens tables name.now stream) }
     ensures halt { IfErr result (OrMemory (StopsNaming tables name.now)) }
 {
-    // no node of the tables has the name
     let Some(node) = first_named(tables.head(), name) else {
         return Err(Halt::Refused(Refusal::UnknownNode));
     };
@@ -177,15 +186,14 @@ fn opened(alloc: Global, tables: Tables, name: &str, stream: Word) -> Result<Out
     }
 }
 
-/// What a command puts out by a graph alone, or why it stops.
+/// Returns the output of a command that has a graph file alone, or why it stops.
 fn work_on_graph(alloc: Global, graph: Admitted, purpose: Purpose) -> Result<Output, Halt>
-    // for each command and values that these inputs are read from: the output answers the command
+    // whatever command and files the inputs are of, an output answers the command
     ensures output { (command : Command) (values : List Value) → AreInputs command values (Inputs.Graph graph purpose) → IfOk result (Answers command values) }
-    // for each command and values that these inputs are read from: a halt is one of the command, or memory is out
+    // whatever command and files they are of, a halt is one of the command, or says that memory ran out
     ensures halt { (command : Command) (values : List Value) → AreInputs command values (Inputs.Graph graph purpose) →
         IfErr result (OrMemory (StopsWork command values)) }
 {
-    // the one thing in which the three commands differ is what they do with the graph
     match purpose {
         Purpose::Show => text_of(alloc, graph),
         Purpose::Compile => pack_of(alloc, graph),
@@ -193,12 +201,12 @@ fn work_on_graph(alloc: Global, graph: Admitted, purpose: Purpose) -> Result<Out
     }
 }
 
-/// What a command puts out by what its files say, or why it stops.
+/// Returns the output of a command by what its files say, or why it stops.
 pub fn work(alloc: Global, inputs: Inputs) -> Result<Output, Halt>
     requires { AreFit inputs }
-    // for each command and values that these inputs are read from: the output answers the command
+    // whatever command and files the inputs are of, an output answers the command
     ensures output { (command : Command) (values : List Value) → AreInputs command values inputs → IfOk result (Answers command values) }
-    // for each command and values that these inputs are read from: a halt is one of the command, or memory is out
+    // whatever command and files they are of, a halt is one of the command, or says that memory ran out
     ensures halt { (command : Command) (values : List Value) → AreInputs command values inputs → IfErr result (OrMemory (StopsWork command values)) }
 {
     match inputs {

@@ -3,7 +3,7 @@ ghost use Rattle.std.specs.Prelude.{◌≡◌, ◌∷◌, IfNone, IfOk, IfSome};
 ghost use Rattle.cpg_base.specs.Graph.{item_count};
 ghost use Rattle.cpg_table.specs.declared.rule.Rule.{Rule};
 ghost use Rattle.cpg_violation.specs.Heads.{IsHeadFor};
-ghost use Rattle.cpg_violation.specs.Lines.{AreLines};
+ghost use Rattle.cpg_violation.specs.SievedRows.{AreSievedRows};
 ghost use Rattle.cpg_violation.specs.Sure.{AreTimeMarks};
 ghost use Rattle.cpg_violation.specs.Violation.{AllHold, IsFirstOf, row_rules, time_rules};
 ghost use Rattle.cpg_row_trees.specs.Trees.{AreRowTrees};
@@ -17,21 +17,22 @@ use cpg_check_time::{check_time, sift_time};
 use cpg_row_trees::{Places, row_trees};
 use cpg_rules::Admitted;
 use cpg_table::{Fault, Tables};
-use cpg_violation::{HeadPart, SievedLine, TimeMarks, first_difference, lines_of};
+use cpg_violation::{HeadPart, SievedRow, TimeMarks, first_difference, sieved_rows_of};
 use std::alloc::Global;
 
-/// What a check answers.
+/// What a check of tables for a graph answers.
 #[derive(Drop)]
 pub enum Verdict {
     /// The tables are valid for the graph.
     Yes,
-    /// They are another graph's: the first part of the head that differs.
+    /// The head isn't the graph's: this is the first part that differs.
     Other(HeadPart),
-    /// A rule is broken: the first violation, by rule, item and column, with its least scenario.
+    /// The head is the graph's, but a rule is broken: this is the first violation, by rule, item and column, with its
+    /// least scenario.
     No(Fault),
 }
 
-/// The first violation of V1 to V3, by the trees of all rows.
+/// The first violation of V1 to V3. `None` exactly if they hold. `trees` are those of all rows.
 fn row_fault(
     alloc: Global,
     admitted: &Admitted,
@@ -45,6 +46,7 @@ fn row_fault(
 {
     let problem = admitted.problem();
     let marks = row_marks(alloc, admitted, tables, trees)?;
+    // mostly the quick tests show that the rules hold at every item
     if marks.are_all(problem.item_count()) {
         return Ok(None);
     }
@@ -52,34 +54,34 @@ fn row_fault(
     Ok(fault)
 }
 
-/// The first violation of V4 to V9, by the lines of all items. Only those that may be asked are sifted.
+/// The first violation of V4 to V9. `None` exactly if they hold. V1 to V3 have to hold, and `rows` to be those of all
+/// items: of these, the ones that may be asked are sifted.
 fn later_fault(
     alloc: Global,
     admitted: &Admitted,
     tables: &Tables,
-    lines: &mut [SievedLine<'_>],
+    rows: &mut [SievedRow<'_>],
     marks: &TimeMarks,
 ) -> Result<Option<Fault>, OutOfMemory>
     requires head { IsHeadFor admitted.now.graph tables.now.head }
     requires rules { AllHold admitted.now.graph tables.now.nodes row_rules }
-    requires lines { AreLines tables.now.nodes (item_count admitted.now.graph) lines.old }
+    requires rows { AreSievedRows tables.now.nodes (item_count admitted.now.graph) rows.old }
     requires marks { AreTimeMarks admitted.now.graph tables.now.nodes marks.now }
     ensures none { IfOk result (λ r. IfNone r (AllHold admitted.now.graph tables.now.nodes (Rule.Heard ∷ time_rules))) }
     ensures first { IfOk result (λ r. IfSome r (IsFirstOf admitted.now.graph admitted.now.order tables.now.nodes (Rule.Heard ∷ time_rules))) }
 {
     let problem = admitted.problem();
     let heard = marks.heard.as_slice();
-    sift_heard(alloc, problem, tables, lines, heard)?;
-    if let Some(fault) = check_heard(alloc, admitted, tables, lines, heard)? {
+    sift_heard(alloc, problem, tables, rows, heard)?;
+    if let Some(fault) = check_heard(alloc, admitted, tables, rows, heard)? {
         return Ok(Some(fault));
     }
-    sift_time(alloc, problem, tables, lines, marks)?;
-    let fault = check_time(alloc, admitted, tables, lines, marks)?;
+    sift_time(alloc, problem, tables, rows, marks)?;
+    let fault = check_time(alloc, admitted, tables, rows, marks)?;
     Ok(fault)
 }
 
-/// The first violation of V4 to V9, by the trees of all rows. The lines of the items are made only if some item isn't
-/// marked as sure.
+/// The first violation of V4 to V9. `None` exactly if they hold. V1 to V3 have to hold. `trees` are those of all rows.
 fn time_fault(
     alloc: Global,
     admitted: &Admitted,
@@ -94,15 +96,17 @@ fn time_fault(
 {
     let problem = admitted.problem();
     let marks = time_marks(alloc, admitted, tables, trees)?;
+    // mostly the quick tests show that the rules hold at every item, and then no sieves need be made
     if marks.are_all(problem.item_count()) {
         return Ok(None);
     }
-    let mut lines = lines_of(alloc, problem, tables)?;
-    let fault = later_fault(alloc, admitted, tables, lines.as_mut_slice(), &marks)?;
+    let mut rows = sieved_rows_of(alloc, problem, tables)?;
+    let fault = later_fault(alloc, admitted, tables, rows.as_mut_slice(), &marks)?;
     Ok(fault)
 }
 
-/// The first violation of tables whose head is the graph's, by the trees of all rows.
+/// The first violation of V1 to V10 by tables whose head is the graph's. `None` exactly if they are valid. `trees` are
+/// those of all rows.
 fn fault_by(
     alloc: Global,
     admitted: &Admitted,
@@ -123,7 +127,7 @@ fn fault_by(
     Ok(fault)
 }
 
-/// The first violation of tables whose head is the graph's, if there is one.
+/// The first violation of V1 to V10 by tables whose head is the graph's. `None` exactly if they are valid.
 fn first_fault(
     alloc: Global,
     admitted: &Admitted,
@@ -138,8 +142,8 @@ fn first_fault(
 }
 
 /// Whether tables are valid for an admitted graph: `Other` exactly if the head isn't the graph's, `Yes` exactly if
-/// it is and the tables keep the ten rules of valid tables in every scenario, and else the first violation
-/// (docs/RULES.md). No scenario is listed.
+/// it is and the tables keep the ten rules of valid tables in every scenario, and otherwise `No` with the first
+/// violation (docs/RULES.md). Scenarios aren't gone over one by one. The one error is `OutOfMemory`.
 pub fn check(alloc: Global, admitted: &Admitted, tables: &Tables) -> Result<Verdict, OutOfMemory>
     ensures { IfOk result (ShowsVerdict admitted.now.graph admitted.now.order tables.now) }
 {

@@ -1,4 +1,4 @@
--- What a row tells a node: by the ends of a process of its own, or by frames.
+-- What a row tells a node: by the ends of one of the node's processes, or by frames that the node hears.
 use Rattle.std.specs.Prelude.{ℕ, ◌+◌, ◌≡◌, ◌<◌, Bool, ◌&&◌, ◌==◌, nat_le, nat_lt, List, ◌∷◌, ◌++◌, Option, None, Some}
 use Rattle.std.specs.Prelude.{slice_get, false, length}
 use Rattle.std.specs.List.{list_any}
@@ -14,70 +14,76 @@ use Rattle.cpg_table.specs.Table.{NodeTable, columns_of}
 use Rattle.cpg_cube.specs.declared.column.Column.{Column}
 use Rattle.cpg_cube.specs.Column.{column_at}
 use Rattle.cpg_table.specs.Heard.{exactly, value_fact}
-use Rattle.cpg_violation.specs.Lines.{IsLine}
+use Rattle.cpg_violation.specs.SievedRows.{IsSievedRow}
 use Rattle.cpg_check_heard.specs.declared.bound.LiteralBound.{LiteralBound}
 use Rattle.cpg_check_heard.specs.declared.telling_rows.Means.{Means}
 use Rattle.cpg_check_heard.specs.declared.telling_rows.Means.TheVariants.{End, Frame}
 use Rattle.cpg_check_heard.specs.declared.telling_rows.TellingRow.{TellingRow}
 use Rattle.cpg_check_heard.specs.Bounds.{tells, variable_of}
 
--- whether an end or a frame by a column has come by a time and tells a bound
+-- whether what column `c` begins has come by `time` and tells a bound: the end of process `p` tells its fault count and
+-- its value, a frame the literals of its column and the value that it carries
 abbrev pub column_tells : Graph → Means → ℕ → LiteralBound → Scenario → Column → Bool
 column_tells g (End p) time b s c = nat_le (c.time + duration g p (number_of s p)) time
     && list_any (tells b) (exactly p (number_of s p) ∷ value_fact s (condition_of g p))
 column_tells g (Frame delay condition) time b s c =
     nat_le (c.time + delay) time && list_any (tells b) (c.cube ++ value_fact s condition)
 
--- whether a column matches, and its end or frame tells a bound by a time
+-- whether column `c` matches, and its end or frame tells a bound by `time`
 abbrev pub is_telling : Graph → Means → ℕ → LiteralBound → Scenario → Column → Bool
 is_telling g means time b s c = matches c.cube s && column_tells g means time b s c
 
--- whether there is a column at a place that matches, and whose end or frame tells a bound by a time
+-- whether there is a column at place `i`, it matches, and its end or frame tells a bound by `time`
 abbrev pub is_telling_at : Graph → Means → ℕ → LiteralBound → List Column → Scenario → ℕ → Bool
 is_telling_at g means time b columns s i =
     nat_lt i (length columns) && is_telling g means time b s (column_at columns i)
 
--- whether a column of a row matches, and its end or frame tells a bound by a time
+-- whether some column of a row matches, and its end or frame tells a bound by `time`
 abbrev pub row_tells : Graph → Means → ℕ → LiteralBound → List Column → Scenario → Bool
 row_tells g means time b columns s = list_any (is_telling g means time b s) columns
 
--- an end can only tell of the count and the value of its process
+-- what tells may tell the bound: an end, only a bound on the count or the value of its own process; a frame, any
 abbrev pub CanTell : Graph → LiteralBound → Means → Type 0
 CanTell g b (End p) = (p < process_count g) × (process_of_variable g (variable_of b) ≡ p)
 CanTell g b (Frame delay condition) = Unit {0}
 
--- the condition whose value a frame carries
+-- the condition whose value an item carries: a broadcast carries its own, a message none; a start isn't sent
 abbrev pub carried : Item → Option ℕ
 carried (Start p) = None
 carried (Message e) = None
 carried (Broadcast c) = Some c
 
--- whether a variable is a condition's value
+-- whether variable `v` is the value of the condition, if there is one
 abbrev pub is_value : Option ℕ → ℕ → Bool
 is_value None v = false
 is_value (Some c) v = value_variable c == v
 
--- by what means an item tells: a start by ends, a message or broadcast by frames
+-- by what means item `x` tells: a start by ends of its process, a message or a broadcast by frames, each a slot after
+-- its column's time
 abbrev pub means_of_item : Graph → ℕ → Item → Means
 means_of_item g x (Start p) = End p
 means_of_item g x (Message e) = Frame (slot_length g (home g x)) None
 means_of_item g x (Broadcast c) = Frame (slot_length g (home g x)) (Some c)
 
--- by what means the item with this number tells
+-- by what means the item with number `x` tells
 abbrev pub means_of : Graph → ℕ → Means
 means_of g x = means_of_item g x (item_at g x)
 
--- a cube for the scenarios that pass a test, and none if none passes
+-- the cube matches in just the scenarios that pass a test; `None` only if none passes
 abbrev pub IsPart : Graph → (Scenario → Bool) → Option (List Literal) → Type 0
 IsPart g test None = (s : Scenario) → IsScenario g s → test s ≡ false
 IsPart g test (Some cube) = (s : Scenario) → IsScenario g s → matches cube s ≡ test s
 
--- the row of an item, and by what means it tells
+-- `t` has the row of item `x`, and the means by which it tells
 pub record IsTellingRow (g : Graph) (tables : List NodeTable) (x : ℕ) (t : TellingRow) : Type 0 where
-  pub line : IsLine (columns_of tables x) t.line.now
+  -- the row has the columns of the item in the tables
+  pub row : IsSievedRow (columns_of tables x) t.row.now
+  -- the means are those of the item
   pub means : t.means ≡ means_of g x
 
--- the rows of all items, by number
+-- `ts` has the rows of the first `items` items, by number
 pub record AreTellingRows (g : Graph) (tables : List NodeTable) (items : ℕ) (ts : List TellingRow) : Type 0 where
+  -- there is a row for each of the items
   pub count : length ts ≡ items
+  -- the row at `x` is that of item `x`
   pub each : (x : ℕ) (t : TellingRow) → slice_get ts x ≡ Some t → IsTellingRow g tables x t

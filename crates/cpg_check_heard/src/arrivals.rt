@@ -1,5 +1,5 @@
-//! The columns of the rows that a node hears whose frames may have come by a time. They are found once for a column that
-//! is judged, and then asked for each of its literals.
+//! The columns whose frames a node may have heard by the time of a column that is judged. They are found once for that
+//! column, and then asked what they tell of each of its literals.
 ghost use Rattle.std.specs.Prelude.{◌≡◌, ◌≤◌, ◌||◌, All, Contains, IfOk, false, true};
 ghost use Rattle.std.specs.Bool.{OnFalse, OnTrue};
 ghost use Rattle.std.specs.List.{list_any};
@@ -9,7 +9,7 @@ ghost use Rattle.cpg_cube.specs.Cube.{matches};
 ghost use Rattle.cpg_cube.specs.Fit.{IsKnown};
 ghost use Rattle.cpg_table.specs.Shape.{heard_by};
 ghost use Rattle.cpg_cube.specs.declared.column.Column.{Column};
-ghost use Rattle.cpg_violation.specs.Lines.{IsLine};
+ghost use Rattle.cpg_violation.specs.SievedRows.{IsSievedRow};
 ghost use Rattle.cpg_check_heard.specs.Arrivals.{AreArrivals, IsArrival, do_tell};
 ghost use Rattle.cpg_check_heard.specs.Bounds.{variable_of};
 ghost use Rattle.cpg_check_heard.specs.Hearings.{IsHearing};
@@ -25,26 +25,28 @@ use cpg_cube::{Column, Cube};
 use cpg_violation::has_come;
 use std::alloc::Global;
 
-/// A column, and by what means it tells.
+/// A column that may tell something by the time of the column that is judged, and by what means it does.
 #[derive(Clone, Copy)]
 pub(crate) struct Arrival<'a> {
+    /// A column of a row that tells the node something.
     pub(crate) column: &'a Column,
+    /// By what means the column tells it.
     pub(crate) means: Means,
 }
 
-/// Whether the end or the frame of a column may have come by a time; not if that of a column at this start hasn't, and the
-/// column is no earlier.
+/// Whether what a column at `start`, or a later one, begins may have come by `time`: false only if the end or the frame
+/// comes later in every scenario.
 pub(crate) fn may_have_come(means: Means, start: u64, time: u64) -> bool
     ensures { OnFalse result ((g : Graph) (b : LiteralBound) (s : Scenario) (c : Column) → start ≤ c.time → is_telling g means time b s c ≡ false) }
 {
     match means {
-        // an end is no earlier than the start
+        // an execution may end as soon as it starts, for all that is known here
         Means::End { .. } => start <= time,
         Means::Frame { delay, .. } => has_come(start, delay, time),
     }
 }
 
-/// Adds the column at a place, if there is one and its frame may have come by a time.
+/// Adds the column at a place, if there is one and what it begins may have come by a time.
 fn add_column<'a>(
     means: Means,
     columns: &'a [Column],
@@ -58,11 +60,10 @@ fn add_column<'a>(
         → do_tell g time b arrivals.new.items s ≡ (do_tell g time b arrivals.old.items s
         || is_telling_at g means time b columns.now s place)) }
 {
-    // no column stands there
     let Some(column) = columns.get(place as usize) else {
         return Ok(());
     };
-    // its frame comes too late
+    // it comes too late to tell anything
     if !may_have_come(means, column.time, time) {
         return Ok(());
     }
@@ -70,8 +71,8 @@ fn add_column<'a>(
     Ok(())
 }
 
-/// Adds the columns of a row whose frames may have come by a time, as far as they may match together with a cube. None is
-/// looked at if even the first is too late.
+/// Adds the columns of a row that may match together with a cube, and whose frames may have come by a time. Where the
+/// cube matches, they tell just what the whole row tells (`told`).
 fn add_row<'a>(
     alloc: Global,
     row: &TellingRow<'a>,
@@ -79,30 +80,30 @@ fn add_row<'a>(
     time: u64,
     arrivals: &mut Vec<Arrival<'a>>,
 ) -> Result<(), OutOfMemory>
-    requires { IsLine row.now.line.now.columns.now row.now.line.now }
-    ensures each { IfOk result (λ _. (g : Graph) → All (λ c. IsKnown g c.cube) row.now.line.now.columns.now
+    requires { IsSievedRow row.now.row.now.columns.now row.now.row.now }
+    ensures each { IfOk result (λ _. (g : Graph) → All (λ c. IsKnown g c.cube) row.now.row.now.columns.now
         → ((b : LiteralBound) → CanTell g b row.now.means) → All (IsArrival g) arrivals.old.items
         → All (IsArrival g) arrivals.new.items) }
     ensures told { IfOk result (λ _. (g : Graph) (b : LiteralBound) (s : Scenario) → matches cube.now s ≡ true
         → do_tell g time b arrivals.new.items s ≡ (do_tell g time b arrivals.old.items s
-        || row_tells g row.now.means time b row.now.line.now.columns.now s)) }
+        || row_tells g row.now.means time b row.now.row.now.columns.now s)) }
 {
-    let line = row.line;
-    // the row's first column comes too late, and so do all others
-    if !may_have_come(row.means, line.first, time) {
+    let sieved = row.row;
+    // even the first column comes too late
+    if !may_have_come(row.means, sieved.first, time) {
         return Ok(());
     }
-    // the sieve gives the places of the columns that may match together with the cube
-    let places = line.sieve.candidates(alloc, line.columns, cube)?;
+    // each column that matches together with the cube is at one of these places
+    let places = sieved.sieve.candidates(alloc, sieved.columns, cube)?;
     for place in places.as_slice() {
-        add_column(row.means, line.columns, *place, time, arrivals)?;
+        add_column(row.means, sieved.columns, *place, time, arrivals)?;
     }
     Ok(())
 }
 
 impl<'a> Hearing<'a> {
-    /// The columns of rows that a node hears whose frames may have come by a time, as far as they may match together with a
-    /// cube. The contract alone names `node`.
+    /// The columns of these items' rows that may match together with a cube, and whose frames may have come by a time.
+    /// A node hears all the items; only the contract names `node`.
     pub(crate) fn arrivals(
         &self,
         alloc: Global,
@@ -116,7 +117,6 @@ impl<'a> Hearing<'a> {
         ensures { IfOk result (λ arrivals. AreArrivals self.now.admitted.now.graph self.now.tables.now.nodes time cube.now items.now arrivals.items) }
     {
         let mut arrivals = Vec::new(alloc);
-        // goes over the items that the node hears
         for item in items {
             let row = &self.telling_rows[*item as usize];
             add_row(alloc, row, cube, time, &mut arrivals)?;
@@ -125,7 +125,8 @@ impl<'a> Hearing<'a> {
     }
 }
 
-/// Whether the frame of a column has come by a time and tells a bound wherever a cube matches.
+/// Whether wherever a cube matches, a column does, and its frame has come by a time and tells a bound by a literal of
+/// the column. False guarantees nothing.
 fn tells_whole(
     problem: &Problem,
     arrival: &Arrival<'_>,
@@ -138,23 +139,23 @@ fn tells_whole(
     ensures { OnTrue result ((s : Scenario) → IsScenario problem.now s → matches cube.now s ≡ true
         → is_telling problem.now arrival.now.means time bound s arrival.now.column.now ≡ true) }
 {
-    // an end says something by its count: that is left to the full search
+    // when an execution ends depends on its faults: that is left to the full search
     let Means::Frame { delay, .. } = arrival.means else {
         return false;
     };
     let column = arrival.column;
-    // the frame comes later
     if !has_come(column.time, delay, time) {
         return false;
     }
-    // no literal of the column says the bound
+    // if at most the value that it carries tells the bound, that is left to the full search, too
     if !bound.is_told_by_any(column.cube.literals()) {
         return false;
     }
     cube.within(&column.cube, problem)
 }
 
-/// Whether the frame of one of these columns has come by a time and tells a bound wherever a cube matches.
+/// Whether one of these columns tells a bound by a time wherever a cube matches, as `tells_whole` finds out. False
+/// guarantees nothing.
 pub(crate) fn tells_one_whole(
     problem: &Problem,
     arrivals: &[Arrival<'_>],
@@ -172,7 +173,7 @@ pub(crate) fn tells_one_whole(
         .any(|arrival| tells_whole(problem, arrival, cube, time, bound))
 }
 
-/// Adds the parts of these columns' cubes in which they tell a bound by a time.
+/// Adds to `told` for each of these columns the part of its cube in which it tells a bound by a time, if there is one.
 pub(crate) fn add_told(
     problem: &Problem,
     arrivals: &[Arrival<'_>],

@@ -1,87 +1,90 @@
-//! Which rows V4 may ask: those of what a node starts or hears, if an item of the node isn't marked and the row has a column
-//! by the time of the item's last one. No later column has ended or come by then.
+//! Sifts the rows that V4 may ask: those of what a node starts or hears, from the first column on no later than the
+//! last column of some item of the node that isn't marked as sure. What begins later tells that item nothing.
 ghost use Rattle.std.specs.Prelude.{ℕ, IfOk};
-ghost use Rattle.cpg_violation.specs.Lines.{AreLines};
+ghost use Rattle.cpg_violation.specs.SievedRows.{AreSievedRows};
 
 use cpg_base::{OutOfMemory, Problem};
 use cpg_table::{NodeItems, Tables};
-use cpg_violation::{SievedLine, is_marked, sift};
+use cpg_violation::{SievedRow, is_marked, sift};
 use std::alloc::Global;
 
-/// The time of the last column of those of some items that aren't marked, if there is such an item.
-fn last_unmarked(lines: &[SievedLine<'_>], items: &[u32], marks: &[bool]) -> Option<u64> {
+/// The greatest time in the rows of those of some items that aren't marked; `None` if none of these has a row.
+fn last_unmarked(rows: &[SievedRow<'_>], items: &[u32], marks: &[bool]) -> Option<u64> {
     let mut last: Option<u64> = None;
     for item in items {
         if is_marked(marks, *item) {
             continue;
         }
-        if let Some(line) = lines.get(*item as usize) {
-            last = Some(last.unwrap_or(0).max(line.last));
+        // 0 is the least of all times, so the first row sets the time
+        if let Some(row) = rows.get(*item as usize) {
+            last = Some(last.unwrap_or(0).max(row.last));
         }
     }
     last
 }
 
-/// Whether an item has a column by a time.
-fn begins_by(lines: &[SievedLine<'_>], item: u32, time: u64) -> bool {
-    match lines.get(item as usize) {
-        Some(line) => line.first <= time,
+/// Whether an item has a row, and its first column is no later than a time.
+fn begins_by(rows: &[SievedRow<'_>], item: u32, time: u64) -> bool {
+    match rows.get(item as usize) {
+        Some(row) => row.first <= time,
         None => false,
     }
 }
 
-/// Sifts the rows of those of some items that have a column by a time.
+/// Sifts the rows of those of some items whose first columns are no later than a time.
 fn sift_by(
     alloc: Global,
     tables: &Tables,
-    lines: &mut [SievedLine<'_>],
+    rows: &mut [SievedRow<'_>],
     items: &[u32],
     time: u64,
 ) -> Result<(), OutOfMemory>
-    ensures { IfOk result (λ _. (count : ℕ) → AreLines tables.now.nodes count lines.old → AreLines tables.now.nodes count lines.new) }
+    ensures { IfOk result (λ _. (count : ℕ) → AreSievedRows tables.now.nodes count rows.old → AreSievedRows tables.now.nodes count rows.new) }
 {
     for item in items {
-        if !begins_by(lines, *item, time) {
+        if !begins_by(rows, *item, time) {
             continue;
         }
-        sift(alloc, tables, lines, *item)?;
+        sift(alloc, tables, rows, *item)?;
     }
     Ok(())
 }
 
-/// Sifts the rows that a node may be asked for.
+/// Sifts the rows that V4 may ask at the unmarked items of a node.
 fn sift_of_node(
     alloc: Global,
     tables: &Tables,
-    lines: &mut [SievedLine<'_>],
+    rows: &mut [SievedRow<'_>],
     node: u32,
     marks: &[bool],
 ) -> Result<(), OutOfMemory>
-    ensures { IfOk result (λ _. (count : ℕ) → AreLines tables.now.nodes count lines.old → AreLines tables.now.nodes count lines.new) }
+    ensures { IfOk result (λ _. (count : ℕ) → AreSievedRows tables.now.nodes count rows.old → AreSievedRows tables.now.nodes count rows.new) }
 {
     let items = NodeItems::of(alloc, tables.head(), node)?;
-    let starts = last_unmarked(lines, items.starts(), marks);
-    let sends = last_unmarked(lines, items.sends(), marks);
+    let starts = last_unmarked(rows, items.starts(), marks);
+    let sends = last_unmarked(rows, items.sends(), marks);
+    // all items of the node are marked
     let Some(last) = starts.max(sends) else {
         return Ok(());
     };
-    sift_by(alloc, tables, lines, items.starts(), last)?;
-    sift_by(alloc, tables, lines, items.hears(), last)?;
+    sift_by(alloc, tables, rows, items.starts(), last)?;
+    sift_by(alloc, tables, rows, items.hears(), last)?;
     Ok(())
 }
 
-/// Sifts the rows that V4 may ask, of items at which it isn't marked.
+/// Sifts the rows that V4 may ask at items at which it isn't marked as sure. Others are left as they are. The one error
+/// is `OutOfMemory`.
 pub fn sift_heard(
     alloc: Global,
     problem: &Problem,
     tables: &Tables,
-    lines: &mut [SievedLine<'_>],
+    rows: &mut [SievedRow<'_>],
     marks: &[bool],
 ) -> Result<(), OutOfMemory>
-    ensures { IfOk result (λ _. (count : ℕ) → AreLines tables.now.nodes count lines.old → AreLines tables.now.nodes count lines.new) }
+    ensures { IfOk result (λ _. (count : ℕ) → AreSievedRows tables.now.nodes count rows.old → AreSievedRows tables.now.nodes count rows.new) }
 {
     for node in 0..problem.nodes().len() as u32 {
-        sift_of_node(alloc, tables, lines, node, marks)?;
+        sift_of_node(alloc, tables, rows, node, marks)?;
     }
     Ok(())
 }

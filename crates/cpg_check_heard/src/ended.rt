@@ -1,5 +1,5 @@
-//! Processes of a node whose executions have all ended by a time. This holds for the processes of most literals, and no column
-//! is looked at to see it.
+//! Whether a process of a node has always ended by a time. This holds for the processes of most literals, and is seen
+//! without a look at any column.
 ghost use Rattle.std.specs.Bool.{OnTrue};
 ghost use Rattle.cpg_base.specs.Graph.{IsVariable};
 ghost use Rattle.cpg_check_heard.specs.Ended.{HasEnded};
@@ -9,7 +9,8 @@ use crate::hearing::Hearing;
 use cpg_violation::has_come;
 
 impl Hearing<'_> {
-    /// Whether the process of a variable is on a node, and no execution of it ends after a time.
+    /// Whether the process of a variable is on a node, and ends by a time even if it starts by its last column and has
+    /// all faults. False guarantees nothing.
     pub(crate) fn has_ended(&self, node: u32, variable: u8, time: u64) -> bool
         requires hearing { IsHearing self.now }
         requires variable { IsVariable self.now.admitted.now.graph variable }
@@ -17,11 +18,12 @@ impl Hearing<'_> {
     {
         let problem = self.admitted.problem();
         let process = problem.process_of_variable(variable);
+        // its end is heard on its own node alone
         if problem.node_of(process) != node {
             return false;
         }
         let longest = problem.duration(process, problem.faults());
-        let line = self.telling_rows[process as usize].line;
-        has_come(line.last, longest, time)
+        let row = self.telling_rows[process as usize].row;
+        has_come(row.last, longest, time)
     }
 }

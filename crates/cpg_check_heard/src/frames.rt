@@ -1,5 +1,5 @@
-//! Bounds that frames tell wherever a column matches. The rows that a node hears are asked one after another: first those
-//! with long cubes, which tell most. If nothing is left, no other row is looked at.
+//! Bounds that single frames tell wherever a column matches. The rows that a node hears are asked one after another:
+//! first those with long cubes, which tell most. Once no bound is left, no other row is looked at.
 ghost use Rattle.std.specs.Prelude.{◌≡◌, ℕ, Bool, All, Contains, IfOk, false, true};
 ghost use Rattle.std.specs.List.{list_any};
 ghost use Rattle.cpg_base.specs.Graph.{IsVariable};
@@ -20,14 +20,18 @@ use cpg_cube::Column;
 use std::alloc::Global;
 use std::cmp::Reverse;
 
-/// A row that a node hears, by the length of its longest cube.
+/// A row that a node hears, in an order by which rows with longer cubes come first, and then the lower items.
 #[derive(Clone, Copy, PartialEq, Eq, PartialOrd, Ord)]
 pub(crate) struct RowRank {
-    longest: Reverse<usize>,
+    /// How many literals its longest cube has.
+    most_literals: Reverse<usize>,
+    /// The item of the row.
     item: u32,
 }
 
-/// Those of some bounds that these columns may leave open somewhere that a column matches.
+/// Those of some bounds that none of these columns tells wherever a column matches, as `tells_one_whole` finds out.
+/// Those left out are told there, so a test that is false of told bounds passes at one left exactly where it does at
+/// one of all (`left`).
 fn left_open(
     alloc: Global,
     problem: &Problem,
@@ -55,7 +59,7 @@ fn left_open(
 }
 
 impl Hearing<'_> {
-    /// The rows that a node hears, those with long cubes first. The contract alone names `node`.
+    /// The rows of these items, all of which a node hears: those with long cubes first. Only the contract names `node`.
     pub(crate) fn ranks(
         &self,
         alloc: Global,
@@ -70,7 +74,7 @@ impl Hearing<'_> {
         for item in items {
             let row = &self.telling_rows[*item as usize];
             ranks.push(RowRank {
-                longest: Reverse(row.longest),
+                most_literals: Reverse(row.most_literals),
                 item: *item,
             })?;
         }
@@ -78,7 +82,8 @@ impl Hearing<'_> {
         Ok(ranks)
     }
 
-    /// Those of some bounds that single frames may leave open at a column's time, somewhere that the column matches.
+    /// Those of some bounds that no single frame is found to tell by a column's time wherever the column matches. So
+    /// where it matches, one of these is untold exactly if one of all is (`untold`).
     pub(crate) fn unframed(
         &self,
         alloc: Global,
@@ -101,6 +106,7 @@ impl Hearing<'_> {
         let (cube, time) = (&column.cube, column.time);
         let mut left = bounds;
         for rank in ranks {
+            // the other rows need not be asked
             if left.is_empty() {
                 return Ok(left);
             }

@@ -1,4 +1,4 @@
-//! V4: the first column with a literal that its node hasn't heard.
+//! The check of V4: the first column with a literal that its node hasn't heard.
 ghost use Rattle.std.specs.Prelude.{◌≡◌, ◌≤◌, ◌<◌, ℕ, All, IfNone, IfOk, IfSome, false, length};
 ghost use Rattle.cpg_base.specs.declared.limits.TheConstants.{MOST_LOAD};
 ghost use Rattle.cpg_base.specs.Graph.{item_count};
@@ -9,7 +9,7 @@ ghost use Rattle.cpg_check_heard.specs.Hearings.{IsHearing};
 ghost use Rattle.cpg_check_heard.specs.Unheard.{is_unheard};
 ghost use Rattle.cpg_table.specs.declared.rule.Rule.{Rule};
 ghost use Rattle.cpg_violation.specs.Heads.{IsHeadFor};
-ghost use Rattle.cpg_violation.specs.Lines.{AreLines};
+ghost use Rattle.cpg_violation.specs.SievedRows.{AreSievedRows};
 ghost use Rattle.cpg_violation.specs.Sure.{AreSure};
 ghost use Rattle.cpg_violation.specs.Violation.{AllHold, Holds, IsFirstColumn, IsFirstViolation, row_rules};
 
@@ -19,11 +19,11 @@ use cpg_base::{OutOfMemory, Scenario};
 use cpg_cube::Column;
 use cpg_rules::Admitted;
 use cpg_table::{Fault, NodeItems, Rule, Tables};
-use cpg_violation::{SievedLine, is_marked};
+use cpg_violation::{SievedRow, is_marked};
 use std::alloc::Global;
 
-/// The first column of an item's row that matches in a scenario in which the item's node hasn't heard one of its literals
-/// by its time; and the least such scenario.
+/// The place of the first column of an item's row that matches in a scenario in which the item's node hasn't heard one
+/// of its literals by its time, with the least such scenario. `None` exactly if there is none.
 fn first_unheard(
     alloc: Global,
     hearing: &Hearing<'_>,
@@ -48,37 +48,40 @@ fn first_unheard(
     for (place, column) in columns.iter().enumerate() {
         let unheard = hearing.least_unheard(alloc, node, hears, ranks.as_slice(), column)?;
         if let Some(scenario) = unheard {
+            // `MOST_LOAD` is far below 2^32
             return Ok(Some((place as u32, scenario)));
         }
     }
     Ok(None)
 }
 
-/// The first violation of V4, by item and column, with the least scenario in the urgency order in which it stands: the
+/// The first violation of V4, by item and column, with the least scenario in the urgency order in which it occurs: the
 /// column matches, and one of its literals isn't heard at the item's node by the column's time. `None` exactly if the
-/// rule holds. V1 to V3 hold, and the lines are those of all items. Items at which the rule is marked as sure are left out.
+/// rule holds. V1 to V3 have to hold, and `rows` to be those of all items. Items at which the rule is marked as sure
+/// are left out. The one error is `OutOfMemory`.
 pub fn check_heard(
     alloc: Global,
     admitted: &Admitted,
     tables: &Tables,
-    lines: &[SievedLine<'_>],
+    rows: &[SievedRow<'_>],
     marks: &[bool],
 ) -> Result<Option<Fault>, OutOfMemory>
     requires head { IsHeadFor admitted.now.graph tables.now.head }
     requires rules { AllHold admitted.now.graph tables.now.nodes row_rules }
-    requires lines { AreLines tables.now.nodes (item_count admitted.now.graph) lines.now }
+    requires rows { AreSievedRows tables.now.nodes (item_count admitted.now.graph) rows.now }
     requires marks { AreSure admitted.now.graph tables.now.nodes Rule.Heard marks.now }
     ensures none { IfOk result (λ r. IfNone r (Holds admitted.now.graph tables.now.nodes Rule.Heard)) }
     ensures first { IfOk result (λ r. IfSome r (IsFirstViolation admitted.now.graph admitted.now.order tables.now.nodes Rule.Heard)) }
 {
     let problem = admitted.problem();
-    let telling_rows = telling_rows(alloc, admitted, lines)?;
+    let telling_rows = telling_rows(alloc, admitted, rows)?;
     let hearing = Hearing {
         admitted,
         tables,
         telling_rows,
     };
     for item in 0..problem.item_count() {
+        // the rule holds here
         if is_marked(marks, item) {
             continue;
         }

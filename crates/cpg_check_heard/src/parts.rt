@@ -1,4 +1,4 @@
-//! The parts of columns' cubes in which they tell a bound.
+//! The parts of columns' cubes in which what they begin tells a bound.
 ghost use Rattle.std.specs.Prelude.{◌≡◌, ◌+◌, ◌≤◌, ◌<◌, ◌++◌, ◌||◌, ℕ, All, IfOk, IfSome, nat_le, nat_lt, option_to_list, true};
 ghost use Rattle.std.specs.List.{list_any};
 ghost use Rattle.cpg_base.specs.Duration.{duration};
@@ -7,7 +7,7 @@ ghost use Rattle.cpg_base.specs.Limits.{IsWithinLimits};
 ghost use Rattle.cpg_base.specs.Scenario.{Scenario, IsScenario};
 ghost use Rattle.cpg_cube.specs.Cube.{matches};
 ghost use Rattle.cpg_cube.specs.Fit.{IsKnown};
-ghost use Rattle.cpg_violation.specs.Lines.{IsLine};
+ghost use Rattle.cpg_violation.specs.SievedRows.{IsSievedRow};
 ghost use Rattle.cpg_check_heard.specs.Bounds.{variable_of};
 ghost use Rattle.cpg_check_heard.specs.TellingRows.{CanTell, IsPart, is_telling, is_telling_at, is_value, row_tells};
 ghost use Rattle.cpg_check_heard.specs.declared.telling_rows.Means.TheVariants.{End, Frame};
@@ -20,19 +20,21 @@ use cpg_cube::{Column, Cube, Literal};
 use cpg_violation::has_come;
 use std::alloc::Global;
 
-/// How many of the fault counts, from 0 on, let an execution that starts at a time end by another.
+/// With how many of the fault counts, from 0 on, an execution that starts at `start` ends by `time`: with counts below
+/// the result it does, and with greater ones it doesn't.
 fn counts_by(problem: &Problem, process: u32, start: u64, time: u64) -> u8
     requires { process < process_count problem.now }
     ensures limits { IsWithinLimits problem.now }
     ensures counts { (n : ℕ) → n ≤ problem.now.faults → nat_le (start + duration problem.now process n) time ≡ nat_lt n result }
 {
+    // the counts from 0 to the most faults, of which there are at most 8
     let all = problem.faults() + 1;
-    // it starts later than that, so it ends later with any count
+    // it ends later with any count
     if start > time {
         return 0;
     }
     let left = time - start;
-    // counts from 0 on: durations rise with them, so the first that takes too long ends the search
+    // the more faults, the longer it lasts, so all counts behind the first that takes too long do, too
     for count in 0..all {
         if problem.duration(process, count) > left {
             return count;
@@ -41,7 +43,8 @@ fn counts_by(problem: &Problem, process: u32, start: u64, time: u64) -> u8
     all
 }
 
-/// The part of a column's cube in which the process has ended by a time, and its count or value is within a bound.
+/// The part of a column's cube in which the process that it starts has ended by a time, and its count or value is
+/// within a bound. `None` only if there is no such scenario.
 fn end_part(
     problem: &Problem,
     process: u32,
@@ -56,11 +59,11 @@ fn end_part(
     ensures known { IfOk result (λ r. IfSome r (IsKnown problem.now)) }
 {
     let counts = counts_by(problem, process, column.time, time);
-    // with no count has the process ended by then
+    // even without faults it ends later
     if counts == 0 {
         return Ok(None);
     }
-    // the counts with which it has ended by then: from 0 to the last one
+    // the counts with which it has ended by then; their variable has the number of the process
     let come = Literal {
         variable: process as u8,
         low: 0,
@@ -74,7 +77,7 @@ fn end_part(
     Ok(told)
 }
 
-/// Whether a variable is a condition's value.
+/// Whether a variable is the value of a condition; false if there is no condition.
 fn is_value(condition: Option<u32>, variable: u8) -> bool
     ensures { result ≡ is_value condition variable }
 {
@@ -84,9 +87,9 @@ fn is_value(condition: Option<u32>, variable: u8) -> bool
     }
 }
 
-/// The part of a column's cube in which its frame has come by a time and tells a bound, if there is one. It is the
-/// whole cube if one of the column's literals tells the bound, or else the part in which the value that the frame
-/// carries is within the bound.
+/// The part of a column's cube in which its frame has come by a time and tells a bound: the whole cube if one of the
+/// column's literals tells it, or else the part in which the value that the frame carries is within the bound. `None`
+/// only if there is no such scenario.
 fn frame_part(
     problem: &Problem,
     delay: u64,
@@ -100,11 +103,10 @@ fn frame_part(
     ensures part { IfOk result (IsPart problem.now (λ s. is_telling problem.now (Frame delay condition) time bound s column.now)) }
     ensures known { IfOk result (λ r. IfSome r (IsKnown problem.now)) }
 {
-    // the frame comes later
     if !has_come(column.time, delay, time) {
         return Ok(None);
     }
-    // a literal of the column says the bound, wherever the column matches
+    // a literal of the column tells it wherever the column matches
     if bound.is_told_by_any(column.cube.literals()) {
         let cube = column.cube.copy()?;
         return Ok(Some(cube));
@@ -113,12 +115,13 @@ fn frame_part(
     if !is_value(condition, bound.variable()) {
         return Ok(None);
     }
-    // the frame carries the value: the bound is said in the part in which the value keeps it
+    // the value tells the bound only where it is within it
     let told = column.cube.with(bound.range(problem.faults()))?;
     Ok(told)
 }
 
-/// The part of a column's cube in which it tells a bound by a time, if there is one.
+/// The part of a column's cube in which its end or frame has come by a time and tells a bound. `None` only if there is
+/// no such scenario.
 pub(crate) fn part_of(
     problem: &Problem,
     means: Means,
@@ -144,7 +147,7 @@ pub(crate) fn part_of(
     }
 }
 
-/// What `part_of` gives for the column at a place, if there is one.
+/// What `part_of` gives for the column at a place; `None` also if there is no column.
 fn part_at(
     problem: &Problem,
     means: Means,
@@ -159,7 +162,6 @@ fn part_at(
     ensures part { IfOk result (IsPart problem.now (λ s. is_telling_at problem.now means time bound columns.now s place)) }
     ensures known { IfOk result (λ r. IfSome r (IsKnown problem.now)) }
 {
-    // no column stands there
     let Some(column) = columns.get(place as usize) else {
         return Ok(None);
     };
@@ -167,7 +169,7 @@ fn part_at(
     Ok(part)
 }
 
-/// Adds a part, if there is one.
+/// Adds a part to `told`, if there is one.
 pub(crate) fn add(told: &mut Vec<Cube>, part: Option<Cube>) -> Result<(), OutOfMemory>
     ensures { IfOk result (λ _. told.new.items ≡ told.old.items ++ option_to_list part) }
 {
@@ -177,8 +179,9 @@ pub(crate) fn add(told: &mut Vec<Cube>, part: Option<Cube>) -> Result<(), OutOfM
     Ok(())
 }
 
-/// Adds the parts of a row's cubes in which it tells a bound by a time, as far as they match together with a cube. No column is
-/// looked at if even the first is too late.
+/// Adds to `told` for each column of a row that may match together with a cube the part in which it tells a bound by a
+/// time. So where the cube matches, one of `told` does exactly where one did before, or the row tells the bound
+/// (`told`).
 pub(crate) fn add_row(
     alloc: Global,
     problem: &Problem,
@@ -190,24 +193,24 @@ pub(crate) fn add_row(
 ) -> Result<(), OutOfMemory>
     requires can { CanTell problem.now bound row.now.means }
     requires variable { IsVariable problem.now (variable_of bound) }
-    requires columns { All (λ c. IsKnown problem.now c.cube) row.now.line.now.columns.now }
-    requires line { IsLine row.now.line.now.columns.now row.now.line.now }
+    requires columns { All (λ c. IsKnown problem.now c.cube) row.now.row.now.columns.now }
+    requires row { IsSievedRow row.now.row.now.columns.now row.now.row.now }
     requires told { All (IsKnown problem.now) told.old.items }
     ensures known { IfOk result (λ _. All (IsKnown problem.now) told.new.items) }
     ensures told { IfOk result (λ _. (s : Scenario) → IsScenario problem.now s → matches cube.now s ≡ true
         → list_any (λ b. matches b s) told.new.items
         ≡ (list_any (λ b. matches b s) told.old.items
-        || row_tells problem.now row.now.means time bound row.now.line.now.columns.now s)) }
+        || row_tells problem.now row.now.means time bound row.now.row.now.columns.now s)) }
 {
-    let line = row.line;
-    // the row's first column comes too late, and so do all others
-    if !may_have_come(row.means, line.first, time) {
+    let sieved = row.row;
+    // even the first column comes too late
+    if !may_have_come(row.means, sieved.first, time) {
         return Ok(());
     }
-    // the sieve gives the places of the columns that may match together with the cube
-    let places = line.sieve.candidates(alloc, line.columns, cube)?;
+    // each column that matches together with the cube is at one of these places
+    let places = sieved.sieve.candidates(alloc, sieved.columns, cube)?;
     for place in places.as_slice() {
-        let part = part_at(problem, row.means, line.columns, *place, time, bound)?;
+        let part = part_at(problem, row.means, sieved.columns, *place, time, bound)?;
         add(told, part)?;
     }
     Ok(())

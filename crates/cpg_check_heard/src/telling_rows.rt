@@ -1,44 +1,49 @@
-//! The rows of all items, and by what means they tell.
+//! The rows of all items, with the means by which they tell nodes something.
 ghost use Rattle.std.specs.Prelude.{◌≡◌, ◌<◌, IfOk, List, length};
 ghost use Rattle.cpg_base.specs.Graph.{item_count};
 ghost use Rattle.cpg_base.specs.WellFormed.{WellFormed};
 ghost use Rattle.cpg_table.specs.Table.{NodeTable};
-ghost use Rattle.cpg_violation.specs.Lines.{AreLines};
+ghost use Rattle.cpg_violation.specs.SievedRows.{AreSievedRows};
 ghost use Rattle.cpg_check_heard.specs.TellingRows.{AreTellingRows, means_of};
 
 use cpg_base::{Item, OutOfMemory, Problem};
 use cpg_cube::Column;
 use cpg_rules::Admitted;
-use cpg_violation::SievedLine;
+use cpg_violation::SievedRow;
 use std::alloc::Global;
 
-/// By what means the columns of a row tell.
+/// By what means the columns of a row tell nodes something.
 #[derive(Clone, Copy)]
 pub(crate) enum Means {
-    /// By the ends of a process, to its own node.
+    /// By the ends of a process, which tell its own node its fault count and its value.
     End { process: u32 },
-    /// By frames that arrive this many time units after the column's time. Those of a broadcast carry a condition's value.
+    /// By frames that arrive `delay` time units after the column's time, and tell the column's literals. Those of a
+    /// broadcast carry the value of its condition as well.
     Frame { delay: u64, condition: Option<u32> },
 }
 
-/// The row of an item, by what means it tells, and how many literals its longest cube has.
+/// The row of an item, and by what means it tells.
 #[derive(Clone, Copy)]
 pub(crate) struct TellingRow<'a> {
-    pub(crate) line: &'a SievedLine<'a>,
+    /// The columns of the item, sieved.
+    pub(crate) row: &'a SievedRow<'a>,
+    /// By what means these columns tell.
     pub(crate) means: Means,
-    pub(crate) longest: usize,
+    /// How many literals its longest cube has.
+    pub(crate) most_literals: usize,
 }
 
-/// The greatest number of literals of these columns; 0 if there is none.
-fn longest(columns: &[Column]) -> usize {
-    let mut longest = 0;
+/// How many literals the longest cube of these columns has; 0 if there are no columns.
+fn most_literals(columns: &[Column]) -> usize {
+    let mut most = 0;
     for column in columns {
-        longest = column.cube.literals().len().max(longest);
+        most = column.cube.literals().len().max(most);
     }
-    longest
+    most
 }
 
-/// By what means an item tells.
+/// By what means the row of an item tells: a start's by ends, a message's or a broadcast's by frames, a slot after
+/// their columns.
 fn means_of(problem: &Problem, item: u32) -> Means
     requires item { item < item_count problem.now }
     requires formed { WellFormed problem.now }
@@ -53,25 +58,25 @@ fn means_of(problem: &Problem, item: u32) -> Means
     Means::Frame { delay, condition }
 }
 
-/// The rows of all items, by number, and by what means they tell.
+/// For each item, by number, its row and by what means that tells.
 pub(crate) fn telling_rows<'a>(
     alloc: Global,
     admitted: &Admitted,
-    lines: &'a [SievedLine<'a>],
+    rows: &'a [SievedRow<'a>],
 ) -> Result<Vec<TellingRow<'a>>, OutOfMemory>
-    requires { length lines.now ≡ item_count admitted.now.graph }
-    ensures { IfOk result (λ telling_rows. (tables : List NodeTable) → AreLines tables (item_count admitted.now.graph) lines.now
+    requires { length rows.now ≡ item_count admitted.now.graph }
+    ensures { IfOk result (λ telling_rows. (tables : List NodeTable) → AreSievedRows tables (item_count admitted.now.graph) rows.now
         → AreTellingRows admitted.now.graph tables (item_count admitted.now.graph) telling_rows.items) }
 {
     let problem = admitted.problem();
     let mut telling_rows = Vec::new(alloc);
     for item in 0..problem.item_count() {
-        let line = &lines[item as usize];
+        let row = &rows[item as usize];
         let means = means_of(problem, item);
         telling_rows.push(TellingRow {
-            line,
+            row,
             means,
-            longest: longest(line.columns),
+            most_literals: most_literals(row.columns),
         })?;
     }
     Ok(telling_rows)

@@ -1,4 +1,4 @@
-//! V4: each literal of a column that matches is heard at its node by its time.
+//! The quick test of V4: each literal of a column that matches is heard at its node by its time.
 ghost use Rattle.std.specs.Prelude.{◌≡◌, ◌<◌, IfOk, List, true};
 ghost use Rattle.std.specs.Bool.{OnTrue};
 ghost use Rattle.cpg_base.specs.Graph.{item_count};
@@ -22,15 +22,17 @@ use cpg_violation::is_marked;
 use std::alloc::Global;
 use std::cmp::Reverse;
 
-/// An item by the number of literals of its longest column.
+/// An item, in an order by which those with longer cubes come first, and then the lower items.
 #[derive(Clone, Copy, PartialEq, Eq, PartialOrd, Ord)]
 struct LengthRank {
+    /// How many literals its longest cube has.
     literals: Reverse<usize>,
+    /// The item's number.
     item: u32,
 }
 
-/// The number of literals of the longest column.
-fn longest(columns: &[Column]) -> usize {
+/// How many literals the longest cube of these columns has; 0 if there are no columns.
+fn most_literals(columns: &[Column]) -> usize {
     let mut most = 0;
     for column in columns {
         most = column.cube.literals().len().max(most);
@@ -38,7 +40,8 @@ fn longest(columns: &[Column]) -> usize {
     most
 }
 
-/// All items, those with the longest columns first: an item that tells much mostly tells all.
+/// All items that have a row, those with the longest cubes first. A frame tells the literals of its column, so an item
+/// with many mostly tells all that a column asks for, and no other need be asked.
 fn longest_first(
     alloc: Global,
     problem: &Problem,
@@ -48,7 +51,7 @@ fn longest_first(
     ranks.reserve(frames.list.len())?;
     for item in 0..problem.item_count() {
         if let Some(row) = frames.list.get(item as usize) {
-            let literals = Reverse(longest(row.columns));
+            let literals = Reverse(most_literals(row.columns));
             ranks.push(LengthRank { literals, item })?;
         }
     }
@@ -63,6 +66,7 @@ fn longest_first(
 
 /// Whether an item is a message to a process.
 fn is_input(problem: &Problem, process: u32, item: u32) -> bool {
+    // no clause says that the items are the graph's
     if item >= problem.item_count() {
         return false;
     }
@@ -72,7 +76,7 @@ fn is_input(problem: &Problem, process: u32, item: u32) -> bool {
     }
 }
 
-/// Adds the items that are messages to a process, or those that aren't.
+/// Adds to `sorted` the items that are messages to a process, if `are_inputs`, or those that aren't, if not.
 fn push_inputs(
     problem: &Problem,
     process: u32,
@@ -88,7 +92,7 @@ fn push_inputs(
     Ok(())
 }
 
-/// These items, the messages to a process first: these mostly tell all the literals of its columns.
+/// These items, the messages to a process first: its columns mostly have the literals of these messages' columns.
 fn inputs_first(
     alloc: Global,
     problem: &Problem,
@@ -102,17 +106,22 @@ fn inputs_first(
     Ok(sorted)
 }
 
-/// What all nodes may hear: the executions in sequence, and the frames of all items, those with the longest columns first.
+/// What all nodes may hear.
 #[derive(Drop)]
 struct Audible<'a> {
+    /// The graph of the rows.
     admitted: &'a Admitted,
+    /// The rows of all executions, and which follow one another on each node.
     sequences: &'a Sequences<'a>,
+    /// The rows of all items, with how long their frames take.
     frames: &'a SpannedRows<'a>,
+    /// All items, those with the longest cubes first.
     items: Vec<u32>,
 }
 
 impl<'a> Audible<'a> {
-    /// Whether a row keeps the rule. A send that is known to keep V5 is said to be in time.
+    /// Whether V4 is known to hold at an item, which has these columns. `is_sent_in_time` is true only if V5 is known
+    /// to hold there.
     fn is_sure(
         &self,
         alloc: Global,
@@ -130,13 +139,13 @@ impl<'a> Audible<'a> {
     {
         let problem = self.admitted.problem();
         let known = own_ended(self.admitted, self.sequences, item, is_sent_in_time);
-        // all literals are on the node's own ended processes, so no frame is needed
+        // all literals are about processes that have ended on the node itself, so no frame is needed
         if are_all_known(&known, columns) {
             return Ok(true);
         }
         let node = problem.home(item);
         let process = problem.producer(item);
-        // the messages to the process come first: they mostly imply all that its columns say
+        // for a message or a broadcast the process is its producer
         let items = inputs_first(alloc, problem, process, self.items.as_slice())?;
         let heard_rows = heard_rows(alloc, problem, self.frames, node, items.as_slice())?;
         let listener = Listener {
@@ -151,8 +160,8 @@ impl<'a> Audible<'a> {
     }
 }
 
-/// The items each of whose literals is heard by the time of its column, wherever that matches, by what is known of executions
-/// and frames, and of the sends that keep V5.
+/// A mark for each item, by number: whether V4 is known to hold there. It may hold at one that isn't marked, too.
+/// `inputs` are marks of V5.
 pub(crate) fn heard_marks(
     alloc: Global,
     admitted: &Admitted,

@@ -1,4 +1,4 @@
-//! What a node hears of others: the rows of items whose frames reach it, and which literals these tell.
+//! The rows of items whose frames a node hears, and which literals these frames tell it.
 ghost use Rattle.std.specs.Prelude.{◌≡◌, ◌≤◌, ◌⊎◌, ℕ, Some, All, Contains, IfOk, IfSome, List, true};
 ghost use Rattle.std.specs.Bool.{OnTrue};
 ghost use Rattle.cpg_base.specs.Graph.{Graph};
@@ -25,34 +25,40 @@ use std::alloc::Global;
 /// The row of an item that a node hears.
 #[derive(Clone, Copy)]
 pub(crate) struct HeardRow<'a> {
+    /// The item's number.
     pub(crate) item: u32,
+    /// The columns of the item.
     pub(crate) columns: &'a [Column],
+    /// The tree of the places of the columns, by which it is found which match in a space.
     pub(crate) tree: &'a Places,
     /// No column is at an earlier time.
     pub(crate) first: u64,
     /// How long after its column's time a frame is there.
     pub(crate) delay: u64,
-    /// The variable of the condition whose value a frame carries.
+    /// The variable of the condition whose value the frames carry; `None` if they carry none.
     pub(crate) value: Option<u8>,
 }
 
-/// Tests whether there is a place, and the frame of its column has come by a time.
+/// Tests whether there is a place, and the frame of the column there has come by `time`.
 #[derive(Drop)]
 struct Arrivals<'a> {
+    /// The columns of the item.
     columns: &'a [Column],
+    /// How long after its column's time a frame is there.
     delay: u64,
+    /// The time by which the frame has to have come.
     time: u64,
 }
 
 impl<'a> Test for Arrivals<'a> {
     ghost guarantees = { λ test place s. HasCome test.columns.now test.delay test.time place };
 
+    /// Whether the test passes at a place, in any space.
     fn passes(&self, place: Option<u32>, _space: &Space) -> bool {
-        // no column matches, so no frame is there
         let Some(place) = place else {
             return false; // where no column matches, nothing is told
         };
-        // a place beyond the columns; a row's tree has none
+        // a row's tree has no place beyond the columns
         let Some(column) = self.columns.get(place as usize) else {
             return false;
         };
@@ -60,21 +66,23 @@ impl<'a> Test for Arrivals<'a> {
     }
 }
 
-/// Whether a literal bounds the variable of another at least as closely.
+/// Whether a literal implies another: it is on the same variable, and its range is within the other's.
 fn is_as_close(literal: &Literal, wanted: &Literal) -> bool
     ensures { OnTrue result ((literal.now.variable ≡ wanted.now.variable) × (wanted.now.low ≤ literal.now.low) × (literal.now.high ≤ wanted.now.high)) }
 {
     literal.variable == wanted.variable && wanted.low <= literal.low && literal.high <= wanted.high
 }
 
-/// Where a variable's literal stands among literals by rising variable, if there is one.
+/// The place of the literal on a variable among literals whose variables rise. If there is no such literal, any place
+/// may be given: the caller looks at what is there.
 fn literal_index(literals: &[Literal], variable: u8) -> usize {
-    // mostly there: if all variables before have literals too
+    // it is there if each lower variable has a literal, as is often so
     if let Some(literal) = literals.get(variable as usize) {
         if literal.variable == variable {
             return variable as usize;
         }
     }
+    // a binary search: those before `first` are on lower variables, and those from `end` on aren't
     let mut first = 0;
     let mut end = literals.len();
     while first < end {
@@ -87,7 +95,8 @@ fn literal_index(literals: &[Literal], variable: u8) -> usize {
     first
 }
 
-/// The first place from one on where literals by rising variable are on none below this one.
+/// The first place from `from` on at which a literal is on this variable or a higher one; past the end if there is
+/// none.
 fn place_from(literals: &[Literal], from: usize, variable: u8) -> usize {
     for at in from..literals.len() {
         if literals[at].variable >= variable {
@@ -97,7 +106,7 @@ fn place_from(literals: &[Literal], from: usize, variable: u8) -> usize {
     literals.len()
 }
 
-/// Whether the literal at a place bounds the variable of a wanted one at least as closely.
+/// Whether there is a literal at a place and it implies the wanted one.
 fn tells_there(literals: &[Literal], at: usize, wanted: &Literal) -> bool
     ensures { OnTrue result (IsToldIn literals.now wanted.now) }
 {
@@ -107,14 +116,14 @@ fn tells_there(literals: &[Literal], at: usize, wanted: &Literal) -> bool
     }
 }
 
-/// Whether one of these literals, by rising variable, bounds the variable of a wanted one at least as closely.
+/// Whether one of these literals, whose variables rise, implies the wanted one.
 fn tells(literals: &[Literal], wanted: &Literal) -> bool
     ensures { OnTrue result (IsToldIn literals.now wanted.now) }
 {
     tells_there(literals, literal_index(literals, wanted.variable), wanted)
 }
 
-/// Whether a literal of the column at a place bounds the variable of a wanted one at least as closely.
+/// Whether there is a column at a place, and one of its literals implies the wanted one.
 fn tells_at(columns: &[Column], place: u32, wanted: &Literal) -> bool
     ensures { OnTrue result (IsToldIn (column_at columns.now place).cube wanted.now) }
 {
@@ -124,7 +133,7 @@ fn tells_at(columns: &[Column], place: u32, wanted: &Literal) -> bool
     }
 }
 
-/// Whether the column at each of these places has a literal that bounds the variable of a wanted one at least as closely.
+/// Whether there is a column at each of these places, and one of its literals implies the wanted one.
 fn tell_at_all(columns: &[Column], places: &[u32], wanted: &Literal) -> bool
     ensures { OnTrue result (All (λ i. IsToldIn (column_at columns.now i).cube wanted.now) places.now) }
 {
@@ -136,11 +145,10 @@ fn tell_at_all(columns: &[Column], places: &[u32], wanted: &Literal) -> bool
     true
 }
 
-/// The column at the only place, if there is one.
+/// The column at the only one of these places; `None` if there isn't exactly one place, or no column is there.
 fn alone<'a>(columns: &'a [Column], places: &[u32]) -> Option<&'a Column>
     ensures { IfSome result (λ column. All (λ i. column_at columns.now i ≡ column.now) places.now) }
 {
-    // none, or several: then each column is looked up for each literal
     if places.len() != 1 {
         return None;
     }
@@ -161,18 +169,19 @@ impl<'a> HeardRow<'a> {
         }
     }
 
-    /// Whether the frames of the columns at these places tell a literal.
+    /// Whether the frame of each column at these places tells the wanted literal.
     fn tells(&self, places: &[u32], wanted: &Literal) -> bool
         ensures { OnTrue result (IsTold self.now.value self.now.columns.now places.now wanted.now) }
     {
-        // the value itself is in the frame, so any literal on it follows
+        // the frame tells the value itself, so any literal on it that holds
         if self.carries(wanted.variable) {
             return true;
         }
         tell_at_all(self.columns, places, wanted)
     }
 
-    /// Whether a literal is told by the frames of a column, by its literal at a place.
+    /// Whether the frame of a column that has these literals tells the wanted one, by its value or by the literal at a
+    /// place.
     fn tells_by(&self, own: &[Literal], at: usize, wanted: &Literal) -> bool
         ensures { OnTrue result ((self.now.value ≡ Some wanted.now.variable) ⊎ IsToldIn own.now wanted.now) }
     {
@@ -182,8 +191,8 @@ impl<'a> HeardRow<'a> {
         tells_there(own, at, wanted)
     }
 
-    /// Lists those of the wanted literals that the frames of one column don't tell, which has these literals: both go by rising
-    /// variable.
+    /// Writes to `left`, in place of what is there, those of the wanted literals that the frame of one column isn't
+    /// found to tell. `own` are that column's literals; the variables of both lists rise.
     fn leave_by(
         &self,
         own: &[Literal],
@@ -196,7 +205,7 @@ impl<'a> HeardRow<'a> {
     {
         left.clear();
         let mut at = 0;
-        // both lists go by rising variable, so the search goes on from the last place
+        // as both variables rise, the search goes on from where it was
         for literal in wanted {
             at = place_from(own, at, literal.variable);
             if self.tells_by(own, at, literal) {
@@ -207,7 +216,8 @@ impl<'a> HeardRow<'a> {
         Ok(())
     }
 
-    /// Lists those that the frames of the columns at these places don't tell.
+    /// Writes to `left`, in place of what is there, those of the wanted literals that the frames of the columns at
+    /// these places aren't all found to tell.
     fn leave_each(
         &self,
         places: &[u32],
@@ -228,8 +238,8 @@ impl<'a> HeardRow<'a> {
         Ok(())
     }
 
-    /// Lists the same literals as `leave_each`. If there is a single place, as there mostly is, its column is looked up
-    /// once.
+    /// Writes to `left` what `leave_each` does. If there is a single place, as there mostly is, its column's literals
+    /// are gone over only once.
     fn leave(
         &self,
         places: &[u32],
@@ -241,12 +251,10 @@ impl<'a> HeardRow<'a> {
             Contains left.new.items l ⊎ IsTold self.now.value self.now.columns.now places.now l) }
     {
         match alone(self.columns, places) {
-            // the single column's literals are gone over along with the wanted ones
             Some(column) => {
                 self.leave_by(column.cube.literals(), wanted, left)?;
                 Ok(())
             }
-            // each wanted literal is looked up in the column at each place
             None => {
                 self.leave_each(places, wanted, left)?;
                 Ok(())
@@ -254,9 +262,10 @@ impl<'a> HeardRow<'a> {
         }
     }
 
-    /// Lists those of the wanted literals, each as wide as one of a column, that its frames haven't told by the column's time
-    /// wherever that matches, in a space that has all these scenarios; false if it tells none. The places of its own columns
-    /// that match there are first written to `places`.
+    /// Writes to `left` those of the wanted literals that its frames aren't found to have told by a column's time
+    /// wherever that matches. False if none has been told: then `left` says nothing. The column has to imply each
+    /// wanted literal, and the space to have all scenarios that it matches. `places` is overwritten with the places of
+    /// own columns that match in the space.
     pub(crate) fn tell(
         &self,
         column: &Column,
@@ -269,7 +278,7 @@ impl<'a> HeardRow<'a> {
             AreToldIn column.now.cube wanted.now → ((s : Scenario) → IsScenario g s → matches column.now.cube s ≡ true → IsInSpace space.now s) →
             AreLeft g tables node column.now wanted.now left.new.items)) }
     {
-        // even the first frame comes too late
+        // even the frame of the first column comes too late
         if !has_come(self.first, self.delay, column.time) {
             return Ok(false);
         }
@@ -279,7 +288,7 @@ impl<'a> HeardRow<'a> {
             delay: self.delay,
             time: column.time,
         };
-        // false if one of the frames that match comes too late, or none matches somewhere
+        // false if somewhere in the space no column matches, or the frame of one that does comes too late
         let all = self.tree.gather(space, &arrivals, places)?;
         if !all {
             return Ok(false);
@@ -289,15 +298,16 @@ impl<'a> HeardRow<'a> {
     }
 }
 
-/// The variable of the condition whose value an item's frames carry.
-fn value_of(problem: &Problem, item: Item) -> Option<u8>
+/// The variable of the condition whose value an item's frames carry; `None` if they carry none.
+fn value_variable_of(problem: &Problem, item: Item) -> Option<u8>
     ensures { IfSome result (λ v. (s : Scenario) → Contains (frame_value s item) (exactly v (number_of s v))) }
 {
     match item {
-        // a start and a message carry no value
+        // a start isn't sent, and a message carries no value
         Item::Start(_) => None,
         Item::Message(_) => None,
         Item::Broadcast(condition) => {
+            // there are so few conditions that the number of the variable fits
             if condition < problem.conditions() {
                 Some(FIRST_VALUE + condition as u8)
             } else {
@@ -307,7 +317,7 @@ fn value_of(problem: &Problem, item: Item) -> Option<u8>
     }
 }
 
-/// An item as a node hears it, if it does and its row has a tree.
+/// The row of an item as a node hears it; `None` if the node doesn't hear it, or its row has no tree.
 fn heard_row_of<'a>(
     problem: &Problem,
     frames: &'a SpannedRows<'a>,
@@ -316,18 +326,17 @@ fn heard_row_of<'a>(
 ) -> Option<HeardRow<'a>>
     ensures { (tables : List NodeTable) → AreSpannedRows (frame problem.now) problem.now tables frames.now → IfSome result (IsHeardRow problem.now tables node) }
 {
-    // no item of the graph
+    // no clause says that the item is the graph's
     if item >= problem.item_count() {
         return None;
     }
-    // the node doesn't hear it
     if !problem.is_heard_by(node, item) {
         return None;
     }
     let Some(row) = frames.list.get(item as usize) else {
         return None;
     };
-    // without a tree of its row, nothing is asked of it
+    // without a tree it isn't known which of its columns match
     let Some(tree) = row.tree else {
         return None;
     };
@@ -337,11 +346,11 @@ fn heard_row_of<'a>(
         tree,
         first: row.first,
         delay: problem.slot_length(problem.home(item)),
-        value: value_of(problem, problem.item(item)),
+        value: value_variable_of(problem, problem.item(item)),
     })
 }
 
-/// Those of these items that a node hears and whose rows have trees.
+/// The rows of those of these items that a node hears and whose rows have trees, in the order of the items.
 pub(crate) fn heard_rows<'a>(
     alloc: Global,
     problem: &Problem,

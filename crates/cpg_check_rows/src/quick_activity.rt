@@ -19,23 +19,23 @@ use cpg_cube::{Column, Literal};
 use cpg_rules::Admitted;
 use cpg_table::Tables;
 use cpg_tree::Space;
-use cpg_violation::{always_active, are_all, is_item_running, is_marked, is_running};
+use cpg_violation::{always_active, are_all, is_item_running, is_marked, is_running, tested_marks};
 use std::alloc::Global;
 
-/// Whether a process is active in each scenario of a space. Most are active in every scenario.
+/// Whether a process is active in each scenario of a space. False guarantees nothing. `always` has marks of processes
+/// that are active in every scenario: most are.
 fn is_active(admitted: &Admitted, always: &[bool], process: u32, space: &Space) -> bool
     requires process { process < process_count admitted.now.graph }
     requires always { AreAlways admitted.now.graph always.now }
     ensures { OnTrue result ((s : Scenario) → IsScenario admitted.now.graph s → IsInSpace space.now s → active admitted.now.graph s.values process ≡ true) }
 {
-    // active in every scenario: nothing is looked up
     if is_marked(always, process) {
         return true;
     }
     is_running(admitted, process, space)
 }
 
-/// Whether the processes of these literals are active in each scenario of a space.
+/// Whether the processes of these literals are all active in each scenario of a space. False guarantees nothing.
 fn are_active(admitted: &Admitted, always: &[bool], literals: &[Literal], space: &Space) -> bool
     requires literals { IsKnown admitted.now.graph literals.now }
     requires always { AreAlways admitted.now.graph always.now }
@@ -44,7 +44,6 @@ fn are_active(admitted: &Admitted, always: &[bool], literals: &[Literal], space:
 {
     for literal in literals {
         let process = admitted.problem().process_of_variable(literal.variable);
-        // the process of one literal may be inactive
         if !is_active(admitted, always, process, space) {
             return false;
         }
@@ -52,11 +51,12 @@ fn are_active(admitted: &Admitted, always: &[bool], literals: &[Literal], space:
     true
 }
 
-/// The literals on values, which are the last. No other literals say whether a process is active.
+/// The last of these literals, those behind the last one on a count: if the variables rise, they are all that are on
+/// values.
 fn on_values(literals: &[Literal]) -> &[Literal]
     ensures { (s : Scenario) → matches literals.now s ≡ true → matches result.now s ≡ true }
 {
-    // from the last literal back, to the first that isn't on a value
+    // from the last literal back to one that is on a count
     for later in 0..literals.len() {
         let from = literals.len() - later;
         if literals[from - 1].variable < FIRST_VALUE {
@@ -66,7 +66,8 @@ fn on_values(literals: &[Literal]) -> &[Literal]
     literals
 }
 
-/// Whether an item and the processes of a column's literals are active wherever the column matches.
+/// Whether an item and the processes of a column's literals are all active wherever the column matches. False
+/// guarantees nothing. `everywhere` is a space of all scenarios.
 fn is_lawful(
     admitted: &Admitted,
     always: &[bool],
@@ -82,20 +83,20 @@ fn is_lawful(
         breaks_activity admitted.now.graph s item column.now ≡ false) }
 {
     let literals = column.cube.literals();
-    // the literals on counts leave the activity as it is, so those on values alone make the space narrower
+    // what is active depends on values alone, so only literals on values narrow the space
     let mut space = *everywhere;
-    // no scenario matches these literals, so the column breaks nothing
+    // no scenario matches these literals, nor the column
     if !space.narrow_to(on_values(literals)) {
         return true;
     }
-    // the item may be inactive where the column matches
     if !is_item_running(admitted, item, &space) {
         return false;
     }
     are_active(admitted, always, literals, &space)
 }
 
-/// Whether an item and the processes of the literals of each of these columns are active wherever the column matches.
+/// Whether for each of these columns an item and the processes of the column's literals are all active wherever the
+/// column matches. False guarantees nothing.
 fn are_lawful(
     admitted: &Admitted,
     always: &[bool],
@@ -110,7 +111,6 @@ fn are_lawful(
     ensures { OnTrue result (All (λ c. (s : Scenario) → IsScenario admitted.now.graph s → matches c.cube s ≡ true →
         breaks_activity admitted.now.graph s item c ≡ false) columns.now) }
 {
-    // goes over the columns of the row
     for column in columns {
         if !is_lawful(admitted, always, everywhere, item, column) {
             return false;
@@ -119,7 +119,8 @@ fn are_lawful(
     true
 }
 
-/// Whether all processes are always active, and an item is too.
+/// Whether all processes, and an item as well, are known to be active in every scenario. `all` says so of the
+/// processes: false guarantees nothing.
 fn is_plain(admitted: &Admitted, all: bool, everywhere: &Space, item: u32) -> bool
     requires everywhere { (s : Scenario) → IsScenario admitted.now.graph s → IsInSpace everywhere.now s }
     requires item { item < item_count admitted.now.graph }
@@ -127,14 +128,13 @@ fn is_plain(admitted: &Admitted, all: bool, everywhere: &Space, item: u32) -> bo
     ensures all { OnTrue result (AllAlways admitted.now.graph) }
     ensures item { OnTrue result (IsUnconditional admitted.now.graph item) }
 {
-    // some process is not always active
     if !all {
         return false;
     }
     is_item_running(admitted, item, everywhere)
 }
 
-/// Whether a row keeps the rule. If all processes are always active, no column is looked at.
+/// Whether V1 is known to hold at an item. If all processes and the item are always active, no column is looked at.
 fn is_sure(
     admitted: &Admitted,
     tables: &Tables,
@@ -150,7 +150,7 @@ fn is_sure(
     requires all { OnTrue all (AllAlways admitted.now.graph) }
     ensures { OnTrue result (IsSure admitted.now.graph tables.now.nodes Rule.Activity item) }
 {
-    // called for its contract: the graph is admitted
+    // called for its clause alone that the graph is admitted
     let _problem = admitted.problem();
     let columns = tables.columns_of(item);
     // nothing can be inactive, whatever the columns are
@@ -160,7 +160,30 @@ fn is_sure(
     are_lawful(admitted, always, everywhere, item, columns)
 }
 
-/// The items whose columns, wherever they match, have an active item and active processes of their literals.
+/// The marks of `activity_marks`, by what is known of all scenarios: the processes that are active in each of them, whether all
+/// are, and a space that has all scenarios.
+fn marks_of(
+    alloc: Global,
+    admitted: &Admitted,
+    tables: &Tables,
+    always: &[bool],
+    all: bool,
+    everywhere: &Space,
+) -> Result<Vec<bool>, OutOfMemory>
+    requires head { IsHeadFor admitted.now.graph tables.now.head }
+    requires everywhere { (s : Scenario) → IsScenario admitted.now.graph s → IsInSpace everywhere.now s }
+    requires always { AreAlways admitted.now.graph always.now }
+    requires all { OnTrue all (AllAlways admitted.now.graph) }
+    ensures { IfOk result (λ marks. AreSure admitted.now.graph tables.now.nodes Rule.Activity marks.items) }
+{
+    let items = admitted.problem().item_count();
+    let marks = tested_marks(alloc, items, |item| {
+        is_sure(admitted, tables, always, all, everywhere, item)
+    })?;
+    Ok(marks)
+}
+
+/// A mark for each item, by number: whether V1 is known to hold there. It may hold at one that isn't marked, too.
 pub(crate) fn activity_marks(
     alloc: Global,
     admitted: &Admitted,
@@ -170,17 +193,12 @@ pub(crate) fn activity_marks(
     ensures { IfOk result (λ marks. AreSure admitted.now.graph tables.now.nodes Rule.Activity marks.items) }
 {
     let always = always_active(alloc, admitted)?;
+    // whether each process is marked
     let all = are_all(
         always.as_slice(),
         admitted.problem().processes().len() as u32,
     );
     let everywhere = Space::whole(admitted.problem().faults());
-    let count = admitted.problem().item_count();
-    let mut marks = Vec::new(alloc);
-    marks.reserve(count as usize)?;
-    for item in 0..count {
-        let sure = is_sure(admitted, tables, always.as_slice(), all, &everywhere, item);
-        marks.push(sure)?;
-    }
+    let marks = marks_of(alloc, admitted, tables, always.as_slice(), all, &everywhere)?;
     Ok(marks)
 }

@@ -12,13 +12,16 @@ use cpg_base::OutOfMemory;
 use cpg_row_trees::{Places, Test};
 use cpg_rules::Admitted;
 use cpg_tree::Space;
-use cpg_violation::is_item_idle;
+use cpg_violation::{is_item_idle, tested_marks};
 use std::alloc::Global;
 
-/// Tests whether a column is there, or an item is inactive.
+/// Tests a place where the tree of an item's row leads scenarios: it has a column that matches, or else the item is
+/// inactive in them.
 #[derive(Drop)]
 struct Presence<'a> {
+    /// The graph of the item.
     admitted: &'a Admitted,
+    /// The item's number.
     item: u32,
 }
 
@@ -27,10 +30,12 @@ impl<'a> Test for Presence<'a> {
 
     ghost guarantees = { λ test place s. IsIdleWhere test.admitted.now.graph test.item place s };
 
+    /// Whether the test passes at a place in all scenarios of a space. False guarantees nothing.
     fn passes(&self, place: Option<u32>, space: &Space) -> bool {
         if place.is_some() {
             return true;
         }
+        // no clause says that the item is the graph's
         if self.item >= self.admitted.problem().item_count() {
             return false;
         }
@@ -38,15 +43,16 @@ impl<'a> Test for Presence<'a> {
     }
 }
 
-/// Whether an item is active in no scenario in which its row has no column that matches.
+/// Whether V3 is known to hold at an item, by the tree of its row.
 fn is_sure(admitted: &Admitted, trees: &[Option<Places>], item: u32) -> bool
     requires { item < item_count admitted.now.graph }
     ensures { OnTrue result ((tables : List NodeTable) → AreRowTrees admitted.now.graph tables trees.now → IsSure admitted.now.graph tables Rule.Present item) }
 {
+    // without a tree it isn't known in which scenarios no column matches
     let Some(Some(tree)) = trees.get(item as usize) else {
         return false;
     };
-    // mostly so, and then nothing is to be asked of scenarios
+    // mostly a column matches in every scenario
     if tree.are_everywhere() {
         return true;
     }
@@ -54,7 +60,7 @@ fn is_sure(admitted: &Admitted, trees: &[Option<Places>], item: u32) -> bool
     tree.do_pass(&space, &Presence { admitted, item })
 }
 
-/// The items that have a column that matches wherever they are active.
+/// A mark for each item, by number: whether V3 is known to hold there. It may hold at one that isn't marked, too.
 pub(crate) fn present_marks(
     alloc: Global,
     admitted: &Admitted,
@@ -63,11 +69,7 @@ pub(crate) fn present_marks(
     ensures { IfOk result (λ marks. (tables : List NodeTable) → AreRowTrees admitted.now.graph tables trees.now →
         AreSure admitted.now.graph tables Rule.Present marks.items) }
 {
-    let count = admitted.problem().item_count();
-    let mut marks = Vec::new(alloc);
-    marks.reserve(count as usize)?;
-    for item in 0..count {
-        marks.push(is_sure(admitted, trees, item))?;
-    }
+    let items = admitted.problem().item_count();
+    let marks = tested_marks(alloc, items, |item| is_sure(admitted, trees, item))?;
     Ok(marks)
 }

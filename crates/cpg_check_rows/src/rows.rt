@@ -1,4 +1,4 @@
-//! The rules V1, V2 and V3, one after the other.
+//! The check of V1, V2 and V3, one rule after another.
 ghost use Rattle.std.specs.Prelude.{◌≡◌, IfNone, IfOk, IfSome};
 ghost use Rattle.cpg_violation.specs.Heads.{IsHeadFor};
 ghost use Rattle.cpg_violation.specs.Sure.{AreRowMarks};
@@ -6,15 +6,16 @@ ghost use Rattle.cpg_violation.specs.Violation.{AllHold, IsFirstOf, row_rules};
 
 use crate::activity::check_activity;
 use crate::present::check_present;
-use crate::single::single_by;
+use crate::single::check_single;
 use cpg_base::OutOfMemory;
 use cpg_rules::Admitted;
 use cpg_table::{Fault, Tables};
 use cpg_violation::RowMarks;
 use std::alloc::Global;
 
-/// The first violation of V1, V2 and V3, by rule, item and column, with the least scenario in the urgency order in which
-/// it stands. `None` exactly if the three rules hold. If a rule is marked as sure at an item, it isn't looked at there.
+/// The first violation of V1, V2 and V3, by rule, item and column, with the least scenario in the urgency order in
+/// which it occurs. `None` exactly if the three rules hold. A rule isn't looked at where it is marked as sure. The one
+/// error is `OutOfMemory`.
 pub fn check_rows(
     alloc: Global,
     admitted: &Admitted,
@@ -30,7 +31,7 @@ pub fn check_rows(
     if let Some(fault) = idle {
         return Ok(Some(fault));
     }
-    let double = single_by(alloc, admitted, tables, marks.single.as_slice())?;
+    let double = check_single(alloc, admitted, tables, marks.single.as_slice())?;
     if let Some(fault) = double {
         return Ok(Some(fault));
     }

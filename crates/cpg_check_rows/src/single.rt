@@ -1,4 +1,4 @@
-//! V2: no two columns of a row match in one scenario.
+//! The check of V2: no two columns of a row match in one scenario.
 ghost use Rattle.std.specs.Prelude.{◌≡◌, ◌≤◌, ◌<◌, ◌&&◌, ℕ, All, IfNone, IfOk, IfSome, List, false, length};
 ghost use Rattle.std.specs.Bool.{OnTrue};
 ghost use Rattle.std.specs.List.{list_any};
@@ -25,7 +25,8 @@ use cpg_table::{Fault, Rule, Tables};
 use cpg_violation::{Sieve, is_marked, met};
 use std::alloc::Global;
 
-/// The least scenario that a cube matches together with the column at a place, if there is one.
+/// The least scenario that a cube matches together with the column at a place. `None` exactly if there is none, or no
+/// column is there. Any scenario of the graph may be passed as `room`, and is overwritten.
 fn met_at(
     problem: &Problem,
     cube: &Cube,
@@ -39,7 +40,6 @@ fn met_at(
     ensures room { HasRoom problem.now room.new }
     ensures first { IfOk result (λ r. (order : List ℕ) → IsFirst problem.now order (λ s. matches cube.now s && is_at columns.now s place) r) }
 {
-    // a place behind the earlier columns: not among those that count
     let Some(column) = columns.get(place as usize) else {
         return Ok(None);
     };
@@ -47,7 +47,8 @@ fn met_at(
     Ok(found)
 }
 
-/// The least scenario that a cube matches together with a column at one of some places, if there is one.
+/// The least scenario that a cube matches together with a column at one of some places. `None` exactly if there is
+/// none.
 fn shared(
     alloc: Global,
     problem: &Problem,
@@ -61,8 +62,9 @@ fn shared(
     requires columns { All (λ d. IsKnown problem.now d.cube) columns.now }
     ensures { IfOk result (IsFirst problem.now order.now (λ s. matches cube.now s && list_any (is_at columns.now s) places.now)) }
 {
-    // room for one scenario, used again for each place
+    // one scenario to work in for all places
     let mut room = Scenario::zero(alloc, problem)?;
+    // the least scenario of the places so far
     let mut found: Option<Scenario> = None;
     for place in places {
         let next = met_at(problem, cube, columns, *place, &mut room)?;
@@ -71,7 +73,8 @@ fn shared(
     Ok(found)
 }
 
-/// The least scenario that a column matches together with an earlier one, if there is one.
+/// The least scenario that a column matches together with an earlier one. `None` exactly if there is none. `column` is
+/// its place.
 fn shared_before(
     alloc: Global,
     problem: &Problem,
@@ -87,15 +90,16 @@ fn shared_before(
     ensures { IfOk result (IsFirst problem.now order.now (is_double columns.now column)) }
 {
     let cube = &columns[column].cube;
-    // the sieve gives the places of the columns that may match together with the cube
+    // each column that matches together with the cube is at one of these places
     let places = sieve.candidates(alloc, columns, cube)?;
-    // only earlier columns count: a place of a later one finds nothing
+    // later columns don't count: with the row cut off here, nothing is at their places
     let others = &columns[..column];
     let found = shared(alloc, problem, order, cube, others, places.as_slice())?;
     Ok(found)
 }
 
-/// Whether the first `count` columns of a row have a tree, so that no two of them match together.
+/// Whether a tree is made of the first `count` columns of a row: then no two of them match together. False guarantees
+/// nothing.
 fn have_tree(
     alloc: Global,
     problem: &Problem,
@@ -110,9 +114,10 @@ fn have_tree(
     Ok(tree.is_some())
 }
 
-/// How many first columns of a row are found to have a tree, by halving. If not all have one, mostly the next column is the
-/// first that matches together with an earlier one, and a long row's columns needn't be compared with one another.
-fn first_with_tree(
+/// How many first columns of a row are found, by halving, to have a tree, so that no two of them match together. It is
+/// never all of them, since no tree of the whole row is tried. Mostly the next column is the first that matches
+/// together with an earlier one, so that a long row's columns needn't all be compared.
+fn count_with_tree(
     alloc: Global,
     problem: &Problem,
     columns: &[Column],
@@ -120,6 +125,7 @@ fn first_with_tree(
     requires { length columns.now ≤ MOST_LOAD }
     ensures { IfOk result (λ count. (i : ℕ) (s : Scenario) → i < count → IsScenario problem.now s → is_double columns.now i s ≡ false) }
 {
+    // the first `count` columns have a tree, and the first `end` aren't known to
     let mut count = 0;
     let mut end = columns.len();
     while end - count > 1 {
@@ -134,7 +140,8 @@ fn first_with_tree(
     Ok(count)
 }
 
-/// The first column of a row that matches together with an earlier one, and the least scenario in which it does.
+/// The place of the first column of a row that matches together with an earlier one in some scenario, with the least
+/// such scenario. `None` exactly if there is none.
 fn first_double(
     alloc: Global,
     problem: &Problem,
@@ -147,19 +154,23 @@ fn first_double(
     ensures none { IfOk result (λ r. IfNone r ((i : ℕ) (s : Scenario) → IsScenario problem.now s → is_double columns.now i s ≡ false)) }
     ensures first { IfOk result (λ r. IfSome r (IsFirstColumn problem.now order.now (is_double columns.now))) }
 {
-    let first = first_with_tree(alloc, problem, columns)?;
+    // no column before this one matches together with an earlier one
+    let first = count_with_tree(alloc, problem, columns)?;
     let sieve = Sieve::of(alloc, columns)?;
     for column in first..columns.len() {
         let met = shared_before(alloc, problem, order, &sieve, columns, column)?;
         if let Some(scenario) = met {
+            // `MOST_LOAD` is far below 2^32
             return Ok(Some((column as u32, scenario)));
         }
     }
     Ok(None)
 }
 
-/// The first violation of V2. Items at which the rule is marked as sure are left out.
-pub(crate) fn single_by(
+/// The first violation of V2, by item and column, with the least scenario in the urgency order in which it occurs: the
+/// column and an earlier one of its row both match. `None` exactly if the rule holds. Items at which it is marked as
+/// sure are left out.
+pub(crate) fn check_single(
     alloc: Global,
     admitted: &Admitted,
     tables: &Tables,
@@ -173,6 +184,7 @@ pub(crate) fn single_by(
     let problem = admitted.problem();
     let order = admitted.order();
     for item in 0..problem.item_count() {
+        // the rule holds here
         if is_marked(marks, item) {
             continue;
         }

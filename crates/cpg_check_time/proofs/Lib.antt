@@ -9,4 +9,4 @@ pub mod Waits
 pub mod DelayLaws
 pub mod InputLaws
 pub mod CommonCubes
-pub mod LineLaws
+pub mod MeetingLaws

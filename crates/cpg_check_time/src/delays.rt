@@ -1,4 +1,4 @@
-//! Columns that are too early for what they wait for.
+//! V5 asks whether what a column waits for is done only after its time: an execution, or the slot of a frame.
 ghost use Rattle.std.specs.Prelude.{◌<◌, ◌^◌, ◌&&◌, IfOk};
 ghost use Rattle.std.specs.List.{list_any};
 ghost use Rattle.cpg_base.specs.Graph.{item_count};
@@ -10,7 +10,7 @@ ghost use Rattle.cpg_table.specs.Lawful.{AreTablesOf};
 ghost use Rattle.cpg_table.specs.Table.{columns_of};
 ghost use Rattle.cpg_check_time.specs.Delays.{IsDelay, IsMost, delays, is_late};
 ghost use Rattle.cpg_check_time.specs.Questions.{FitsLate};
-ghost use Rattle.cpg_violation.specs.Lines.{AreLines};
+ghost use Rattle.cpg_violation.specs.SievedRows.{AreSievedRows};
 
 use crate::lateness::least_late;
 use crate::questions::{Question, least_near};
@@ -18,19 +18,19 @@ use cpg_base::{OutOfMemory, Problem, Scenario};
 use cpg_cube::{Column, Cube};
 use cpg_rules::Admitted;
 use cpg_table::Tables;
-use cpg_violation::{SievedLine, met};
+use cpg_violation::{SievedRow, met};
 use std::alloc::Global;
 
-/// How long it takes from a column's time until what it begins is done.
+/// What a column begins, which says how long it takes from the column's time until that is done.
 #[derive(Clone, Copy)]
 pub(crate) enum Delay {
-    /// The execution of a process.
+    /// An execution of the process with this number: its duration depends on its faults.
     Execution(u32),
-    /// A slot of this many time units.
+    /// A frame in a slot of this many time units.
     Slot(u64),
 }
 
-/// How long a delay takes at most.
+/// How long a delay is at most, in any scenario.
 fn most(problem: &Problem, delay: Delay) -> u64
     requires { IsDelay problem.now delay }
     ensures most { IsMost problem.now delay result }
@@ -42,11 +42,14 @@ fn most(problem: &Problem, delay: Delay) -> u64
     }
 }
 
-/// Asks whether what a column begins is done after a time, in a scenario that a cube matches.
+/// Asks of a column whether it matches together with a cube, and what it begins is done only after a time.
 #[derive(Drop)]
 pub(crate) struct Late<'a> {
+    /// The cube of the column that waits.
     pub(crate) cube: &'a Cube,
+    /// What the column that is asked begins.
     pub(crate) delay: Delay,
+    /// The time of the column that waits.
     pub(crate) time: u64,
 }
 
@@ -68,9 +71,9 @@ impl<'a> Question for Late<'a> {
                 let found = least_late(problem, cube, beside, process, time, room)?;
                 Ok(found)
             }
-            // a slot is equally long in each scenario
+            // a slot is equally long in each scenario, so only the cubes are left to ask
             Delay::Slot(length) => {
-                // the slot has passed by then
+                // the frame is there by then
                 if beside.time + length <= time {
                     return Ok(None);
                 }
@@ -81,20 +84,19 @@ impl<'a> Question for Late<'a> {
     }
 }
 
-/// The least scenario that a column matches, and in which what some column of an item begins is done after its time; if there is
-/// one. Only columns that may match together with it are looked at, and none if even the last is early enough. The contract
-/// alone names `tables`.
+/// The least scenario in which `column` and some column of `item` both match, and what the latter begins is done only
+/// after the time of the former. `None` exactly if there is none. Only the contract names `tables`.
 pub(crate) fn least_delay(
     alloc: Global,
     admitted: &Admitted,
     tables: &Tables,
-    lines: &[SievedLine<'_>],
+    rows: &[SievedRow<'_>],
     item: u32,
     column: &Column,
     delay: Delay,
 ) -> Result<Option<Scenario>, OutOfMemory>
     requires lawful { AreTablesOf (head_of admitted.now.graph) tables.now.nodes }
-    requires lines { AreLines tables.now.nodes (item_count admitted.now.graph) lines.now }
+    requires rows { AreSievedRows tables.now.nodes (item_count admitted.now.graph) rows.now }
     requires item { item < item_count admitted.now.graph }
     requires cube { IsKnown admitted.now.graph column.now.cube }
     requires delay { IsDelay admitted.now.graph delay }
@@ -104,12 +106,12 @@ pub(crate) fn least_delay(
 {
     let problem = admitted.problem();
     let (cube, time) = (&column.cube, column.time);
-    let line = &lines[item as usize];
-    // even the last column is done by then, with any faults
-    if line.last.saturating_add(most(problem, delay)) <= time {
+    let row = &rows[item as usize];
+    // even what the last column of the item begins is done by then, with any faults
+    if row.last.saturating_add(most(problem, delay)) <= time {
         return Ok(None);
     }
     let late = Late { cube, delay, time };
-    let found = least_near(alloc, admitted, line, cube, &late)?;
+    let found = least_near(alloc, admitted, row, cube, &late)?;
     Ok(found)
 }

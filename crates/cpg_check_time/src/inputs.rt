@@ -12,7 +12,7 @@ ghost use Rattle.cpg_head.specs.GraphHead.{head_of};
 ghost use Rattle.cpg_table.specs.Lawful.{AreTablesOf};
 ghost use Rattle.cpg_check_time.specs.Columns.{IsColumn};
 ghost use Rattle.cpg_check_time.specs.Inputs.{lacks_input};
-ghost use Rattle.cpg_violation.specs.Lines.{AreLines};
+ghost use Rattle.cpg_violation.specs.SievedRows.{AreSievedRows};
 ghost use Rattle.cpg_check_time.specs.Ready.{IsReady};
 
 use crate::delays::{Delay, least_delay};
@@ -23,10 +23,11 @@ use cpg_cube::{Column, Cube};
 use cpg_order::Links;
 use cpg_rules::Admitted;
 use cpg_table::Tables;
-use cpg_violation::{SievedLine, edge_cube};
+use cpg_violation::{SievedRow, edge_cube};
 use std::alloc::Global;
 
-/// The scenarios that two cubes match; `None` exactly if there are none.
+/// The cube that matches where two cubes both do; `None` exactly if their ranges of some variable have no number in
+/// common.
 fn common(cube: &Cube, other: &Cube) -> Result<Option<Cube>, OutOfMemory>
     ensures both { IfOk result (λ r. IfSome r (λ part. (s : Scenario) → matches part s ≡ (matches cube.now s && matches other.now s))) }
     ensures known { IfOk result (λ r. IfSome r (λ part. (g : Graph) → IsKnown g cube.now → IsKnown g other.now → IsKnown g part)) }
@@ -34,7 +35,7 @@ fn common(cube: &Cube, other: &Cube) -> Result<Option<Cube>, OutOfMemory>
 {
     let mut part = cube.copy()?;
     for literal in other.literals() {
-        // no scenario matches both
+        // the literal leaves its variable no number
         let Some(next) = part.with(*literal)? else {
             return Ok(None);
         };
@@ -43,34 +44,36 @@ fn common(cube: &Cube, other: &Cube) -> Result<Option<Cube>, OutOfMemory>
     Ok(Some(part))
 }
 
-/// The least scenario in which a column matches and an input is live and not there by its time, if there is one.
+/// The least scenario in which a column matches, and an input is live and isn't there by its time. `None` exactly if
+/// there is none.
 fn least_lacking(
     alloc: Global,
     admitted: &Admitted,
     tables: &Tables,
-    lines: &[SievedLine<'_>],
+    rows: &[SievedRow<'_>],
     edge: u32,
     column: &Column,
 ) -> Result<Option<Scenario>, OutOfMemory>
     requires lawful { AreTablesOf (head_of admitted.now.graph) tables.now.nodes }
-    requires lines { AreLines tables.now.nodes (item_count admitted.now.graph) lines.now }
+    requires rows { AreSievedRows tables.now.nodes (item_count admitted.now.graph) rows.now }
     requires edge { edge < edge_count admitted.now.graph }
     requires column { IsColumn admitted.now.graph column.now }
     ensures { IfOk result (IsFirst admitted.now.graph admitted.now.order (lacks_input admitted.now.graph tables.now.nodes column.now edge)) }
 {
     let problem = admitted.problem();
-    // a message: it has to be sent a slot before
+    // a message is there a slot after it was sent
     if problem.is_message(edge) {
+        // messages are numbered behind the starts
         let item = problem.processes().len() as u32 + edge;
         let slot = Delay::Slot(problem.slot_length(problem.home(item)));
-        let found = least_delay(alloc, admitted, tables, lines, item, column, slot)?;
+        let found = least_delay(alloc, admitted, tables, rows, item, column, slot)?;
         return Ok(found);
     }
+    // any other input is there when its source, on the same node, has ended
     let process = problem.source(edge);
     let execution = Delay::Execution(process);
-    // any other input: its source has to end before, in the scenarios in which the edge is live
     let asked = edge_cube(alloc, problem, edge)?;
-    // the edge is live in no scenario of the column
+    // in no scenario of the column the source has the value that the edge asks for
     let Some(part) = common(&column.cube, &asked)? else {
         return Ok(None);
     };
@@ -78,22 +81,22 @@ fn least_lacking(
         time: column.time,
         cube: part,
     };
-    let found = least_delay(alloc, admitted, tables, lines, process, &part, execution)?;
+    let found = least_delay(alloc, admitted, tables, rows, process, &part, execution)?;
     Ok(found)
 }
 
-/// The least scenario in which a column matches and one of several inputs is live and not there by its time, if there
-/// is one.
+/// The least scenario in which a column matches, and one of several inputs is live and isn't there by its time. `None`
+/// exactly if there is none.
 fn least_of_lacking(
     alloc: Global,
     admitted: &Admitted,
     tables: &Tables,
-    lines: &[SievedLine<'_>],
+    rows: &[SievedRow<'_>],
     edges: &[u32],
     column: &Column,
 ) -> Result<Option<Scenario>, OutOfMemory>
     requires lawful { AreTablesOf (head_of admitted.now.graph) tables.now.nodes }
-    requires lines { AreLines tables.now.nodes (item_count admitted.now.graph) lines.now }
+    requires rows { AreSievedRows tables.now.nodes (item_count admitted.now.graph) rows.now }
     requires edges { All (λ e. e < edge_count admitted.now.graph) edges.now }
     requires column { IsColumn admitted.now.graph column.now }
     ensures { IfOk result (IsFirst admitted.now.graph admitted.now.order
@@ -101,20 +104,22 @@ fn least_of_lacking(
 {
     let problem = admitted.problem();
     let order = admitted.order();
-    // goes over the edges, and keeps the least scenario of all
+    // the least scenario of the edges so far
     let mut found: Option<Scenario> = None;
     for edge in edges {
-        let next = least_lacking(alloc, admitted, tables, lines, *edge, column)?;
+        let next = least_lacking(alloc, admitted, tables, rows, *edge, column)?;
         found = earlier(problem, order, found, next);
     }
     Ok(found)
 }
 
-/// The rule that all that an item waits for is there: the inputs of each process, and the columns of each item.
+/// Judges V5.
 #[derive(Drop)]
 pub(crate) struct WaitedInputs<'a> {
+    /// The inputs of each process.
     pub(crate) links: Links,
-    pub(crate) lines: &'a [SievedLine<'a>],
+    /// The rows of all items, by number.
+    pub(crate) rows: &'a [SievedRow<'a>],
 }
 
 impl<'a> TimeJudge for WaitedInputs<'a> {
@@ -122,6 +127,8 @@ impl<'a> TimeJudge for WaitedInputs<'a> {
 
     ghost suits = { λ judge g tables. IsReady g tables judge };
 
+    /// The least scenario in which a column of an item is earlier than the release of its process or something that the
+    /// item waits for. `None` exactly if there is none.
     fn least(
         &self,
         alloc: Global,
@@ -131,20 +138,21 @@ impl<'a> TimeJudge for WaitedInputs<'a> {
         column: &Column,
     ) -> Result<Option<Scenario>, OutOfMemory> {
         let problem = admitted.problem();
-        let lines = self.lines;
+        let rows = self.rows;
         // a message or a broadcast waits for its producer's end
         if item as usize >= problem.processes().len() {
             let process = problem.producer(item);
             let end = Delay::Execution(process);
-            let least = least_delay(alloc, admitted, tables, lines, process, column, end)?;
+            let least = least_delay(alloc, admitted, tables, rows, process, column, end)?;
             return Ok(least);
         }
+        // before the release it breaks the rule in each scenario that it matches
         if column.time < problem.release(item) {
             let least = column.cube.least(alloc, problem)?;
             return Ok(least);
         }
         let edges = self.links.inputs(item);
-        let least = least_of_lacking(alloc, admitted, tables, lines, edges, column)?;
+        let least = least_of_lacking(alloc, admitted, tables, rows, edges, column)?;
         Ok(least)
     }
 

@@ -1,4 +1,4 @@
-//! The first violation of a rule that each column keeps or breaks by itself.
+//! The search for the first violation of a rule that judges each column by itself.
 ghost use Rattle.std.specs.Prelude.{◌≡◌, ◌<◌, ℕ, Contains, IfNone, IfOk, IfSome, List, Some, false, true};
 ghost use Rattle.cpg_base.specs.Graph.{Graph, item_count};
 ghost use Rattle.cpg_base.specs.First.{IsFirst};
@@ -21,13 +21,15 @@ use cpg_table::{Fault, Rule, Tables};
 use cpg_violation::is_marked;
 use std::alloc::Global;
 
-/// A rule on single columns, with what its questions need to know of the tables.
+/// Judges one of V5 to V9, each of which judges a column by itself.
 pub(crate) trait TimeJudge {
+    // the rule
     ghost rule: { Rule };
 
+    // what the judge has to know of a graph and its tables
     ghost suits: { Self → Graph → List NodeTable → Type 0 };
 
-    /// The least scenario in which a column of an item breaks the rule, if there is one.
+    /// The least scenario in which a column of an item breaks the rule. `None` exactly if there is none.
     fn least(
         &self,
         alloc: Global,
@@ -43,10 +45,12 @@ pub(crate) trait TimeJudge {
         requires column { IsColumn admitted.now.graph column.now }
         ensures { IfOk result (IsFirst admitted.now.graph admitted.now.order (breaks_column rule admitted.now.graph tables.now.nodes item column.now)) };
 
+    // the rule is neither V2 nor V3
     ghost alone: { is_alone rule ≡ true };
 }
 
-/// The first column of an item that breaks the rule, and the least scenario in which it does.
+/// The place of the first column of an item that breaks the rule in some scenario, with the least such scenario. `None`
+/// exactly if none does.
 fn first_in_row<J: TimeJudge>(
     alloc: Global,
     admitted: &Admitted,
@@ -64,17 +68,18 @@ fn first_in_row<J: TimeJudge>(
         (λ i s. breaks J.rule admitted.now.graph tables.now.nodes s item (Some i)))) }
 {
     let columns = tables.columns_of(item);
-    for (column, entry) in columns.iter().enumerate() {
-        let least = judge.least(alloc, admitted, tables, item, entry)?;
+    for (place, column) in columns.iter().enumerate() {
+        let least = judge.least(alloc, admitted, tables, item, column)?;
         if let Some(scenario) = least {
-            return Ok(Some((column as u32, scenario)));
+            // a row has far fewer columns than 2^32
+            return Ok(Some((place as u32, scenario)));
         }
     }
     Ok(None)
 }
 
-/// The first violation of the rule, by item and column, with the least scenario in the urgency order in which it
-/// stands. `None` exactly if the rule holds. Items at which it is marked as sure are left out.
+/// The first violation of a rule, by item and column, with the least scenario in the urgency order in which it occurs.
+/// `None` exactly if the rule holds. Items at which it is marked as sure are left out.
 pub(crate) fn first_violation<J: TimeJudge>(
     alloc: Global,
     admitted: &Admitted,
@@ -91,6 +96,7 @@ pub(crate) fn first_violation<J: TimeJudge>(
     ensures first { IfOk result (λ r. IfSome r (IsFirstViolation admitted.now.graph admitted.now.order tables.now.nodes J.rule)) }
 {
     for item in 0..admitted.problem().item_count() {
+        // the rule holds here
         if is_marked(marks, item) {
             continue;
         }

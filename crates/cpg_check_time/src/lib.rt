@@ -9,7 +9,7 @@ mod frozen;
 mod inputs;
 mod judge;
 mod lateness;
-mod lines;
+mod meeting;
 mod pairs;
 mod processor;
 mod questions;

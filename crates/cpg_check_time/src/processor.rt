@@ -4,7 +4,7 @@ ghost use Rattle.cpg_base.specs.Graph.{item_count, process_count};
 ghost use Rattle.cpg_table.specs.declared.rule.Rule.{Rule};
 ghost use Rattle.cpg_check_time.specs.Clashes.{overlaps, overlaps_some};
 ghost use Rattle.cpg_check_time.specs.Questions.{FitsOverlap};
-ghost use Rattle.cpg_violation.specs.Lines.{AreLines};
+ghost use Rattle.cpg_violation.specs.SievedRows.{AreSievedRows};
 
 use crate::judge::TimeJudge;
 use crate::lateness::least_late;
@@ -14,14 +14,18 @@ use cpg_base::{OutOfMemory, Problem, Scenario};
 use cpg_cube::Column;
 use cpg_rules::Admitted;
 use cpg_table::Tables;
-use cpg_violation::SievedLine;
+use cpg_violation::SievedRow;
 use std::alloc::Global;
 
-/// Asks whether the execution that a column of a process starts overlaps the one that a column of another process starts.
+/// Asks of a column of process `other` whether the execution that it starts overlaps the one that `column` of `process`
+/// starts.
 #[derive(Drop)]
 pub(crate) struct Overlap<'a> {
+    /// The process that `column` starts.
     pub(crate) process: u32,
+    /// A column of `process`.
     pub(crate) column: &'a Column,
+    /// The process whose columns are asked.
     pub(crate) other: u32,
 }
 
@@ -37,12 +41,12 @@ impl<'a> Question for Overlap<'a> {
         room: &mut Scenario,
     ) -> Result<Option<Scenario>, OutOfMemory> {
         let column = self.column;
-        // the other one starts first: does it end late, behind the start of this one?
+        // the other execution starts first: the two overlap if it ends after this one's start
         if beside.time <= column.time {
-            // this one starts first: does it end late, behind the start of the other?
             let found = least_late(problem, &column.cube, beside, self.other, column.time, room)?;
             return Ok(found);
         }
+        // this one starts first: the two overlap if it ends after the other's start
         let found = least_late(
             problem,
             &beside.cube,
@@ -55,22 +59,23 @@ impl<'a> Question for Overlap<'a> {
     }
 }
 
-/// The rule that no two executions on a processor overlap: the columns of each item.
+/// Judges V6.
 #[derive(Drop)]
 pub(crate) struct Processors<'a> {
-    pub(crate) lines: &'a [SievedLine<'a>],
+    /// The rows of all items, by number.
+    pub(crate) rows: &'a [SievedRow<'a>],
 }
 
 impl<'a> ColumnPairs for Processors<'a> {
-    ghost fits = { λ pairs g tables. AreLines tables (item_count g) pairs.lines.now };
+    ghost fits = { λ pairs g tables. AreSievedRows tables (item_count g) pairs.rows.now };
 
     ghost count = { process_count };
 
     ghost clash = { overlaps_some };
 
-    /// The least scenario in which the execution that a column starts overlaps one of another process of its node, if there is
-    /// one. Only columns that may match together with this one are looked at, and none if all are too early or too late.
-    /// The contract alone names `tables`.
+    /// The least scenario in which the execution that a column starts overlaps one of another process of its node.
+    /// `None` exactly if there is none. Only columns that may match together with this one are looked at, and none if
+    /// all are too early or too late. Only the contract names `tables`.
     fn least_with(
         &self,
         alloc: Global,
@@ -81,19 +86,19 @@ impl<'a> ColumnPairs for Processors<'a> {
         other: u32,
     ) -> Result<Option<Scenario>, OutOfMemory> {
         let problem = admitted.problem();
-        let lines = self.lines;
-        let line = &lines[other as usize];
+        let rows = self.rows;
+        let row = &rows[other as usize];
         // they run on different processors
         if problem.node_of(other) != problem.node_of(item) {
             return Ok(None);
         }
         // all of the other row starts when this execution has ended, with any faults
-        if line.first >= column.time + problem.duration(item, problem.faults()) {
+        if row.first >= column.time + problem.duration(item, problem.faults()) {
             return Ok(None);
         }
         let longest = problem.duration(other, problem.faults());
         // all of the other row has ended before this execution starts
-        if line.last.saturating_add(longest) <= column.time {
+        if row.last.saturating_add(longest) <= column.time {
             return Ok(None);
         }
         let overlap = Overlap {
@@ -101,7 +106,7 @@ impl<'a> ColumnPairs for Processors<'a> {
             column,
             other,
         };
-        let found = least_near(alloc, admitted, line, &column.cube, &overlap)?;
+        let found = least_near(alloc, admitted, row, &column.cube, &overlap)?;
         Ok(found)
     }
 }
@@ -109,8 +114,10 @@ impl<'a> ColumnPairs for Processors<'a> {
 impl<'a> TimeJudge for Processors<'a> {
     ghost rule = { Rule.Processor };
 
-    ghost suits = { λ judge g tables. AreLines tables (item_count g) judge.lines.now };
+    ghost suits = { λ judge g tables. AreSievedRows tables (item_count g) judge.rows.now };
 
+    /// The least scenario in which the execution that a column starts overlaps one of a lower process of its node.
+    /// `None` exactly if there is none.
     fn least(
         &self,
         alloc: Global,
@@ -119,7 +126,7 @@ impl<'a> TimeJudge for Processors<'a> {
         item: u32,
         column: &Column,
     ) -> Result<Option<Scenario>, OutOfMemory> {
-        // only processes run on a processor: a send can't break V6
+        // a send takes no time on a processor
         if item as usize >= admitted.problem().processes().len() {
             return Ok(None);
         }

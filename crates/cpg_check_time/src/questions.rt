@@ -1,4 +1,4 @@
-//! The least scenario in which one of several columns is as asked.
+//! The least scenario in which one of several columns is as a question asks.
 ghost use Rattle.std.specs.Prelude.{◌≡◌, ℕ, Bool, All, IfOk, List, length, map, true};
 ghost use Rattle.std.specs.List.{list_any};
 ghost use Rattle.cpg_base.specs.Graph.{Graph, process_count};
@@ -6,25 +6,28 @@ ghost use Rattle.cpg_base.specs.First.{IsFirst};
 ghost use Rattle.cpg_base.specs.Scenario.{Scenario};
 ghost use Rattle.cpg_cube.specs.Cube.{matches};
 ghost use Rattle.cpg_cube.specs.declared.column.Column.{Column};
-ghost use Rattle.cpg_violation.specs.Lines.{IsLine};
+ghost use Rattle.cpg_violation.specs.SievedRows.{IsSievedRow};
 ghost use Rattle.cpg_violation.specs.Room.{HasRoom};
 ghost use Rattle.cpg_check_time.specs.Columns.{IsColumn};
 
-use crate::lines::meeting;
+use crate::meeting::meeting;
 use cpg_base::{Order, OutOfMemory, Problem, Scenario};
 use cpg_cover::earlier;
 use cpg_cube::{Column, Cube};
 use cpg_rules::Admitted;
-use cpg_violation::SievedLine;
+use cpg_violation::SievedRow;
 use std::alloc::Global;
 
-/// What is asked of a column in a scenario.
+/// A question about a column in a scenario.
 pub(crate) trait Question {
+    // all that the question names is the graph's
     ghost fits: { Self → Graph → Type 0 };
 
+    // whether the column is as asked in the scenario
     ghost asks: { Self → Graph → Column → Scenario → Bool };
 
-    /// The least scenario in which a column is as asked, if there is one.
+    /// The least scenario in which a column is as asked. `None` exactly if there is none. Any scenario of the graph may
+    /// be passed as `room`, and is overwritten.
     fn least(
         &self,
         problem: &Problem,
@@ -38,7 +41,7 @@ pub(crate) trait Question {
         ensures first { IfOk result (λ r. (order : List ℕ) → IsFirst problem.now order (asks self.now problem.now beside.now) r) };
 }
 
-/// The least scenario in which one of several columns is as asked, if there is one.
+/// The least scenario in which one of several columns is as asked. `None` exactly if there is none.
 fn least_of<Q: Question>(
     alloc: Global,
     problem: &Problem,
@@ -52,7 +55,9 @@ fn least_of<Q: Question>(
     ensures { IfOk result (IsFirst problem.now order.now
         (λ s. list_any (λ d. Q.asks question.now problem.now d s) (map (λ b. b.now) columns.now))) }
 {
+    // one scenario to work in for all columns
     let mut room = Scenario::zero(alloc, problem)?;
+    // the least scenario of the columns so far
     let mut found: Option<Scenario> = None;
     for beside in columns {
         let next = question.least(problem, beside, &mut room)?;
@@ -61,26 +66,26 @@ fn least_of<Q: Question>(
     Ok(found)
 }
 
-/// The least scenario in which a column of a line is as asked, if there is one. Only a column that matches together
-/// with a cube can be, and only columns that may are looked at.
+/// The least scenario in which some column of a row is as asked. `None` exactly if there is none. Only a column that
+/// matches together with a cube can be as asked (`near`), so only those that may are looked at.
 pub(crate) fn least_near<Q: Question>(
     alloc: Global,
     admitted: &Admitted,
-    line: &SievedLine<'_>,
+    row: &SievedRow<'_>,
     cube: &Cube,
     question: &Q,
 ) -> Result<Option<Scenario>, OutOfMemory>
-    requires line { IsLine line.now.columns.now line.now }
-    requires columns { All (IsColumn admitted.now.graph) line.now.columns.now }
+    requires row { IsSievedRow row.now.columns.now row.now }
+    requires columns { All (IsColumn admitted.now.graph) row.now.columns.now }
     requires fits { Q.fits question.now admitted.now.graph }
     requires near { (s : Scenario) (d : Column) → Q.asks question.now admitted.now.graph d s ≡ true
         → (matches cube.now s ≡ true) × (matches d.cube s ≡ true) }
     ensures { IfOk result (IsFirst admitted.now.graph admitted.now.order
-        (λ s. list_any (λ d. Q.asks question.now admitted.now.graph d s) line.now.columns.now)) }
+        (λ s. list_any (λ d. Q.asks question.now admitted.now.graph d s) row.now.columns.now)) }
 {
     let problem = admitted.problem();
     let order = admitted.order();
-    let near = meeting(alloc, line, cube)?;
+    let near = meeting(alloc, row, cube)?;
     let found = least_of(alloc, problem, order, question, near.as_slice())?;
     Ok(found)
 }

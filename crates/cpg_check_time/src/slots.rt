@@ -1,10 +1,10 @@
-//! V7: each send is at the start of an own slot, and no two items of a node share one.
+//! V7: each send is at the start of a slot of its own node, and no two items of a node share one.
 ghost use Rattle.std.proofs.Common.{refl};
 ghost use Rattle.cpg_base.specs.Graph.{item_count};
 ghost use Rattle.cpg_cube.specs.Fit.{IsKnown};
 ghost use Rattle.cpg_table.specs.declared.rule.Rule.{Rule};
 ghost use Rattle.cpg_check_time.specs.Clashes.{shares, shares_some};
-ghost use Rattle.cpg_violation.specs.Lines.{AreLines};
+ghost use Rattle.cpg_violation.specs.SievedRows.{AreSievedRows};
 
 use crate::judge::TimeJudge;
 use crate::pairs::{ColumnPairs, least_of_lower};
@@ -14,12 +14,13 @@ use cpg_bus::is_slot_start;
 use cpg_cube::Column;
 use cpg_rules::Admitted;
 use cpg_table::Tables;
-use cpg_violation::{SievedLine, met};
+use cpg_violation::{SievedRow, met};
 use std::alloc::Global;
 
-/// Asks whether a column matches together with another at its time.
+/// Asks of a column whether it matches together with another, `column`, and has its time.
 #[derive(Drop)]
 pub(crate) struct Shared<'a> {
+    /// The column that another is to match together with, at the same time.
     pub(crate) column: &'a Column,
 }
 
@@ -35,7 +36,7 @@ impl<'a> Question for Shared<'a> {
         room: &mut Scenario,
     ) -> Result<Option<Scenario>, OutOfMemory> {
         let column = self.column;
-        // sends at different times have different slots
+        // sends of a node at different times are in different slots
         if beside.time != column.time {
             return Ok(None);
         }
@@ -44,22 +45,23 @@ impl<'a> Question for Shared<'a> {
     }
 }
 
-/// The rule that each send has a slot of its own: the columns of each item.
+/// Judges V7.
 #[derive(Drop)]
 pub(crate) struct Slots<'a> {
-    pub(crate) lines: &'a [SievedLine<'a>],
+    /// The rows of all items, by number.
+    pub(crate) rows: &'a [SievedRow<'a>],
 }
 
 impl<'a> ColumnPairs for Slots<'a> {
-    ghost fits = { λ pairs g tables. AreLines tables (item_count g) pairs.lines.now };
+    ghost fits = { λ pairs g tables. AreSievedRows tables (item_count g) pairs.rows.now };
 
     ghost count = { item_count };
 
     ghost clash = { shares_some };
 
-    /// The least scenario in which a column matches together with one of another item that the same node sends at that time, if
-    /// there is one. Only columns that may match together with this one are looked at, and none if all are earlier or
-    /// later. The contract alone names `tables`.
+    /// The least scenario in which a column matches together with one of another item that the same node sends at the
+    /// same time. `None` exactly if there is none. Only columns that may match together with this one are looked at,
+    /// and none if all are earlier or later. Only the contract names `tables`.
     fn least_with(
         &self,
         alloc: Global,
@@ -69,27 +71,27 @@ impl<'a> ColumnPairs for Slots<'a> {
         column: &Column,
         other: u32,
     ) -> Result<Option<Scenario>, OutOfMemory> {
-        let lines = self.lines;
-        let line = &lines[other as usize];
-        // all of the other row is later
-        if column.time < line.first {
+        let rows = self.rows;
+        let row = &rows[other as usize];
+        // the other row begins later
+        if column.time < row.first {
             return Ok(None);
         }
-        // all of the other row is earlier
-        if line.last < column.time {
+        // the other row has ended earlier
+        if row.last < column.time {
             return Ok(None);
         }
         let problem = admitted.problem();
-        // the other item isn't sent over the bus
+        // an item that isn't sent over the bus takes no slot
         if !problem.is_sent(other) {
             return Ok(None);
         }
-        // the slots of different nodes don't meet
+        // nodes have different slots
         if problem.home(other) != problem.home(item) {
             return Ok(None);
         }
         let shared = Shared { column };
-        let found = least_near(alloc, admitted, line, &column.cube, &shared)?;
+        let found = least_near(alloc, admitted, row, &column.cube, &shared)?;
         Ok(found)
     }
 }
@@ -97,8 +99,10 @@ impl<'a> ColumnPairs for Slots<'a> {
 impl<'a> TimeJudge for Slots<'a> {
     ghost rule = { Rule.Slot };
 
-    ghost suits = { λ judge g tables. AreLines tables (item_count g) judge.lines.now };
+    ghost suits = { λ judge g tables. AreSievedRows tables (item_count g) judge.rows.now };
 
+    /// The least scenario in which a column of an item breaks V7: it isn't at the start of a slot of the node, or
+    /// shares its slot with a lower item of the node. `None` exactly if there is none.
     fn least(
         &self,
         alloc: Global,
@@ -108,16 +112,16 @@ impl<'a> TimeJudge for Slots<'a> {
         column: &Column,
     ) -> Result<Option<Scenario>, OutOfMemory> {
         let problem = admitted.problem();
-        // the item isn't sent over the bus, so it takes no slot
+        // an item that isn't sent over the bus takes no slot
         if !problem.is_sent(item) {
             return Ok(None);
         }
-        // no slot of the node starts then: the rule breaks in each scenario that the column matches
+        // no slot of the node starts then, so the column breaks the rule in each scenario that it matches
         if !is_slot_start(problem, problem.home(item), column.time) {
             let least = column.cube.least(alloc, problem)?;
             return Ok(least);
         }
-        // the slot is right: it must not be shared with a lower item of the node
+        // of two items that share a slot, the one with the higher number breaks the rule
         let least = least_of_lower(alloc, admitted, tables, self, item, column)?;
         Ok(least)
     }

@@ -1,43 +1,51 @@
--- What a reader is, and that readers one after another are readers.
+-- What it is for a reader to read exactly the spellings of some values (`Reads`), and that two such readers, one after
+-- the other, do so too.
 use Rattle.std.proofs.Common.{◌≡◌, ℕ, suc, Bool, true, false, cond, List, [], ◌∷◌, ◌++◌, length, Result, Ok, Err, refl}
 use Rattle.std.proofs.Common.{sym, ap, subst, ◌∙◌, append_assoc, inl, inr, ◌⊎◌}
 use Rattle.cpg_codec.specs.Reading.{Reader, pure, onward, ◌>>=◌, byte_by}
 
--- where a reader stops: after the good bytes, which some value's spelling begins with; the byte after them stops it
--- whatever follows
+-- where a reader stops. `bytes` are `good` ones and `bad` ones, of which `left` are left. The spelling of some value that
+-- fits goes on with `more` after the good ones; and with the first bad one, if there is one, the reader fails at it
+-- whatever comes after it (`stays`)
 pub record Stop {A : Type 0} (Fits : A → Type 0) (spell : A → List ℕ) (read : Reader A) (bytes : List ℕ)
     (left : ℕ) : Type 0 where
+  -- the bytes are a good part and then the `left` bytes from the failure on
   pub good : List ℕ
   pub bad : List ℕ
   pub whole : bytes ≡ good ++ bad
   pub left_is : left ≡ length bad
+  -- some spelling of a value that fits begins with the good part
   pub value : A
   pub fits : Fits value
   pub more : List ℕ
   pub goes_on : spell value ≡ good ++ more
+  -- with the first bad byte after the good part, reading fails there too, whatever comes after it
   pub stays : (b : ℕ) (tail after : List ℕ) → bad ≡ b ∷ tail → read (good ++ b ∷ after) ≡ Err (suc (length after))
 
--- read reads what spell spells, of the values that fit, of which there is one
+-- `read` reads exactly the spellings of the values that fit, of which there is one at least (`some`)
 pub record Reads {A : Type 0} (Fits : A → Type 0) (spell : A → List ℕ) (read : Reader A) : Type 0 where
   pub some : A
   pub some_fits : Fits some
+  -- what it reads fits, and the bytes are its spelling and the rest
   pub takes : (bytes : List ℕ) (x : A) (rest : List ℕ) → read bytes ≡ Ok (x, rest) → Fits x × (bytes ≡ spell x ++ rest)
+  -- a spelling of a value that fits is read as this, whatever follows
   pub again : (x : A) (rest : List ℕ) → Fits x → read (spell x ++ rest) ≡ Ok (x, rest)
+  -- where it fails, it stops as `Stop` says
   pub stops : (bytes : List ℕ) (left : ℕ) → read bytes ≡ Err left → Stop Fits spell read bytes left
 
--- if a reader followed by another succeeds, both do
+-- if reading on after a first result succeeds, the first result is a value, and the reader for it succeeds
 pub onward_ok : {A B : Type 0} (f : A → Reader B) (r : Result (A × List ℕ) ℕ) (y : B × List ℕ) → onward f r ≡ Ok y →
     (x : A × List ℕ) × (r ≡ Ok x) × (f x.0 x.1 ≡ Ok y)
 onward_ok f (Ok x) y e = (x, refl, e)
 onward_ok f (Err d) y e = absurd cc
 
--- if a reader followed by another fails, one of them does
+-- if reading on after a first result fails, either the first result is this error, or the reader for its value fails so
 pub onward_err : {A B : Type 0} (f : A → Reader B) (r : Result (A × List ℕ) ℕ) (left : ℕ) → onward f r ≡ Err left →
     (r ≡ Err left) ⊎ ((x : A × List ℕ) × (r ≡ Ok x) × (f x.0 x.1 ≡ Err left))
 onward_err f (Ok x) left e = inr (x, refl, e)
 onward_err f (Err d) left e = inl cc
 
--- a reader that has read a value
+-- a success, with the type of a reader's error
 abbrev done : {A : Type 0} → A → Result A ℕ
 done x = Ok x
 
@@ -45,7 +53,7 @@ done x = Ok x
 pub ok_is : {A : Type 0} (x y : A) → done x ≡ done y → x ≡ y
 ok_is x y e = cc
 
--- the reader that reads no bytes reads exactly its value
+-- the reader that reads no byte and gives x reads exactly the empty spelling of x
 pub pure_reads : {A : Type 0} (x : A) → Reads (λ y. y ≡ x) (λ y. []) (pure x)
 pure_reads x = record {
   some = x;
@@ -56,28 +64,28 @@ pure_reads x = record {
   stops = λ bytes left e. absurd cc;
 }
 
--- given two readers, of which the second depends on the value of the first, and a value that holds both values
+-- given a reader r1, a reader r2 for each value of it, and that the value of r2 has the value of r1 as a part, `first`
 module _ {A X : Type 0} (F1 : A → Type 0) (s1 : A → List ℕ) (r1 : Reader A) (F2 : A → X → Type 0) (s2 : A → X → List ℕ)
     (r2 : A → Reader X) (first : X → A)
     (one : Reads F1 s1 r1) (two : (a : A) → F1 a → Reads (F2 a) (s2 a) (r2 a))
     (same : (a : A) (x : X) → F1 a → F2 a x → first x ≡ a) where
-  -- both parts of a value fit
+  -- the first part of a value fits r1, and the value fits the reader for that part
   abbrev pub Both : X → Type 0
   Both x = F1 (first x) × F2 (first x) x
 
-  -- the spelling of the first value, and behind it that of the second
+  -- the spelling of the first part, and after it that of the value by the second reader
   abbrev pub both : X → List ℕ
   both x = s1 (first x) ++ s2 (first x) x
 
-  -- a value that the second reader takes, with the first value, is one of both
+  -- a value that fits the second reader, for a first value that fits, fits both
   from_first : (a : A) (x : X) (fa : F1 a) (fx : F2 a x) → Both x
   from_first a x fa fx = subst (λ (b : A). F1 b × F2 b x) (sym (same a x fa fx)) (fa, fx)
 
-  -- its spelling is that of both
+  -- its spelling is that of the first value and then its own
   both_is : (a : A) (x : X) (fa : F1 a) (fx : F2 a x) → both x ≡ s1 a ++ s2 a x
   both_is a x fa fx = ap (λ (b : A). s1 b ++ s2 b x) (same a x fa fx)
 
-  -- where the first reader stops, both stop
+  -- where the first reader stops, so do both: some value of the second reader completes the spelling that it began
   stop_first : (bytes : List ℕ) (left : ℕ) → Stop F1 s1 r1 bytes left → Stop Both both (r1 >>= r2) bytes left
   stop_first bytes left s =
       let l = two s.value s.fits in
@@ -94,7 +102,8 @@ module _ {A X : Type 0} (F1 : A → Type 0) (s1 : A → List ℕ) (r1 : Reader A
         stays = λ b tail after e. ap (onward r2) (s.stays b tail after e);
       }
 
-  -- a stop of the second reader is one of both readers
+  -- where the second reader stops after the first has read a value, so do both, with the spelling of that value before:
+  -- the good bytes are that spelling and those of the second; a byte that no value has there stays one
   stop_second : (bytes : List ℕ) (left : ℕ) (a : A) (rest : List ℕ) → F1 a → bytes ≡ s1 a ++ rest →
       Stop (F2 a) (s2 a) (r2 a) rest left →
       Stop Both both (r1 >>= r2) bytes left
@@ -113,7 +122,7 @@ module _ {A X : Type 0} (F1 : A → Type 0) (s1 : A → List ℕ) (r1 : Reader A
             ∙ ap (onward r2) (one.again a (s.good ++ b ∷ after) fa) ∙ s.stays b tail after e;
       }
 
-  -- two readers, one after the other, read exactly both spellings
+  -- two readers, one after the other, read exactly the values that fit both; each field follows from those of the two
   pub then_reads : Reads Both both (r1 >>= r2)
   then_reads = record {
     some = (two one.some one.some_fits).some;
@@ -138,14 +147,15 @@ module _ {A X : Type 0} (F1 : A → Type 0) (s1 : A → List ℕ) (r1 : Reader A
     ];
   }
 
--- two readers, one after the other, with parts that antt finds by itself
+-- the same with implicit arguments
 pub seq : {A X : Type 0} {F1 : A → Type 0} {s1 : A → List ℕ} {r1 : Reader A} {F2 : A → X → Type 0} {s2 : A → X → List ℕ}
     {r2 : A → Reader X} (first : X → A)
     → Reads F1 s1 r1 → ((a : A) → F1 a → Reads (F2 a) (s2 a) (r2 a)) → ((a : A) (x : X) → F1 a → F2 a x → first x ≡ a)
     → Reads (λ x. F1 (first x) × F2 (first x) x) (λ x. s1 (first x) ++ s2 (first x) x) (r1 >>= r2)
 seq {A} {X} {F1} {s1} {r1} {F2} {s2} {r2} first one two same = then_reads F1 s1 r1 F2 s2 r2 first one two same
 
--- a reader reads exactly the spellings of the same values, if these are described in another way
+-- if the values that fit, and their spellings, can be said in another way (G, t), the reader reads exactly those: each
+-- of the laws is said again with `to`, `from` and `same`
 pub adapt : {A : Type 0} {F G : A → Type 0} {s t : A → List ℕ} {r : Reader A} → Reads F s r → ((x : A) → F x → G x) →
     ((x : A) → G x → F x) → ((x : A) → G x → s x ≡ t x) → Reads G t r
 adapt {A} {F} {G} {s} {t} {r} l to from same = record {
@@ -167,15 +177,15 @@ adapt {A} {F} {G} {s} {t} {r} l to from same = record {
   };
 }
 
--- a byte that passes is read
+-- a byte that passes the test is read, and the others are left
 byte_step : (ok : ℕ → Bool) (b : ℕ) (bytes : List ℕ) → ok b ≡ true → byte_by ok (b ∷ bytes) ≡ Ok (b, bytes)
 byte_step ok b bytes h = rw h refl
 
--- a byte that fails the test isn't read
-byte_stop : (ok : ℕ → Bool) (b : ℕ) (bytes : List ℕ) → ok b ≡ false → byte_by ok (b ∷ bytes) ≡ Err (suc (length bytes))
-byte_stop ok b bytes h = rw h refl
+-- a byte that fails the test isn't read: it is left, and all after it
+failing_byte_left : (ok : ℕ → Bool) (b : ℕ) (bytes : List ℕ) → ok b ≡ false → byte_by ok (b ∷ bytes) ≡ Err (suc (length bytes))
+failing_byte_left ok b bytes h = rw h refl
 
--- if a byte is read, it passes the test, and the other bytes are left
+-- if the first byte is read, it passes the test and the others are left; t is the answer of the test
 byte_took : (ok : ℕ → Bool) (b : ℕ) (bytes : List ℕ) (c : ℕ) (rest : List ℕ) (t : Bool) → t ≡ ok b →
     cond {A = Result (ℕ × List ℕ) ℕ} t (Ok (b, bytes)) (Err (suc (length bytes))) ≡ done (c, rest) →
     (ok c ≡ true) × (b ∷ bytes ≡ c ∷ rest)
@@ -183,7 +193,7 @@ byte_took ok b bytes c rest true h e = let k = ok_is (b, bytes) (c, rest) e in
     (subst (λ (x : ℕ). ok x ≡ true) (ap (λ (p : ℕ × List ℕ). p.0) k) (sym h), ap (λ (p : ℕ × List ℕ). p.0 ∷ p.1) k)
 byte_took ok b bytes c rest false h e = absurd cc
 
--- if a byte isn't read, it fails the test, and all bytes are left
+-- if the first byte isn't read, it fails the test and all bytes are left; t is the answer of the test
 byte_not : (ok : ℕ → Bool) (b : ℕ) (bytes : List ℕ) (left : ℕ) (t : Bool) → t ≡ ok b →
     cond {A = Result (ℕ × List ℕ) ℕ} t (Ok (b, bytes)) (Err (suc (length bytes))) ≡ Err left →
     (ok b ≡ false) ×
@@ -191,13 +201,14 @@ byte_not : (ok : ℕ → Bool) (b : ℕ) (bytes : List ℕ) (left : ℕ) (t : Bo
 byte_not ok b bytes left true h e = absurd cc
 byte_not ok b bytes left false h e = (sym h, cc)
 
--- a byte that was read passes the test
+-- what was read is the first byte, and it passes the test
 byte_takes : (ok : ℕ → Bool) (bytes : List ℕ) (c : ℕ) (rest : List ℕ) → byte_by ok bytes ≡ Ok (c, rest) →
     (ok c ≡ true) × (bytes ≡ c ∷ rest)
 byte_takes ok [] c rest e = absurd cc
 byte_takes ok (b ∷ bytes) c rest e = byte_took ok b bytes c rest (ok b) refl e
 
--- if the next byte doesn't pass, the reader stops
+-- if no byte is read, the reader stops there: the bytes have ended, or the first one fails the test, and so it does whatever
+-- follows; some byte that passes would go on
 byte_stops : (ok : ℕ → Bool) (some : ℕ) (fits : ok some ≡ true) (bytes : List ℕ) (left : ℕ) →
     byte_by ok bytes ≡ Err left →
     Stop (λ b. ok b ≡ true) (λ b. b ∷ []) (byte_by ok) bytes left
@@ -224,10 +235,10 @@ byte_stops ok some fits (b ∷ bytes) left e =
       more = some ∷ [];
       goes_on = refl;
       stays =
-          λ c tail after h. byte_stop ok c after (let q : b ≡ c = cc in subst (λ (x : ℕ). ok x ≡ false) q n.0);
+          λ c tail after h. failing_byte_left ok c after (let q : b ≡ c = cc in subst (λ (x : ℕ). ok x ≡ false) q n.0);
     }
 
--- the reader of one byte reads exactly the bytes that pass its test, if there is one
+-- the reader of one byte reads exactly the bytes that pass its test, if at least one byte passes
 pub byte_reads : (ok : ℕ → Bool) (some : ℕ) → ok some ≡ true → Reads (λ b. ok b ≡ true) (λ b. b ∷ []) (byte_by ok)
 byte_reads ok some fits = record {
   some = some;

@@ -1,4 +1,4 @@
-//! Checking the literals of a column together.
+//! Checking the literals of a column, first all together by a quick test that most pass.
 ghost use Rattle.std.specs.Prelude.{◌≡◌, ◌<◌, IsTrue, All};
 ghost use Rattle.std.specs.Bool.{OnTrue};
 ghost use Rattle.cpg_cube.specs.Cube.{IsRising};
@@ -9,27 +9,30 @@ use crate::space::{is_range, is_variable};
 use cpg_cube::Literal;
 use cpg_table::VariableSpace;
 
-/// Whether a range is a part of the fault counts of a process, and not all of them.
+/// Returns whether a literal's range, on a fault count, has some of the numbers from 0 to the most faults, but not all. The
+/// variable isn't looked at.
 fn is_part(space: &VariableSpace, literal: Literal) -> bool
     ensures { IsTrue result → literal.variable < space.now.processes → IsCountLiteral space.now literal }
 {
+    // `&` and `|`, unlike `&&` and `||`, don't branch
     let within = (literal.low <= literal.high) & (literal.high <= space.faults);
     let part = (literal.high < space.faults) | (literal.low > 0);
     within & part
 }
 
-/// Whether each range is such a part. The loop never ends early, as the compiler makes fast code of such loops.
+/// Returns whether `is_part` holds of each literal; `true` guarantees it. The loop never ends early, so that the compiler
+/// can test several literals at once.
 fn are_parts(space: &VariableSpace, literals: &[Literal]) -> bool
     ensures { OnTrue result (All (λ l. l.variable < space.now.processes → IsCountLiteral space.now l) literals.now) }
 {
-    let mut are = true;
+    let mut all_parts = true;
     for literal in literals {
-        are &= is_part(space, *literal);
+        all_parts &= is_part(space, *literal);
     }
-    are
+    all_parts
 }
 
-/// Whether the last variable is below this, so that all are.
+/// Returns whether the last variable is below `end`, and so, as variables rise, all are; true without literals.
 fn are_below(literals: &[Literal], end: u32) -> bool
     requires { IsRising literals.now }
     ensures { OnTrue result (All (λ l. l.variable < end) literals.now) }
@@ -40,7 +43,7 @@ fn are_below(literals: &[Literal], end: u32) -> bool
     }
 }
 
-/// Whether all literals are on fault counts, and lawful.
+/// Returns whether all literals are on fault counts, and lawful; `true` guarantees it.
 fn are_counts(space: &VariableSpace, literals: &[Literal]) -> bool
     requires { IsRising literals.now }
     ensures { OnTrue result (All (IsCountLiteral space.now) literals.now) }
@@ -51,7 +54,7 @@ fn are_counts(space: &VariableSpace, literals: &[Literal]) -> bool
     are_parts(space, literals)
 }
 
-/// Whether a literal is on a variable of the tables, and its range is a lawful part of the variable's numbers.
+/// Returns whether a literal is on a variable of the space, and its range is one that literals on it may have.
 fn is_lawful(space: &VariableSpace, literal: Literal) -> bool
     requires { IsSpace space.now }
     ensures { IsTrue result → IsLawfulLiteral space.now literal }
@@ -59,7 +62,7 @@ fn is_lawful(space: &VariableSpace, literal: Literal) -> bool
     is_variable(space, literal.variable as u32) && is_range(space, literal)
 }
 
-/// Whether each literal is lawful, one after another.
+/// Returns whether each literal is lawful, looking at one after another.
 fn is_each_lawful(space: &VariableSpace, literals: &[Literal]) -> bool
     requires { IsSpace space.now }
     ensures { OnTrue result (All (IsLawfulLiteral space.now) literals.now) }
@@ -72,7 +75,7 @@ fn is_each_lawful(space: &VariableSpace, literals: &[Literal]) -> bool
     true
 }
 
-/// Whether literals that rise are lawful.
+/// Returns whether all of the literals, whose variables rise, are lawful; `true` guarantees it, `false` nothing.
 pub fn are_lawful(space: &VariableSpace, literals: &[Literal]) -> bool
     requires space { IsSpace space.now }
     requires rising { IsRising literals.now }

@@ -1,6 +1,7 @@
 //! Packs: the tables of all nodes with their head, in one file of bytes.
 //!
-//! [`write_pack`] writes the one spelling of tables, and [`read_pack`] reads it; docs/FORMATS.md says what it is.
+//! Tables have one spelling, byte by byte as docs/FORMATS.md says. [`read_pack`] reads it; [`put_head`], [`put_short`] and
+//! [`put_column`] write its parts.
 #![tactic(auto)]
 
 ghost use Rattle.cpg_codec.specs.Lengths.{AllShort};
@@ -20,7 +21,6 @@ mod row_taking;
 mod row_writing;
 mod space;
 mod unread;
-mod writing;
 
 pub use buffer::Buffer;
 pub use fault::{PackFault, WriteFault};
@@ -32,9 +32,8 @@ pub use head_writing::put_head;
 pub use lawful::tables_are_lawful;
 pub use reading::read_pack;
 pub use row_writing::{put_column, put_short};
-pub use writing::write_pack;
 
-/// A pack is the spelling of one value: tables with equal spellings are equal.
+/// A pack is the spelling of only one value: tables with equal spellings are equal.
 pub fn packs_have_one_value()
     ensures { OneValue }
 {}

@@ -1,5 +1,8 @@
-//! Rows taken from bytes as they stand: the literals of a column are checked together, from the first on that differs
-//! from the column before. If bytes make no row, reading them field by field shows where they go wrong.
+//! Rows taken from bytes at once: the literals of a column are checked together, from the first on that differs from
+//! the column before.
+//!
+//! The functions fail with `Odd` if the bytes may be no lawful row, or end too early: reading them field by field then
+//! finds the bad byte. Those that take `alloc` or `held` also fail with `Memory`, if memory runs out.
 ghost use Rattle.std.specs.Prelude.{◌≡◌, ◌≤◌, ◌+◌, ◌*◌, ◌++◌, ◌∷◌, [], All, length, Ok, IfOk};
 ghost use Rattle.std.specs.Bool.{OnTrue};
 ghost use Rattle.std.specs.List.{flat_map};
@@ -18,7 +21,8 @@ use cpg_head::TIME_END;
 use cpg_table::{Row, VariableSpace};
 use std::alloc::Global;
 
-/// The time of a column, in time units of the graph file, and how many literals it has.
+/// Returns the time of a column, in time units of the graph file, how many literals it has, and the bytes after these
+/// nine; `Odd` if there are fewer.
 fn take_front(bytes: &[u8]) -> Result<(u64, u8, &[u8]), Untaken>
     ensures { IfOk result (λ x. bytes.now ≡ to_be_bytes w64 x.0 ++ x.1 ∷ x.2.now) }
 {
@@ -29,7 +33,7 @@ fn take_front(bytes: &[u8]) -> Result<(u64, u8, &[u8]), Untaken>
     Ok((time, *count, rest))
 }
 
-/// A literal on this variable with this range.
+/// Returns the literal on this variable with this range.
 fn literal_of(variable: u8, low: u8, high: u8) -> Literal
     ensures { result ≡ record { variable = variable; low = low; high = high } }
 {
@@ -40,7 +44,7 @@ fn literal_of(variable: u8, low: u8, high: u8) -> Literal
     }
 }
 
-/// Eight literals, of three bytes each.
+/// Returns the eight literals that these bytes spell, three bytes for each.
 fn eight_of(bytes: [u8; 24]) -> [Literal; 8]
     ensures { flat_map literal_bytes result ≡ bytes }
 {
@@ -56,7 +60,7 @@ fn eight_of(bytes: [u8; 24]) -> [Literal; 8]
     ]
 }
 
-/// Four literals.
+/// Returns the four literals that these bytes spell, three bytes for each.
 fn four_of(bytes: [u8; 12]) -> [Literal; 4]
     ensures { flat_map literal_bytes result ≡ bytes }
 {
@@ -68,7 +72,8 @@ fn four_of(bytes: [u8; 12]) -> [Literal; 4]
     ]
 }
 
-/// Appends the first `count` literals of `bytes` to `held`, and returns the bytes after them.
+/// Appends the first `count` literals of `bytes` to `held`, and returns the bytes after them; `Odd` if the bytes end too
+/// early.
 fn take_each<'a>(held: &mut Vec<Literal>, bytes: &'a [u8], count: u8) -> Result<&'a [u8], Untaken>
     ensures taken { IfOk result (λ rest. flat_map literal_bytes held.old.items ++ bytes.now ≡ flat_map literal_bytes held.new.items ++ rest.now) }
     ensures count { IfOk result (λ rest. length held.new.items ≡ length held.old.items + count) }
@@ -88,13 +93,16 @@ fn take_each<'a>(held: &mut Vec<Literal>, bytes: &'a [u8], count: u8) -> Result<
     Ok(rest)
 }
 
-/// Appends the first `count` literals of `bytes` to `held`, and returns the bytes after them. The first four are taken
-/// at once if there are as many.
-fn take_few<'a>(held: &mut Vec<Literal>, bytes: &'a [u8], count: u8) -> Result<&'a [u8], Untaken>
+/// Does what `take_each` does, but takes the first four at once if `count` is at least four.
+fn take_by_four<'a>(
+    held: &mut Vec<Literal>,
+    bytes: &'a [u8],
+    count: u8,
+) -> Result<&'a [u8], Untaken>
     ensures taken { IfOk result (λ rest. flat_map literal_bytes held.old.items ++ bytes.now ≡ flat_map literal_bytes held.new.items ++ rest.now) }
     ensures count { IfOk result (λ rest. length held.new.items ≡ length held.old.items + count) }
 {
-    // too few for a block of four
+    // fewer than four, too few for a block
     if count < 4 {
         return take_each(held, bytes, count);
     }
@@ -105,8 +113,8 @@ fn take_few<'a>(held: &mut Vec<Literal>, bytes: &'a [u8], count: u8) -> Result<&
     take_each(held, behind, count - 4)
 }
 
-/// Puts the first `count` literals of `bytes` in place of those that `held` had, and returns the bytes after them.
-/// Eight are taken at a time, as most columns have many.
+/// Puts the first `count` literals of `bytes` in place of those that `held` had, and returns the bytes after them; `Odd`
+/// if the bytes end too early. Eight are taken at a time, as most columns have many.
 fn take_literals<'a>(
     held: &mut Vec<Literal>,
     bytes: &'a [u8],
@@ -126,40 +134,44 @@ fn take_literals<'a>(
         left -= 8;
         rest = behind;
     }
-    take_few(held, rest, left)
+    // fewer than eight are left
+    take_by_four(held, rest, left)
 }
 
-/// Whether three bytes spell this literal.
+/// Returns whether three bytes spell a literal; `true` guarantees it.
 fn is_spelled(literal: Literal, variable: u8, low: u8, high: u8) -> bool
     ensures { OnTrue result (literal_bytes literal ≡ variable ∷ low ∷ high ∷ []) }
 {
     (literal.variable == variable) & (literal.low == low) & (literal.high == high)
 }
 
-/// Whether bytes spell these literals. It never stops early, so that the compiler compares them at once.
+/// Returns whether bytes spell these literals, three for each; `true` guarantees it. It never stops early, so that the
+/// compiler can compare several at once.
 fn are_spelled<const N: usize, const M: usize>(literals: &[Literal; N], bytes: &[u8; M]) -> bool
     requires { M ≡ 3 * N }
     ensures { OnTrue result (flat_map literal_bytes literals.now ≡ bytes.now) }
 {
-    let mut are = true;
+    let mut all_spelled = true;
     for at in 0..N {
-        are &= is_spelled(
+        all_spelled &= is_spelled(
             literals[at],
             bytes[3 * at],
             bytes[3 * at + 1],
             bytes[3 * at + 2],
         );
     }
-    are
+    all_spelled
 }
 
-/// How many of the first `most` literals of `bytes` are those of a list, by eights, and the bytes after these.
+/// Returns how many literals `bytes` and the list begin with in common, counted in blocks of eight and at most `most`, and
+/// the bytes after these.
 fn skip_eights<'a>(literals: &[Literal], bytes: &'a [u8], most: usize) -> (usize, &'a [u8])
     ensures { HasFront literals.now bytes.now most result.0 result.1.now }
 {
     let mut left = literals;
     let mut rest = bytes;
     let mut count = 0;
+    // it ends at the first block that one of the two doesn't have whole, or that differs
     while most - count >= 8 {
         let Some((block, behind)) = left.split_first_chunk::<8>() else {
             return (count, rest);
@@ -177,11 +189,11 @@ fn skip_eights<'a>(literals: &[Literal], bytes: &'a [u8], most: usize) -> (usize
     (count, rest)
 }
 
-/// Does what `skip_eights` does, for four literals at most.
+/// Does what `skip_eights` does, but for one block of four: the number is 4 or 0.
 fn skip_four<'a>(literals: &[Literal], bytes: &'a [u8], most: usize) -> (usize, &'a [u8])
     ensures { HasFront literals.now bytes.now most result.0 result.1.now }
 {
-    // too few for a block of four
+    // fewer than four are asked for, or one of the two has fewer: no block
     if most < 4 {
         return (0, bytes);
     }
@@ -197,7 +209,7 @@ fn skip_four<'a>(literals: &[Literal], bytes: &'a [u8], most: usize) -> (usize, 
     (0, bytes)
 }
 
-/// Does what `skip_eights` does, one by one.
+/// Does what `skip_eights` does, but literal by literal.
 fn skip_each<'a>(literals: &[Literal], bytes: &'a [u8], most: usize) -> (usize, &'a [u8])
     ensures { HasFront literals.now bytes.now most result.0 result.1.now }
 {
@@ -214,8 +226,8 @@ fn skip_each<'a>(literals: &[Literal], bytes: &'a [u8], most: usize) -> (usize, 
     (most.min(literals.len()), rest)
 }
 
-/// How many of the first `most` literals of `bytes` are those of a list, and the bytes after these. Columns that are
-/// neighbours mostly differ in the last literals alone, so it looks at many together.
+/// Returns how many literals `bytes` and the list begin with in common, at most `most`, and the bytes after these. Columns
+/// that are neighbours mostly differ in the last literals alone, so it compares many at once.
 fn skip_same<'a>(literals: &[Literal], bytes: &'a [u8], most: usize) -> (usize, &'a [u8])
     ensures { HasFront literals.now bytes.now most result.0 result.1.now }
 {
@@ -226,8 +238,8 @@ fn skip_same<'a>(literals: &[Literal], bytes: &'a [u8], most: usize) -> (usize, 
     (same + ones, rest)
 }
 
-/// The cube of the first `count` literals of `bytes`, each lawful. Those that are the first ones of the column before
-/// aren't judged again. `held` is for the others.
+/// Returns the cube of the first `count` literals of `bytes`, all lawful, and the bytes after them. Those that the column
+/// before, `before`, begins with are lawful and aren't judged again; `held` takes the others.
 fn take_cube<'a>(
     alloc: Global,
     held: &mut Vec<Literal>,
@@ -244,18 +256,21 @@ fn take_cube<'a>(
     ensures lawful { IfOk result (λ x. All (IsLawfulLiteral space.now) x.0) }
 {
     let (same, rest) = skip_same(before, bytes, count as usize);
+    // at most `count` are the same, so their number fits a byte
     let rest = take_literals(held, rest, count - same as u8)?;
-    // any of these cases is left to the reader by fields, which finds the place of the fault
+    // the variables don't rise
     let Some(cube) = Cube::joined(alloc, &before[..same], held.as_slice())? else {
         return Err(Untaken::Odd);
     };
+    // a literal may not be lawful
     if !are_lawful(space, held.as_slice()) {
         return Err(Untaken::Odd);
     }
     Ok((cube, rest))
 }
 
-/// A lawful column. `before` are the literals of the column before, and `held` is for those that differ from them.
+/// Returns a lawful column, and the bytes after it. `before` are the literals of the column before, and `held` takes those
+/// from the first on that differs.
 fn take_column<'a>(
     alloc: Global,
     held: &mut Vec<Literal>,
@@ -270,7 +285,7 @@ fn take_column<'a>(
     ensures lawful { IfOk result (λ x. IsLawfulColumn space.now x.0) }
 {
     let (time, count, rest) = take_front(bytes)?;
-    // a time out of range is left to the reader by fields, too
+    // a time isn't below 2^60
     if time >= TIME_END {
         return Err(Untaken::Odd);
     }
@@ -278,7 +293,7 @@ fn take_column<'a>(
     Ok((Column { time, cube }, rest))
 }
 
-/// The literals of the last of lawful columns; none if there is no column.
+/// Returns the literals of the last of lawful columns; none if there is no column. `space` is there for the contract alone.
 fn last_literals<'a>(space: &VariableSpace, columns: &'a [Column]) -> &'a [Literal]
     requires { All (IsLawfulColumn space.now) columns.now }
     ensures rising { IsRising result.now }
@@ -290,7 +305,7 @@ fn last_literals<'a>(space: &VariableSpace, columns: &'a [Column]) -> &'a [Liter
     }
 }
 
-/// Takes `count` lawful columns from `bytes`, and returns them with the bytes after them.
+/// Returns the `count` columns that `bytes` begin with, all lawful, and the bytes after them.
 fn take_columns<'a>(
     alloc: Global,
     held: &mut Vec<Literal>,
@@ -305,6 +320,7 @@ fn take_columns<'a>(
 {
     let mut columns = Vec::with_capacity(alloc, count as usize)?;
     let mut rest = bytes;
+    // columns are compared with the one before; the first, with no literals
     for _ in 0..count {
         let before = last_literals(space, columns.as_slice());
         let (column, after) = take_column(alloc, held, before, rest, space)?;
@@ -314,7 +330,7 @@ fn take_columns<'a>(
     Ok((columns, rest))
 }
 
-/// A row of at most `most` columns, each lawful.
+/// Returns the row of an item, of at most `most` columns, each lawful, and the bytes after it.
 fn take_row<'a>(
     alloc: Global,
     held: &mut Vec<Literal>,
@@ -329,6 +345,7 @@ fn take_row<'a>(
     ensures few { IfOk result (λ x. length x.0.columns ≤ most) }
     ensures lawful { IfOk result (λ x. All (IsLawfulColumn space.now) x.0.columns) }
 {
+    // two bytes say how many columns there are, the higher one first
     let [high, low, rest @ ..] = bytes else {
         return Err(Untaken::Odd);
     };
@@ -340,7 +357,8 @@ fn take_row<'a>(
     Ok((Row::new(item, columns), rest))
 }
 
-/// A lawful row, if `before` columns were read before, and how many were read up to its end.
+/// Returns the row of an item that `bytes` begin with, how many columns were read up to its end, and the bytes after it.
+/// `before` columns were read before in the pack; `held` is memory for literals, used again from row to row.
 pub fn take_lawful<'a>(
     alloc: Global,
     held: &mut Vec<Literal>,

@@ -1,4 +1,5 @@
-//! Whether a list of cubes covers a cube, by the fewest faults of what it leaves.
+//! Whether a list of cubes covers a cube, by how many faults it takes at least that the cube matches and none of the list
+//! does: if these are more than there may be, the cube is covered.
 ghost use Rattle.std.specs.Prelude.{◌≡◌, ◌≤◌, ◌-◌, ◌||◌, ◌∷◌, [], ℕ, IfOk, IfSome, false, get_or, true};
 ghost use Rattle.std.specs.Bool.{OnTrue};
 ghost use Rattle.std.specs.List.{list_any};
@@ -14,7 +15,7 @@ use cpg_base::{FIRST_VALUE, OutOfMemory, Problem};
 use cpg_cube::{Bounds, Cube, Literal, budget_left};
 use std::alloc::Global;
 
-/// The cube of one literal.
+/// Returns the cube of one literal.
 fn single(alloc: Global, literal: Literal) -> Result<Cube, OutOfMemory>
     ensures { IfOk result (λ cube. cube ≡ literal ∷ []) }
 {
@@ -23,15 +24,19 @@ fn single(alloc: Global, literal: Literal) -> Result<Cube, OutOfMemory>
     Ok(cube)
 }
 
-/// The ranges of a cube, and the faults that it leaves.
+/// What is known of the cube that is to be covered. A scenario that it matches is given by how far each number is beyond the
+/// low of its variable.
 #[derive(Drop)]
 struct Ground {
+    /// The cube's ranges.
     bounds: Bounds,
+    /// How many faults are left beyond its lows.
     left: u8,
 }
 
 impl Ground {
-    /// What a literal asks beyond the low of its variable, if it may hold.
+    /// Returns what a literal asks of the number beyond the low of its variable; `None` if it holds nowhere in the cube, as
+    /// the low is above its range.
     fn beyond(&self, literal: &Literal) -> Option<Literal>
         ensures { IfSome result (λ l. (s : ℕ → ℕ) → get_or self.now.bounds.low literal.now.variable 0 ≤ s literal.now.variable →
             holds_at (beyond self.now.bounds.low s) l ≡ true → holds_at s literal.now ≡ true) }
@@ -53,7 +58,8 @@ impl Ground {
         })
     }
 
-    /// What literals ask beyond the lows, but for those that hold everywhere; `None` if one can't hold.
+    /// Returns what literals ask of the numbers beyond the lows, without those that hold everywhere in the cube; `None` if one
+    /// holds nowhere.
     fn asked(
         &self,
         alloc: Global,
@@ -64,6 +70,7 @@ impl Ground {
     {
         let mut asked = Vec::new(alloc);
         for literal in literals {
+            // a literal that spans all numbers of its variable asks nothing
             if !self.bounds.spans(self.left, literal) {
                 let Some(beyond) = self.beyond(literal) else {
                     return Ok(None);
@@ -74,7 +81,7 @@ impl Ground {
         Ok(Some(asked))
     }
 
-    /// Adds what a cube asks beyond the lows, if it may match.
+    /// Adds to `cubes` the cube of what another one asks beyond the lows, unless a literal of it holds nowhere.
     fn add_cube(
         &self,
         alloc: Global,
@@ -91,7 +98,7 @@ impl Ground {
         Ok(())
     }
 
-    /// What the cubes of a list ask beyond the lows.
+    /// Returns the cubes of what the cubes of a list ask beyond the lows.
     fn cubes(&self, alloc: Global, by: &[&Cube]) -> Result<Vec<Cube>, OutOfMemory>
         ensures { IfOk result (λ cubes. (s : ℕ → ℕ) → IsOn self.now.bounds.low self.now.bounds.high self.now.left s →
             is_any_at (beyond self.now.bounds.low s) cubes.items ≡ true → list_any (λ b. matches_at s b.now) by.now ≡ true) }
@@ -103,12 +110,14 @@ impl Ground {
         Ok(cubes)
     }
 
-    /// What is beyond the width of a literal's range, if this many faults are left.
+    /// Returns the numbers beyond a low that lie outside a literal's range, as a literal on its variable; `None` if nothing needs
+    /// to be said of these.
     fn over(&self, literal: &Literal) -> Option<Literal>
         ensures { IfSome result (λ l. (n : ℕ → ℕ) → n literal.now.variable ≤ literal.now.high - literal.now.low → holds_at n l ≡ false) }
     {
         let width = literal.high.saturating_sub(literal.low);
-        // nothing is added for one number, for a range as wide as the faults that are left, and for a value
+        // For a range of one number it isn't needed: no literal that is left to ask holds at that. A range at least as wide as
+        // the faults left leaves no number outside, and neither does that of a value.
         if width == 0 || width >= self.left || literal.variable >= FIRST_VALUE {
             return None;
         }
@@ -119,7 +128,8 @@ impl Ground {
         })
     }
 
-    /// Adds what is beyond the ranges of literals: the numbers there needn't be matched.
+    /// Adds a cube for the numbers outside the range of each literal of the cube to be covered: scenarios there needn't be
+    /// covered, so they count as matched.
     fn add_over(
         &self,
         alloc: Global,
@@ -138,7 +148,7 @@ impl Ground {
     }
 }
 
-/// Whether a list is found to cover a cube.
+/// Whether a list is found to cover a cube. True only if it does; false says nothing.
 pub(crate) fn is_surely_covered(
     alloc: Global,
     problem: &Problem,
@@ -150,7 +160,7 @@ pub(crate) fn is_surely_covered(
     ensures { IfOk result (λ covered. OnTrue covered ((s : Scenario) → IsScenario problem.now s → matches cube.now s ≡ true →
         list_any (λ b. matches b.now s) by.now ≡ true)) }
 {
-    // the cube has no scenario
+    // the cube has no scenario, which callers have ruled out: it isn't worth a proof that it is covered
     let Some(left) = budget_left(problem.faults(), cube.literals()) else {
         return Ok(false);
     };
@@ -163,6 +173,7 @@ pub(crate) fn is_surely_covered(
         depth: DEPTH,
     };
     memory.begin();
-    let few = fewest(alloc, cubes.as_slice(), bound, memory)?;
-    Ok(few > left)
+    let least_faults = fewest(alloc, cubes.as_slice(), bound, memory)?;
+    // what isn't covered would take more faults than the cube leaves
+    Ok(least_faults > left)
 }

@@ -1,4 +1,5 @@
-//! The fewest faults of a scenario that no cube of a list matches.
+//! How many faults it takes at least that no cube of a list matches: a lower bound that a search finds. It takes a scenario
+//! to be any choice of numbers whose values are 0 or 1.
 ghost use Rattle.std.specs.Prelude.{◌≡◌, ◌≤◌, ◌<◌, ℕ, IfOk, false};
 ghost use Rattle.cpg_cover.specs.Fewest.{Needs, NeedsOutside, NeedsWithout, holds_at};
 
@@ -10,19 +11,20 @@ use cpg_base::{FIRST_VALUE, OutOfMemory};
 use cpg_cube::{Cube, Literal};
 use std::alloc::Global;
 
-/// How deep a search goes: each step settles one of at most 160 variables, takes one of at most 8 faults, or parts the variables.
+/// How many calls of a search may be within one another. Each settles one of at most 160 variables, takes one of at most 8
+/// faults, or parts the cubes by their variables, so this many are enough for most lists.
 pub(crate) const DEPTH: u32 = 256;
 
 /// What a search for the fewest faults is bounded by.
 #[derive(Clone, Copy)]
 pub(crate) struct SearchBound {
-    /// No more faults than these are of interest.
+    /// The most faults that are of interest: if it takes more, no one asks how many more.
     pub(crate) budget: u8,
-    /// How many calls more may stand in one another.
+    /// How many more calls may be within one another.
     pub(crate) depth: u32,
 }
 
-/// How many faults it takes at least that a literal doesn't hold.
+/// Returns how many faults it takes at least that a literal doesn't hold.
 fn fewest_of_literal(literal: &Literal) -> u8
     ensures count { 0 < result → literal.now.variable < 128 }
     ensures fewest { (n : ℕ → ℕ) → holds_at n literal.now ≡ false → result ≤ n literal.now.variable }
@@ -34,7 +36,8 @@ fn fewest_of_literal(literal: &Literal) -> u8
     literal.high.saturating_add(1)
 }
 
-/// How many faults it takes at least that a cube doesn't match.
+/// Returns how many faults it takes at least that a cube doesn't match: the least of its literals', and 255 for the cube
+/// without literals, which always matches.
 fn fewest_of_cube(cube: &Cube) -> u8
     ensures { NeedsOutside cube.now result }
 {
@@ -45,7 +48,7 @@ fn fewest_of_cube(cube: &Cube) -> u8
     fewest
 }
 
-/// How many faults it takes at least that none of the cubes matches, by each alone.
+/// Returns a lower bound of the faults that it takes that none of the cubes matches: the greatest that one cube alone takes.
 fn fewest_of_each(cubes: &[Cube]) -> u8
     ensures { Needs cubes.now result }
 {
@@ -56,28 +59,30 @@ fn fewest_of_each(cubes: &[Cube]) -> u8
     most
 }
 
-/// How many faults it takes at least that none of the cubes matches, by some without common variables.
+/// Returns a lower bound of the faults that it takes that none of the cubes matches: the sum over some cubes that have no
+/// variable in common, taken as they come.
 fn fewest_of_apart(cubes: &[Cube]) -> u8
     ensures { Needs cubes.now result }
 {
     let mut marks = [false; 256];
     let mut sum = 0u8;
     for cube in cubes {
-        let few = fewest_of_cube(cube);
-        if few > 0 && are_all(cube.literals(), &marks, false) {
-            sum = sum.saturating_add(few);
+        let least_faults = fewest_of_cube(cube);
+        // faults are summed up only if they are on other variables than those before
+        if least_faults > 0 && are_all(cube.literals(), &marks, false) {
+            sum = sum.saturating_add(least_faults);
             mark_all(cube.literals(), &mut marks);
         }
     }
     sum
 }
 
-/// Whether a cube matches if all numbers are 0.
+/// Whether a cube matches the scenario in which all numbers are 0.
 fn matches_zero(cube: &Cube) -> bool {
     cube.literals().iter().all(|literal| literal.low == 0)
 }
 
-/// The variable that most cubes have a literal on.
+/// Returns the variable that most cubes have a literal on, and of several the least one; 0 if no cube has a literal.
 fn most_frequent(cubes: &[Cube]) -> u8 {
     let mut counts = [0; 256];
     for cube in cubes {
@@ -92,7 +97,7 @@ fn most_frequent(cubes: &[Cube]) -> u8 {
     best
 }
 
-/// The fewest faults of a value, by those with it false and those with it true.
+/// Returns a lower bound for the cubes by a condition's value: the lesser of those with it false and with it true.
 #[cycle(fewest)]
 fn fewest_by_value(
     alloc: Global,
@@ -110,10 +115,12 @@ fn fewest_by_value(
     let one = stepped(alloc, cubes, SearchStep::more(variable), budget)?;
     let with = fewest(alloc, one.as_slice(), bound, memory)?;
     let fewer = without.min(with);
+    // a step leaves out scenarios with a count above the budget, which have at least one fault more than that
     Ok(fewer.min(budget.saturating_add(1)))
 }
 
-/// The fewest faults if a process has none and these are the fewest, and if it has some.
+/// Returns a lower bound for the cubes by the fault count of a process: the lesser of `without`, which is that if the process
+/// has no fault, and of one more than that after one fault is taken from it.
 #[cycle(fewest)]
 fn fewest_with(
     alloc: Global,
@@ -127,22 +134,25 @@ fn fewest_with(
     requires without { NeedsWithout cubes.now variable bound.budget without }
     ensures { IfOk result (Needs cubes.now) }
 {
+    // more faults than this are of no interest: they are above the budget, or `without` is no greater
     let most = bound.budget.min(without.saturating_sub(1));
     // with a fault of the process there is one at least, so the lesser of `without` and 1 bounds both cases
     if most == 0 {
         return Ok(without.min(1));
     }
+    // one fault is taken from the process, so `most - 1` are left of the budget
     let more = stepped(alloc, cubes, SearchStep::more(variable), most - 1)?;
     let bound = SearchBound {
         budget: most - 1,
         depth: bound.depth,
     };
     let with = fewest(alloc, more.as_slice(), bound, memory)?;
-    let few = with.saturating_add(1);
-    Ok(few.min(most + 1))
+    let least_faults = with.saturating_add(1);
+    // scenarios that the step leaves out have a count of at least `most` after it, so at least `most + 1` faults in all
+    Ok(least_faults.min(most + 1))
 }
 
-/// The fewest faults if a process has none, and if it has some, put together.
+/// Returns a lower bound for the cubes by the fault count of a process: first if it has no fault, then if it has some.
 #[cycle(fewest)]
 fn fewest_by_count(
     alloc: Global,
@@ -156,11 +166,12 @@ fn fewest_by_count(
 {
     let zero = stepped(alloc, cubes, SearchStep::zero(variable), bound.budget)?;
     let without = fewest(alloc, zero.as_slice(), bound, memory)?;
-    let few = fewest_with(alloc, cubes, variable, without, bound, memory)?;
-    Ok(few)
+    let least_faults = fewest_with(alloc, cubes, variable, without, bound, memory)?;
+    Ok(least_faults)
 }
 
-/// The fewest faults for the cubes joined with the first by variables, and for the others, put together.
+/// Returns a lower bound for the cubes as the sum of two: that of the cubes whose variables are marked, and that of the
+/// others, which have no variable in common with them.
 #[cycle(fewest)]
 fn fewest_by_parts(
     alloc: Global,
@@ -172,17 +183,18 @@ fn fewest_by_parts(
     ensures { IfOk result (Needs cubes.now) }
 {
     let first = parted(alloc, cubes, joined, true)?;
-    let few = fewest(alloc, first.as_slice(), bound, memory)?;
+    let first_faults = fewest(alloc, first.as_slice(), bound, memory)?;
     let others = parted(alloc, cubes, joined, false)?;
     let bound = SearchBound {
-        budget: bound.budget.saturating_sub(few),
+        budget: bound.budget.saturating_sub(first_faults),
         depth: bound.depth,
     };
-    let more = fewest(alloc, others.as_slice(), bound, memory)?;
-    Ok(few.saturating_add(more))
+    let other_faults = fewest(alloc, others.as_slice(), bound, memory)?;
+    Ok(first_faults.saturating_add(other_faults))
 }
 
-/// The fewest faults of cubes that are joined by variables, which is remembered.
+/// Returns a lower bound for cubes that are joined by variables: the one kept in memory, or else one by the numbers of their
+/// most frequent variable, which is then kept.
 #[cycle(fewest)]
 fn fewest_of_joined(
     alloc: Global,
@@ -195,22 +207,24 @@ fn fewest_of_joined(
     if let Some(known) = memory.recall(cubes, bound.budget) {
         return Ok(known);
     }
+    // the steps look at each of these cubes
     memory.spend(cubes.len());
     let variable = most_frequent(cubes);
-    let few = if variable < FIRST_VALUE {
+    let least_faults = if variable < FIRST_VALUE {
         fewest_by_count(alloc, cubes, variable, bound, memory)?
     } else {
         fewest_by_value(alloc, cubes, variable, bound, memory)?
     };
-    if few > bound.budget || !memory.is_spent() {
-        let fact = Fact::new(alloc, cubes, few, few <= bound.budget)?;
+    // a bound above the budget says enough even if the search was cut short, and any other one is exact if it wasn't
+    if least_faults > bound.budget || !memory.is_spent() {
+        let fact = Fact::new(alloc, cubes, least_faults, least_faults <= bound.budget)?;
         memory.keep(fact)?;
     }
-    Ok(few)
+    Ok(least_faults)
 }
 
-/// A number that is no greater than the faults of any scenario that none of the cubes matches. It is the least of
-/// these if that is within the budget, and the search isn't cut short.
+/// Returns a lower bound of the faults that it takes that none of the cubes matches. It is just these faults if they are
+/// within the budget and the search isn't cut short; no clause says so.
 #[cycle(fewest)]
 pub(crate) fn fewest(
     alloc: Global,
@@ -221,7 +235,7 @@ pub(crate) fn fewest(
     ensures { IfOk result (Needs cubes.now) }
 {
     let alone = fewest_of_each(cubes);
-    // one cube alone takes more faults than are of interest, or is all
+    // one cube alone takes more faults than are of interest, or there is but one
     if alone > bound.budget || cubes.len() == 1 {
         return Ok(alone);
     }
@@ -230,7 +244,7 @@ pub(crate) fn fewest(
     if apart > bound.budget {
         return Ok(apart);
     }
-    // the search is cut short, or no fault at all leaves each cube unmatched
+    // the search is cut short, so nothing is known; or no cube matches without faults, so it takes none
     if bound.depth == 0 || memory.is_spent() || !cubes.iter().any(matches_zero) {
         return Ok(0);
     }
@@ -241,9 +255,9 @@ pub(crate) fn fewest(
     let joined = joined_variables(cubes);
     // some cubes have no variable in common with the others: the faults of both parts add up
     if has_apart(cubes, &joined) {
-        let few = fewest_by_parts(alloc, cubes, &joined, bound, memory)?;
-        return Ok(few);
+        let least_faults = fewest_by_parts(alloc, cubes, &joined, bound, memory)?;
+        return Ok(least_faults);
     }
-    let few = fewest_of_joined(alloc, cubes, bound, memory)?;
-    Ok(few)
+    let least_faults = fewest_of_joined(alloc, cubes, bound, memory)?;
+    Ok(least_faults)
 }

@@ -1,4 +1,4 @@
-//! What a search has found about lists of cubes.
+//! What a search has found about lists of cubes, to be recalled if it comes to the same list again.
 ghost use Rattle.std.specs.Prelude.{◌≡◌, IfOk, IfSome};
 ghost use Rattle.std.specs.Bool.{OnTrue};
 ghost use Rattle.cpg_cover.specs.Fewest.{Needs};
@@ -8,24 +8,26 @@ use cpg_cube::{Cube, Literal};
 use std::alloc::Global;
 use std::marker::Model;
 
-/// How many facts lie together at most before another list of them is looked through.
+/// How many lists the facts are spread over, by a sum of the cubes that they are about, so that few are looked through.
 const BUCKETS: u32 = 1024;
 
-/// How many literals are kept at most, 3 bytes each.
-const MOST: usize = 1 << 22;
+/// How much room all facts may take together, counted in literals of 3 bytes: 4 Mi of these, which is 12 MiB.
+const MOST_ROOM: usize = 1 << 22;
 
-/// How many cubes may be looked at for the first question.
-const FIRST: u64 = 1 << 22;
+/// How many cubes the first question of a memory may look at.
+const FIRST_LOOKS: u64 = 1 << 22;
 
-/// How many for others at least.
-const OTHERS: u64 = 1 << 14;
+/// How many cubes each later question may look at, at least.
+const LATER_LOOKS: u64 = 1 << 14;
 
-/// How many faults a scenario that none of the cubes matches has at least.
+/// A fact: how many faults it takes at least that none of some cubes matches.
 #[derive(Drop)]
 pub(crate) struct Fact {
+    /// The cubes.
     cubes: Vec<Cube>,
+    /// A lower bound of the faults that it takes that none of the cubes matches.
     fewest: u8,
-    /// Whether there is a scenario with this many faults.
+    /// Whether the bound is believed to be exact, so that it answers for every budget. No clause speaks of this.
     is_exact: bool,
 }
 
@@ -41,7 +43,7 @@ impl Model for Fact {
     ghost invariant = { λ f. Needs f.cubes.items f.fewest };
 }
 
-/// A list of equal cubes.
+/// Returns a list of equal cubes. The one error is `OutOfMemory`.
 fn copy_of(alloc: Global, cubes: &[Cube]) -> Result<Vec<Cube>, OutOfMemory>
     ensures { IfOk result (λ copies. copies.items ≡ cubes.now) }
 {
@@ -53,7 +55,7 @@ fn copy_of(alloc: Global, cubes: &[Cube]) -> Result<Vec<Cube>, OutOfMemory>
     Ok(copies)
 }
 
-/// Whether two literals are found to be equal.
+/// Whether two literals are equal.
 fn is_same(literal: &Literal, other: &Literal) -> bool
     ensures { OnTrue result (literal.now ≡ other.now) }
 {
@@ -69,7 +71,7 @@ fn is_same(literal: &Literal, other: &Literal) -> bool
     true
 }
 
-/// Whether two lists of literals are found to be equal.
+/// Whether two lists of literals are equal.
 fn are_equal(literals: &[Literal], others: &[Literal]) -> bool
     ensures { OnTrue result (literals.now ≡ others.now) }
 {
@@ -84,7 +86,7 @@ fn are_equal(literals: &[Literal], others: &[Literal]) -> bool
     true
 }
 
-/// Whether two lists of cubes are found to be equal.
+/// Whether two lists of cubes are equal.
 fn are_same(cubes: &[Cube], others: &[Cube]) -> bool
     ensures { OnTrue result (cubes.now ≡ others.now) }
 {
@@ -99,7 +101,8 @@ fn are_same(cubes: &[Cube], others: &[Cube]) -> bool
     true
 }
 
-/// A sum that depends on an earlier one and on a literal.
+/// Returns a sum that depends on an earlier one and on a literal. The factor, 2^32 divided by the golden ratio, and the
+/// rotation spread similar literals.
 fn mixed(sum: u32, literal: &Literal) -> u32 {
     let number = (literal.variable as u32) << 16
         | (literal.low as u32) << 8
@@ -107,7 +110,8 @@ fn mixed(sum: u32, literal: &Literal) -> u32 {
     (sum ^ number).wrapping_mul(0x9E37_79B1).rotate_left(13)
 }
 
-/// A sum that depends on an earlier one and on the literals of a cube.
+/// Returns a sum that depends on an earlier one and on the literals of a cube. The number added at the end, which has no
+/// meaning but to be odd and large, tells where a cube ends.
 fn sum_of(sum: u32, literals: &[Literal]) -> u32 {
     let mut sum = sum;
     for literal in literals {
@@ -116,7 +120,7 @@ fn sum_of(sum: u32, literals: &[Literal]) -> u32 {
     sum.wrapping_add(0x85EB_CA6B)
 }
 
-/// Where the facts about a list of cubes lie.
+/// Returns the number of the bucket in which the facts about a list of cubes lie.
 fn bucket_of(cubes: &[Cube]) -> usize {
     let mut sum = 0;
     for cube in cubes {
@@ -126,7 +130,7 @@ fn bucket_of(cubes: &[Cube]) -> usize {
 }
 
 impl Fact {
-    /// The fact that a list of cubes needs at least this many faults.
+    /// Returns the fact that it takes at least `fewest` faults that none of the cubes matches. The one error is `OutOfMemory`.
     pub(crate) fn new(
         alloc: Global,
         cubes: &[Cube],
@@ -143,7 +147,7 @@ impl Fact {
         })
     }
 
-    /// What the fact says of a list of cubes, if it is about that, and answers for this many faults.
+    /// Returns the fact's number if the fact is about these cubes and settles a question with this budget; `None` otherwise.
     fn answer(&self, cubes: &[Cube], budget: u8) -> Option<u8>
         ensures { IfSome result (Needs cubes.now) }
     {
@@ -158,64 +162,69 @@ impl Fact {
         Some(self.fewest)
     }
 
-    /// How much memory the fact takes, counted in literals.
-    fn size(&self) -> usize {
-        let mut size = 0usize;
+    /// Returns how much room the fact takes, counted in literals.
+    fn room(&self) -> usize {
+        let mut room = 0usize;
         for cube in self.cubes.as_slice() {
-            size = size.saturating_add(cube.literals().len() + 16);
+            // a cube takes about as much as 16 literals besides its own
+            room = room.saturating_add(cube.literals().len() + 16);
         }
-        size
+        room
     }
 }
 
-/// Facts by the lists that they are about.
+/// The facts that a search has found, within the room there is, and how much the present question may still look at.
 #[derive(Drop)]
 pub(crate) struct Memory {
+    /// The facts, each in the bucket of the cubes that it is about; empty until the first is kept.
     buckets: Vec<Vec<Fact>>,
-    size: usize,
+    /// How much room all facts take.
+    room_taken: usize,
     /// How many questions were asked.
     questions: u64,
-    /// How many cubes may still be looked at for the present one.
-    left: u64,
+    /// How many cubes the present question may still look at.
+    looks_left: u64,
 }
 
 impl Memory {
-    /// A memory without facts.
-    /// A memory without facts.
+    /// Returns a memory without facts.
     pub(crate) fn new(alloc: Global) -> Memory {
         Memory {
             buckets: Vec::new(alloc),
-            size: 0,
+            room_taken: 0,
             questions: 0,
-            left: 0,
+            looks_left: 0,
         }
     }
 
-    /// Begins a question. The first may take long. The others take little: each second one twice as much, each fourth one four
-    /// times, so that the whole is near linear in how many they are.
+    /// Begins a question. The first one may take long. Of the later ones most take little: each second one may look at twice
+    /// as many cubes, each fourth at four times as many, and so on, so that all together are near linear in their number.
     pub(crate) fn begin(&mut self) {
-        self.left = if self.questions == 0 {
-            FIRST
+        self.looks_left = if self.questions == 0 {
+            FIRST_LOOKS
         } else {
-            OTHERS << self.questions.trailing_zeros().min(20)
+            // 2^14 shifted by at most 20 fits
+            LATER_LOOKS << self.questions.trailing_zeros().min(20)
         };
         self.questions = self.questions.saturating_add(1);
     }
 
     /// Whether the present question has taken as much as it may.
     pub(crate) fn is_spent(&self) -> bool {
-        self.left == 0
+        self.looks_left == 0
     }
 
-    /// Takes a look at this many cubes from what is left.
+    /// Takes this many cubes from those that the present question may still look at.
     pub(crate) fn spend(&mut self, cubes: usize) {
-        self.left = self.left.saturating_sub(cubes as u64);
+        self.looks_left = self.looks_left.saturating_sub(cubes as u64);
     }
 
-    /// The fewest faults of a list of cubes, as far as is remembered.
+    /// Returns how many faults it takes at least that none of the cubes matches, if a fact is kept that settles a question
+    /// with this budget; `None` otherwise.
     pub(crate) fn recall(&self, cubes: &[Cube], budget: u8) -> Option<u8>
         ensures { IfSome result (Needs cubes.now) }
     {
+        // without buckets no fact is kept yet
         let bucket = self.buckets.get(bucket_of(cubes))?;
         for fact in bucket {
             if let Some(fewest) = fact.answer(cubes, budget) {
@@ -225,8 +234,8 @@ impl Memory {
         None
     }
 
-    /// Makes the lists in which facts lie, if there are none yet.
-    fn make_room(&mut self) -> Result<(), OutOfMemory> {
+    /// Makes the buckets, if there are none yet.
+    fn make_buckets(&mut self) -> Result<(), OutOfMemory> {
         if !self.buckets.is_empty() {
             return Ok(());
         }
@@ -237,17 +246,18 @@ impl Memory {
         Ok(())
     }
 
-    /// Remembers a fact, while there is room.
+    /// Keeps a fact if there is room for it, and drops it if not. The one error is `OutOfMemory`.
     pub(crate) fn keep(&mut self, fact: Fact) -> Result<(), OutOfMemory> {
-        self.make_room()?;
-        let size = self.size.saturating_add(fact.size());
-        // without room the fact isn't kept
-        if size > MOST {
+        self.make_buckets()?;
+        let room_taken = self.room_taken.saturating_add(fact.room());
+        // there is no room left
+        if room_taken > MOST_ROOM {
             return Ok(());
         }
+        // the buckets are made, so there is this one; no clause says so
         if let Some(bucket) = self.buckets.get_mut(bucket_of(fact.cubes.as_slice())) {
             bucket.push(fact)?;
-            self.size = size;
+            self.room_taken = room_taken;
         }
         Ok(())
     }

@@ -1,4 +1,4 @@
-//! What cubes ask when one variable is known to be 0, or has one fault.
+//! What cubes still ask after a step of a search: it takes one variable to be 0, or to be more and then takes one from it.
 ghost use Rattle.std.specs.Prelude.{◌≡◌, ◌≤◌, ◌<◌, ◌||◌, ℕ, IfOk, IfSome, false, length, true};
 ghost use Rattle.cpg_cover.specs.Fewest.{IsStep, after, holds_at, is_any_at, matches_at, rest_holds};
 
@@ -7,18 +7,20 @@ use cpg_cube::{Cube, Literal};
 use std::alloc::Global;
 use std::cmp::Ordering;
 
-/// A list of at least this many cubes isn't sorted.
-const LONG: usize = 256;
+/// From this many cubes on a list is no longer kept sorted, since it takes too long to find places in it.
+const LONG_LIST: usize = 256;
 
-/// A variable is 0, or more.
+/// A step of a search by a variable.
 #[derive(Clone, Copy)]
 pub(crate) struct SearchStep {
+    /// The variable.
     pub(crate) variable: u8,
+    /// Whether it is taken to be more than 0; if not, it is taken to be 0.
     pub(crate) more: bool,
 }
 
 impl SearchStep {
-    /// The variable is 0.
+    /// Returns the step that takes the variable to be 0.
     pub(crate) fn zero(variable: u8) -> SearchStep
         ensures variable { result.variable ≡ variable }
         ensures more { result.more ≡ false }
@@ -29,7 +31,7 @@ impl SearchStep {
         }
     }
 
-    /// It is more.
+    /// Returns the step that takes the variable to be more than 0.
     pub(crate) fn more(variable: u8) -> SearchStep
         ensures variable { result.variable ≡ variable }
         ensures more { result.more ≡ true }
@@ -41,16 +43,17 @@ impl SearchStep {
     }
 }
 
-/// What a literal asks after a step.
+/// What a literal still asks after a step.
 enum Rest {
-    /// It holds.
+    /// Nothing: it holds.
     Held,
-    /// It doesn't.
+    /// It can't hold.
     Missed,
+    /// That this literal holds.
     Asked(Literal),
 }
 
-/// A literal on another variable, or one that is left, with no more faults than the budget.
+/// Returns what a literal still asks if no fault count is above the budget.
 fn within_budget(literal: Literal, budget: u8) -> Rest
     ensures { (n : ℕ → ℕ) → ((v : ℕ) → v < 128 → n v ≤ budget) → rest_holds n result ≡ true → holds_at n literal ≡ true }
 {
@@ -73,7 +76,7 @@ fn within_budget(literal: Literal, budget: u8) -> Rest
     })
 }
 
-/// What a literal on the variable asks after the step.
+/// Returns what a literal on the step's variable still asks of that, after the step has taken one from it.
 fn after_more(literal: Literal, budget: u8) -> Rest
     ensures { (n : ℕ → ℕ) → IsStep literal.variable true budget n → rest_holds (after literal.variable n) result ≡ true → holds_at n literal ≡ true }
 {
@@ -98,16 +101,18 @@ fn after_more(literal: Literal, budget: u8) -> Rest
     within_budget(less, budget)
 }
 
-/// What a literal asks after the step.
+/// Returns what a literal still asks after a step, if no fault count is above the budget then.
 fn rest_of(literal: Literal, step: SearchStep, budget: u8) -> Rest
     ensures { (n : ℕ → ℕ) → IsStep step.variable step.more budget n → rest_holds (after step.variable n) result ≡ true → holds_at n literal ≡ true }
 {
+    // the step says nothing of another variable
     if literal.variable != step.variable {
         return within_budget(literal, budget);
     }
     if step.more {
         return after_more(literal, budget);
     }
+    // the variable is 0
     if literal.low > 0 {
         Rest::Missed
     } else {
@@ -115,7 +120,7 @@ fn rest_of(literal: Literal, step: SearchStep, budget: u8) -> Rest
     }
 }
 
-/// What the literals ask after the step; `None` if they can't all hold.
+/// Returns what literals still ask after a step; `None` if one of them can't hold. The one error is `OutOfMemory`.
 fn asked_after(
     alloc: Global,
     literals: &[Literal],
@@ -136,16 +141,15 @@ fn asked_after(
     Ok(Some(asked))
 }
 
-/// Where a cube belongs in a list that is sorted, and `None` if it stands there already. A long list isn't kept sorted: it is
-/// at its end there.
+/// Returns where a cube belongs in a sorted list, or `None` if the list has it already. In a long list it belongs at the end.
 fn sorted_place(cubes: &[Cube], cube: &Cube) -> Option<usize>
     ensures { IfSome result (λ place. place ≤ length cubes.now) }
 {
     let mut place = cubes.len();
-    if place >= LONG {
+    if place >= LONG_LIST {
         return Some(place);
     }
-    // from the end to the front
+    // from the end to the front: cubes that stood in order before a step come nearly in order after it
     while place > 0 {
         match cubes[place - 1].literals().cmp(&cube.literals()) {
             Ordering::Less => return Some(place),
@@ -157,7 +161,7 @@ fn sorted_place(cubes: &[Cube], cube: &Cube) -> Option<usize>
     Some(0)
 }
 
-/// Adds a cube to a list, unless it is found there.
+/// Adds a cube to a list, unless it is found there already. The one error is `OutOfMemory`.
 pub(crate) fn add(cubes: &mut Vec<Cube>, cube: Cube) -> Result<(), OutOfMemory>
     ensures { IfOk result (λ _. (n : ℕ → ℕ) → is_any_at n cubes.new.items ≡ true → (is_any_at n cubes.old.items || matches_at n cube) ≡ true) }
 {
@@ -167,7 +171,7 @@ pub(crate) fn add(cubes: &mut Vec<Cube>, cube: Cube) -> Result<(), OutOfMemory>
     Ok(())
 }
 
-/// The cube of what literals ask, if the variables rise.
+/// Adds the cube of these literals to a list, if their variables rise. The one error is `OutOfMemory`.
 pub(crate) fn add_asked(
     alloc: Global,
     cubes: &mut Vec<Cube>,
@@ -181,7 +185,8 @@ pub(crate) fn add_asked(
     Ok(())
 }
 
-/// What the cubes ask after the step, those that may match.
+/// Returns the cubes of what some cubes still ask after a step, without those that can't match. The one error is
+/// `OutOfMemory`.
 pub(crate) fn stepped(
     alloc: Global,
     cubes: &[Cube],

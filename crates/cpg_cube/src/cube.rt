@@ -1,4 +1,4 @@
-//! Cubes.
+//! Cubes: lists of literals with rising variables, and which scenarios they match.
 ghost use Rattle.std.specs.Prelude.{◌≡◌, ◌<◌, ◌↔◌, ◌++◌, ◌∷◌, [], ◌&&◌, if◌then◌else◌, ℕ, List, None, Some, All, IfErr, IfNone, IfOk, IfSome, IsTrue, false, true, get_or, length, nat_le, position};
 ghost use Rattle.std.specs.Bool.{OnFalse, OnTrue};
 ghost use Rattle.cpg_base.specs.Graph.{condition_count, process_count};
@@ -18,14 +18,15 @@ use smallvec::SmallVec;
 use std::alloc::Global;
 use std::marker::Model;
 
-/// How many literals a cube holds without memory of its own.
-const FEW: usize = 8;
+/// How many literals a cube holds without memory of its own: as many as most cubes have.
+const INLINE_LITERALS: usize = 8;
 
-/// Ranges of variables, seen as the list of its literals, the variables rising. It matches a scenario if each
-/// number is in range; a variable without a literal may be any number.
+/// A cube, seen as the list of its literals, whose variables rise. It matches a scenario if each literal holds; a variable
+/// without a literal may be any number.
 #[derive(Drop)]
 pub struct Cube {
-    literals: SmallVec<Literal, FEW>,
+    /// The literals, by rising variable.
+    literals: SmallVec<Literal, INLINE_LITERALS>,
 }
 
 impl Model for Cube {
@@ -39,17 +40,17 @@ impl Model for Cube {
     ghost invariant = { λ c. IsRising c.literals.items };
 }
 
-/// What narrowed a cube: the place of the literal, and the one on its variable that was there.
+/// What it takes to undo the narrowing of a cube by a literal.
 #[derive(Clone, Copy)]
 pub struct Narrowing {
-    /// The place of the literal that narrowed the cube.
+    /// The place in the cube of the literal on the narrowed variable.
     pub place: usize,
-    /// The literal on its variable that was there; `None` if there was none.
+    /// The literal on the variable from before; `None` if there was none.
     pub was: Option<Literal>,
 }
 
 impl Narrowing {
-    /// The range of a literal's variable that is left where it and what was there match.
+    /// Returns the range that is left of a literal's variable: its own, met with the literal from before if there was one.
     pub fn left(&self, literal: Literal) -> Literal
         ensures { result ≡ left_of literal self.now.was }
     {
@@ -77,7 +78,7 @@ fn do_variables_rise(literals: &[Literal]) -> bool
     do_rise
 }
 
-/// The place of the first literal on this variable or on one above.
+/// Returns the place of the first literal on `variable` or a greater one; `None` exactly if there is none.
 pub fn first_literal_from(literals: &[Literal], variable: u8) -> Option<usize>
     ensures place { result ≡ position (λ l. nat_le variable l.variable) literals.now }
     ensures within { IfSome result (λ place. place < length literals.now) }
@@ -87,7 +88,7 @@ pub fn first_literal_from(literals: &[Literal], variable: u8) -> Option<usize>
         .position(|literal| variable <= literal.variable)
 }
 
-/// Whether a variable is above all of these literals.
+/// Whether `variable` is greater than those of all literals.
 pub fn is_above(literals: &[Literal], variable: u8) -> bool
     requires { IsRising literals.now }
     ensures { OnTrue result (All (λ l. l.variable < variable) literals.now) }
@@ -98,8 +99,12 @@ pub fn is_above(literals: &[Literal], variable: u8) -> bool
     }
 }
 
-/// Puts a literal in its place, or meets the one on its variable with it.
-fn narrow(literals: &mut SmallVec<Literal, FEW>, literal: Literal) -> Result<Narrowing, OutOfMemory>
+/// Meets the literal on the same variable with this one, or puts this one in its place if there is none. Returns how to undo
+/// that. At the one error, `OutOfMemory`, the literals are as before.
+fn narrow(
+    literals: &mut SmallVec<Literal, INLINE_LITERALS>,
+    literal: Literal,
+) -> Result<Narrowing, OutOfMemory>
     ensures narrowed { IfOk result (λ _. literals.new.items ≡ narrowed_by literal literals.old.items) }
     ensures undo { IfOk result (λ n. IsUndo n literals.new.items literals.old.items) }
     ensures on { IfOk result (λ n. IsOn literal.variable n literals.new.items) }
@@ -126,7 +131,10 @@ fn narrow(literals: &mut SmallVec<Literal, FEW>, literal: Literal) -> Result<Nar
 }
 
 /// Does what `narrow` does, without a search if the variable is above all others, as is usual along a path.
-fn put(literals: &mut SmallVec<Literal, FEW>, literal: Literal) -> Result<Narrowing, OutOfMemory>
+fn put(
+    literals: &mut SmallVec<Literal, INLINE_LITERALS>,
+    literal: Literal,
+) -> Result<Narrowing, OutOfMemory>
     requires { IsRising literals.old.items }
     ensures narrowed { IfOk result (λ _. literals.new.items ≡ narrowed_by literal literals.old.items) }
     ensures undo { IfOk result (λ n. IsUndo n literals.new.items literals.old.items) }
@@ -142,29 +150,33 @@ fn put(literals: &mut SmallVec<Literal, FEW>, literal: Literal) -> Result<Narrow
     narrow(literals, literal)
 }
 
-/// A copy of literals. A list of its own takes many at once.
-fn copied(alloc: Global, literals: &[Literal]) -> Result<SmallVec<Literal, FEW>, OutOfMemory>
+/// Returns a copy of literals. The one error is `OutOfMemory`.
+fn copied(
+    alloc: Global,
+    literals: &[Literal],
+) -> Result<SmallVec<Literal, INLINE_LITERALS>, OutOfMemory>
     ensures { IfOk result (λ copy. copy.items ≡ literals.now) }
 {
     // few literals need no memory of their own
-    if literals.len() <= FEW {
+    if literals.len() <= INLINE_LITERALS {
         let copy = SmallVec::from_slice(alloc, literals)?;
         return Ok(copy);
     }
+    // a `Vec` copies many at once
     let mut copy = Vec::with_capacity(alloc, literals.len())?;
     copy.extend_from_slice(literals)?;
     Ok(SmallVec::from_vec(copy))
 }
 
-/// A copy of literals and of others behind them.
+/// Returns a copy of the literals `front` with `rest` behind them. The one error is `OutOfMemory`.
 fn copied_together(
     alloc: Global,
     front: &[Literal],
     rest: &[Literal],
-) -> Result<SmallVec<Literal, FEW>, OutOfMemory>
+) -> Result<SmallVec<Literal, INLINE_LITERALS>, OutOfMemory>
     ensures { IfOk result (λ copy. copy.items ≡ front.now ++ rest.now) }
 {
-    // only the others are there, and they may be few
+    // `rest` alone may be few literals, which need no memory of their own
     if front.is_empty() {
         let copy = copied(alloc, rest)?;
         return Ok(copy);
@@ -175,17 +187,20 @@ fn copied_together(
     Ok(SmallVec::from_vec(copy))
 }
 
-/// Whether literals rise together with others before them, which do.
+/// Whether the variables of `front`, which rise, and then those of `rest` rise together.
 fn do_rise_behind(front: &[Literal], rest: &[Literal]) -> bool
     requires { IsRising front.now }
     ensures { IsTrue result ↔ IsRising (front.now ++ rest.now) }
 {
+    // without a front, only the variables of `rest` have to rise
     let Some(last) = front.last() else {
         return do_variables_rise(rest);
     };
+    // without a rest, only those of the front have to rise, and they do
     let Some((first, _)) = rest.split_first() else {
         return true;
     };
+    // the rest doesn't begin above the end of the front
     if last.variable >= first.variable {
         return false;
     }
@@ -193,7 +208,7 @@ fn do_rise_behind(front: &[Literal], rest: &[Literal]) -> bool
 }
 
 impl Cube {
-    /// The cube without literals, which matches every scenario.
+    /// Returns the cube without literals, which matches every scenario.
     pub fn whole(alloc: Global) -> Cube
         ensures { result ≡ [] }
     {
@@ -202,7 +217,7 @@ impl Cube {
         }
     }
 
-    /// The cube of these literals, and `None` exactly if their variables don't rise.
+    /// Returns the cube of these literals; `None` exactly if their variables don't rise. The one error is `OutOfMemory`.
     pub fn new(alloc: Global, literals: &[Literal]) -> Result<Option<Cube>, OutOfMemory>
         ensures cube { IfOk result (λ r. IfSome r (λ cube. cube ≡ literals.now)) }
         ensures rising { IfOk result (λ r. IfSome r (λ _. IsRising literals.now)) }
@@ -215,7 +230,8 @@ impl Cube {
         Ok(Some(Cube { literals }))
     }
 
-    /// The cube of literals that rise and of others behind them, and `None` exactly if their variables don't rise together.
+    /// Returns the cube of the literals `front`, whose variables rise, with `rest` behind them; `None` exactly if their
+    /// variables don't rise together. The one error is `OutOfMemory`.
     pub fn joined(
         alloc: Global,
         front: &[Literal],
@@ -233,7 +249,7 @@ impl Cube {
         Ok(Some(Cube { literals }))
     }
 
-    /// Adds a literal on a variable above all others.
+    /// Adds a literal on a variable above all others. At the one error, `OutOfMemory`, the cube is as before.
     pub fn push(&mut self, literal: Literal) -> Result<(), OutOfMemory>
         requires last { All (λ l. l.variable < literal.variable) self.old }
         ensures pushed { IfOk result (λ _. self.new ≡ self.old ++ literal ∷ []) }
@@ -243,7 +259,7 @@ impl Cube {
         Ok(())
     }
 
-    /// The literals, by rising variable.
+    /// Returns the literals, by rising variable.
     pub fn literals(&self) -> &[Literal]
         ensures literals { result.now ≡ self.now }
         ensures rising { IsRising self.now }
@@ -251,7 +267,7 @@ impl Cube {
         self.literals.as_slice()
     }
 
-    /// An equal cube.
+    /// Returns an equal cube. The one error is `OutOfMemory`.
     pub fn copy(&self) -> Result<Cube, OutOfMemory>
         ensures { IfOk result (λ cube. cube ≡ self.now) }
     {
@@ -270,7 +286,7 @@ impl Cube {
             .all(|literal| literal.is_known(processes, conditions))
     }
 
-    /// Whether each literal holds in a scenario.
+    /// Whether the cube matches a scenario: each literal holds in it.
     pub fn matches(&self, scenario: &Scenario) -> bool
         ensures { result ≡ matches self.now scenario.now }
     {
@@ -279,7 +295,7 @@ impl Cube {
             .all(|literal| literal.holds(scenario))
     }
 
-    /// The range of a literal's variable that is left where both match.
+    /// Returns the range that narrowing by a literal leaves its variable: met with the cube's literal on it, if there is one.
     fn range_left(&self, literal: Literal) -> Literal
         ensures { result ≡ range_left literal self.now }
     {
@@ -301,21 +317,21 @@ impl Cube {
         self.range_left(literal)
     }
 
-    /// The cube with a literal more, met with the one on its variable.
+    /// Returns the cube narrowed by a literal, even if that leaves its variable no number.
     fn narrowed(&self, literal: Literal) -> Result<Cube, OutOfMemory>
         ensures { IfOk result (λ cube. cube ≡ narrowed_by literal self.now) }
     {
         let own = self.literals();
-        // room for more at once, as most narrow a variable that has no literal yet, and are narrowed again
-        let room = (own.len() / FEW + 1) * FEW;
+        // room in steps of `INLINE_LITERALS`, since most narrowings add a literal, and most cubes are narrowed again
+        let room = (own.len() / INLINE_LITERALS + 1) * INLINE_LITERALS;
         let mut literals = SmallVec::with_capacity(*self.literals.allocator(), room)?;
         literals.extend_from_slice(own)?;
         put(&mut literals, literal)?;
         Ok(Cube { literals })
     }
 
-    /// The cube that matches where this one does and the literal holds, and `None` exactly if that leaves the
-    /// variable an empty range.
+    /// Returns the cube that matches the scenarios that this one matches and in which the literal holds; `None` exactly if that
+    /// leaves the literal's variable no number. The one error is `OutOfMemory`.
     pub fn with(&self, literal: Literal) -> Result<Option<Cube>, OutOfMemory>
         ensures cube { IfOk result (λ r. r ≡ with_literal literal self.now) }
         ensures both { IfOk result (λ r. IfSome r (λ cube. (s : Scenario) → matches cube s ≡ (holds s literal && matches self.now s))) }
@@ -330,7 +346,8 @@ impl Cube {
         Ok(Some(cube))
     }
 
-    /// Becomes what `with` answers, and `None` exactly if that is none: then it stays as it is.
+    /// Becomes what `with` answers, and returns how to undo that; `None` exactly if `with` answers `None`. Then, and at the one
+    /// error, `OutOfMemory`, the cube stays as it is.
     pub fn narrow(&mut self, literal: Literal) -> Result<Option<Narrowing>, OutOfMemory>
         ensures narrowed { IfOk result (λ r. IfSome r (λ _. with_literal literal self.old ≡ Some self.new)) }
         ensures undo { IfOk result (λ r. IfSome r (λ n. IsUndo n self.new self.old)) }
@@ -349,7 +366,7 @@ impl Cube {
         Ok(Some(narrowed))
     }
 
-    /// Becomes what it was before it was narrowed.
+    /// Undoes a narrowing: the cube becomes what it was before.
     pub fn restore(&mut self, narrowed: Narrowing)
         requires place { narrowed.place < length self.old }
         requires rising { IsRising (restored narrowed self.old) }
@@ -364,8 +381,8 @@ impl Cube {
         }
     }
 
-    /// Becomes what it was before it was narrowed, narrowed by another literal on the variable. False exactly if that
-    /// leaves the variable an empty range: then it is what it was before.
+    /// Undoes a narrowing and narrows the cube by another literal on the same variable instead. It returns false exactly if that
+    /// leaves the variable no number; then the narrowing is undone, and the cube isn't narrowed again.
     pub fn exchange(&mut self, narrowed: Narrowing, literal: Literal) -> bool
         requires place { narrowed.place < length self.old }
         requires rising { IsRising (restored narrowed self.old) }
@@ -393,7 +410,7 @@ impl Cube {
         budget_left(k, self.literals()).is_some()
     }
 
-    /// The scenario in which each variable is the least number of its range.
+    /// Returns the scenario in which each variable has the low of its range.
     fn lows(&self, alloc: Global, problem: &Problem) -> Result<Scenario, OutOfMemory>
         ensures { IfOk result (λ s. s ≡ lows problem.now self.now) }
     {
@@ -402,8 +419,8 @@ impl Cube {
         Ok(least)
     }
 
-    /// The least scenario that the cube matches, which is the least in every order of the processes; `None` exactly
-    /// if it matches none.
+    /// Returns the least scenario that the cube matches, which is the least along every order of the processes; `None` exactly
+    /// if it matches none within the problem's faults. The one error is `OutOfMemory`.
     pub fn least(&self, alloc: Global, problem: &Problem) -> Result<Option<Scenario>, OutOfMemory>
         requires known { IsKnown problem.now self.now }
         ensures exact { IfOk result (λ r. r ≡ (if is_met problem.now.faults self.now then Some (lows problem.now self.now) else None)) }
@@ -416,8 +433,9 @@ impl Cube {
         Ok(Some(least))
     }
 
-    /// The bounds of this cube, the lows raised to those of another; `None` exactly if no scenario matches both.
-    fn bounds_of_both(&self, other: &Cube, problem: &Problem) -> Option<Bounds>
+    /// Returns this cube's bounds with each low raised to that of another cube, if that is greater; `None` exactly if no scenario
+    /// within the problem's faults matches both cubes.
+    fn raised_bounds(&self, other: &Cube, problem: &Problem) -> Option<Bounds>
         requires first { IsKnown problem.now self.now }
         requires second { IsKnown problem.now other.now }
         ensures none { IfNone result (do_meet problem.now self.now other.now ≡ false) }
@@ -441,8 +459,8 @@ impl Cube {
         Some(bounds)
     }
 
-    /// Whether a scenario within the problem's faults matches this cube and another. Then the least of them, which is
-    /// the least in every order of the processes, is written to `least`, which else stays as it was.
+    /// Whether some scenario within the problem's faults matches this cube and another. If so, the least of them, which is
+    /// the least along every order of the processes, is written to `least`; if not, `least` stays as it was.
     pub fn meets(&self, other: &Cube, problem: &Problem, least: &mut Scenario) -> bool
         requires first { IsKnown problem.now self.now }
         requires second { IsKnown problem.now other.now }
@@ -453,14 +471,14 @@ impl Cube {
         ensures apart { OnFalse result ((s : Scenario) → IsScenario problem.now s → (matches self.now s && matches other.now s) ≡ false) }
         ensures same { OnFalse result (least.new ≡ least.old) }
     {
-        let Some(bounds) = self.bounds_of_both(other, problem) else {
+        let Some(bounds) = self.raised_bounds(other, problem) else {
             return false;
         };
         bounds.write_lows(problem, least);
         true
     }
 
-    /// Whether each scenario within the problem's faults that matches this cube matches another.
+    /// Whether another cube matches each scenario within the problem's faults that this cube matches.
     pub fn within(&self, other: &Cube, problem: &Problem) -> bool
         requires first { IsKnown problem.now self.now }
         requires second { IsKnown problem.now other.now }
@@ -470,7 +488,8 @@ impl Cube {
         self.is_within(other, problem)
     }
 
-    /// Whether the cube lies within another. The contract also says that both are cubes of the problem.
+    /// Does what `within` does. Its contract also says that both are cubes of the problem, and the problem is within its
+    /// limits, from which the clause of `within` follows.
     fn is_within(&self, other: &Cube, problem: &Problem) -> bool
         requires first { IsKnown problem.now self.now }
         requires second { IsKnown problem.now other.now }

@@ -1,4 +1,5 @@
-//! Columns by the least scenario that they match.
+//! Sorts columns by the least scenario that each matches. For this each cube has a key, a list of numbers: keys compare as
+//! the least scenarios do, and are short, as they leave out all lows that are 0.
 ghost use Rattle.std.specs.Prelude.{◌≡◌, ◌≢◌, ◌++◌, ◌<◌, ◌≤◌, ℕ, [], All, AllPairs, IfNone, IfOk, IfSome, IsPermutation, List, OnOk, if◌then◌else◌, length, map};
 ghost use Rattle.cpg_base.specs.Graph.{condition_count, process_count};
 ghost use Rattle.cpg_base.specs.Numbers.{is_below, numbers_below};
@@ -10,27 +11,28 @@ use cpg_base::{FIRST_VALUE, Order, OutOfMemory, Problem};
 use smallvec::SmallVec;
 use std::alloc::Global;
 
-/// How many numbers of a key need no memory of their own: one for each of eight faults.
-const SHORT: usize = 8;
+/// How many numbers a key holds without memory of its own: as many as a scenario may have faults.
+const INLINE_NUMBERS: usize = 8;
 
-/// How many places are left at the first variable along an order: more than there may be processes and conditions.
-const PLACES: u16 = 256;
+/// How many places are left at the first variable along an order: no fewer than there are variables, so that none runs out.
+const FIRST_PLACES_LEFT: u16 = 256;
 
-/// More than a low may be.
-const LOWS: u32 = 256;
+/// What a place counts for in a number of a key: more than any low, which is a byte.
+const PLACE_WEIGHT: u32 = 256;
 
-/// What is for the scenarios that a cube matches.
+/// Something that has a cube, as a column has.
 pub trait Cubed {
     ghost use Rattle.cpg_cube.specs.declared.literal.Literal.{Literal};
 
+    // the literals of its cube
     ghost cubed: { Self → List Literal };
 
-    /// The cube.
+    /// Returns the cube.
     fn cube(&self) -> &Cube
         ensures { result.now ≡ cubed self.now };
 }
 
-/// Adds a process's count and then its value, if it has a condition.
+/// Adds the variable of a process's fault count, and then that of its condition's value if it has a condition.
 fn push_variables(
     problem: &Problem,
     process: u32,
@@ -41,6 +43,7 @@ fn push_variables(
     requires conditions { condition_count problem.now ≤ 32 }
     ensures { OnOk result (variables.new.items ≡ variables.old.items ++ variables_of problem.now process) }
 {
+    // there are at most 128 processes and 32 conditions, so their numbers fit a byte
     variables.push(process as u8)?;
     if let Some(condition) = problem.condition_of(process) {
         variables.push(FIRST_VALUE + condition as u8)?;
@@ -48,8 +51,8 @@ fn push_variables(
     Ok(())
 }
 
-/// The variables along an order: of each process that of its count and then that of its value, if it has a condition. The one
-/// error is `OutOfMemory`.
+/// Returns the variables along an order: for each process that of its fault count, and then that of its condition's value if
+/// it has a condition. The one error is `OutOfMemory`.
 pub fn variables_along(
     alloc: Global,
     problem: &Problem,
@@ -58,7 +61,7 @@ pub fn variables_along(
     requires order { All (λ p. p < process_count problem.now) order.now }
     ensures { IfOk result (λ r. r.items ≡ variables_along problem.now order.now) }
 {
-    // called for its contract: the graph is within its limits
+    // called for its contract: a problem is within the limits of a graph file
     let _processes = problem.processes();
     let mut variables = Vec::new(alloc);
     for process in order {
@@ -67,14 +70,15 @@ pub fn variables_along(
     Ok(variables)
 }
 
-/// How many places are left at each of some variables, and 0 at others.
+/// Returns by variable how many places are left at it in a list of variables: 256 at the first, one less at each that
+/// follows, and 0 at a variable that isn't in the list.
 fn places_of(variables: &[u8]) -> [u16; VARIABLES]
     requires few { length variables.now ≤ 256 }
     requires apart { AllPairs (λ u v. u ≢ v) variables.now }
     ensures { ArePlaces variables.now result }
 {
     let mut places = [0; VARIABLES];
-    let mut left = PLACES;
+    let mut left = FIRST_PLACES_LEFT;
     for variable in variables {
         places[*variable as usize] = left;
         left -= 1;
@@ -82,7 +86,7 @@ fn places_of(variables: &[u8]) -> [u16; VARIABLES]
     places
 }
 
-/// How many places are left at each variable along an order, a process's count and then its value: 256 at the first, and 0
+/// Returns by variable how many places are left at it along an order: 256 at the first, one less at each that follows, and 0
 /// at a number that is no variable of the problem. The one error is `OutOfMemory`.
 pub fn places_along(
     alloc: Global,
@@ -92,13 +96,13 @@ pub fn places_along(
     requires { IsPermutation (numbers_below (process_count problem.now)) order.now }
     ensures { IfOk result (ArePlaces (variables_along problem.now order.now)) }
 {
-    // called for its contract: the graph is within its limits
+    // called for its contract: a problem is within the limits of a graph file, so there are at most 256 variables
     let _processes = problem.processes();
     let variables = variables_along(alloc, problem, order.processes())?;
     Ok(places_of(variables.as_slice()))
 }
 
-/// How many numbers of a key stand before one.
+/// Returns the place of `number` in a key, whose numbers fall: behind all that are at least as great.
 fn place_in(number: u32, key: &[u32]) -> usize
     ensures { result ≡ place_in number key.now }
 {
@@ -112,8 +116,8 @@ fn place_in(number: u32, key: &[u32]) -> usize
     place
 }
 
-/// Puts a number before the lesser ones.
-fn put_number(number: u32, key: &mut SmallVec<u32, SHORT>) -> Result<(), OutOfMemory>
+/// Puts a number into a key, before the lesser ones.
+fn put_number(number: u32, key: &mut SmallVec<u32, INLINE_NUMBERS>) -> Result<(), OutOfMemory>
     ensures { OnOk result (key.new.items ≡ with_number number key.old.items) }
 {
     let place = place_in(number, key.as_slice());
@@ -126,11 +130,11 @@ fn put_number(number: u32, key: &mut SmallVec<u32, SHORT>) -> Result<(), OutOfMe
     Ok(())
 }
 
-/// Puts a literal's low, if it isn't 0 and its variable has a place.
+/// Puts the low of a literal into a key, if it isn't 0 and the literal's variable has a place.
 fn put_low_of(
     places: &[u16; VARIABLES],
     literal: Literal,
-    key: &mut SmallVec<u32, SHORT>,
+    key: &mut SmallVec<u32, INLINE_NUMBERS>,
 ) -> Result<(), OutOfMemory>
     ensures key { OnOk result (key.new.items ≡ with_low_of places.now literal key.old.items) }
     ensures byte { literal.low < 256 }
@@ -145,14 +149,14 @@ fn put_low_of(
         return Ok(());
     }
     // an earlier variable counts for more than any low of a later one
-    put_number(u32::from(left) * LOWS + u32::from(literal.low), key)
+    put_number(u32::from(left) * PLACE_WEIGHT + u32::from(literal.low), key)
 }
 
-/// Puts the lows of literals.
+/// Puts the lows of literals into a key.
 fn put_lows_of(
     places: &[u16; VARIABLES],
     literals: &[Literal],
-    key: &mut SmallVec<u32, SHORT>,
+    key: &mut SmallVec<u32, INLINE_NUMBERS>,
 ) -> Result<(), OutOfMemory>
     ensures key { OnOk result (key.new.items ≡ with_lows_of places.now literals.now key.old.items) }
     ensures bytes { OnOk result (AreBytes literals.now) }
@@ -163,11 +167,11 @@ fn put_lows_of(
     Ok(())
 }
 
-/// Puts the lows of literals, at once if all begin at 0.
+/// Puts the lows of a block of literals into a key; there is nothing to put if all are 0.
 fn put_block(
     places: &[u16; VARIABLES],
     literals: &[Literal; BLOCK],
-    key: &mut SmallVec<u32, SHORT>,
+    key: &mut SmallVec<u32, INLINE_NUMBERS>,
 ) -> Result<(), OutOfMemory>
     ensures key { OnOk result (key.new.items ≡ with_lows_of places.now literals.now key.old.items) }
     ensures bytes { OnOk result (AreBytes literals.now) }
@@ -178,18 +182,19 @@ fn put_block(
     put_lows_of(places, literals, key)
 }
 
-/// The key of a cube: the lows along some variables that aren't 0, each with how many places are left.
+/// Returns the key of a cube: its lows that aren't 0, in the order of the places, each as one number with how many places
+/// are left.
 fn key_of(
     alloc: Global,
     places: &[u16; VARIABLES],
     cube: &Cube,
-) -> Result<SmallVec<u32, SHORT>, OutOfMemory>
+) -> Result<SmallVec<u32, INLINE_NUMBERS>, OutOfMemory>
     ensures key { IfOk result (λ key. (variables : List ℕ) → ArePlaces variables places.now → key.items ≡ key_by variables cube.now) }
     ensures bytes { IfOk result (λ _. AreBytes cube.now) }
 {
     let mut key = SmallVec::new(alloc);
     let mut left = cube.literals();
-    // few literals of a cube have a low above 0
+    // few literals of a cube have a low above 0, so most blocks are passed over by one test
     while let Some((block, rest)) = left.split_first_chunk::<BLOCK>() {
         put_block(places, block, &mut key)?;
         left = rest;
@@ -198,14 +203,16 @@ fn key_of(
     Ok(key)
 }
 
-/// A column with its key.
+/// A column with the key of its cube.
 #[derive(Drop)]
 struct Ranked<T> {
-    key: SmallVec<u32, SHORT>,
+    /// The key of the column's cube.
+    key: SmallVec<u32, INLINE_NUMBERS>,
+    /// The column itself.
     column: T,
 }
 
-/// The columns with their keys.
+/// Returns the columns, each with the key of its cube.
 fn with_keys<T: Cubed + Drop>(
     alloc: Global,
     variables: &[u8],
@@ -226,7 +233,7 @@ fn with_keys<T: Cubed + Drop>(
     Ok(ranked)
 }
 
-/// The columns without their keys.
+/// Returns the columns without their keys.
 fn without_keys<T: Drop>(alloc: Global, ranked: Vec<Ranked<T>>) -> Result<Vec<T>, OutOfMemory>
     ensures { IfOk result (λ r. r.items ≡ map (λ x. x.column) ranked.items) }
 {
@@ -234,8 +241,8 @@ fn without_keys<T: Drop>(alloc: Global, ranked: Vec<Ranked<T>>) -> Result<Vec<T>
     Ok(columns)
 }
 
-/// The columns by the least scenario along the order that they match: none has the lows of its cube before those of an
-/// earlier one. The one error is `OutOfMemory`.
+/// Returns the columns sorted by the least scenario that each matches: no cube's lows come before those of an earlier column,
+/// along the order. The one error is `OutOfMemory`.
 pub fn by_least_scenario<T: Cubed + Drop>(
     alloc: Global,
     problem: &Problem,
@@ -246,7 +253,7 @@ pub fn by_least_scenario<T: Cubed + Drop>(
     ensures permutation { IfOk result (λ r. IsPermutation columns.items r.items) }
     ensures by_lows { IfOk result (λ r. AreByLows T.cubed problem.now order.now r.items) }
 {
-    // called for its contract: the graph is within its limits
+    // called for its contract: a problem is within the limits of a graph file, so there are at most 256 variables
     let _processes = problem.processes();
     let variables = variables_along(alloc, problem, order.processes())?;
     let mut ranked = with_keys(alloc, variables.as_slice(), columns)?;
@@ -254,14 +261,16 @@ pub fn by_least_scenario<T: Cubed + Drop>(
     without_keys(alloc, ranked)
 }
 
-/// A column's place with its key.
+/// The place of a column with the key of its cube.
 #[derive(Drop)]
 struct Placed {
-    key: SmallVec<u32, SHORT>,
+    /// The key of the column's cube.
+    key: SmallVec<u32, INLINE_NUMBERS>,
+    /// The column's place in the list.
     place: usize,
 }
 
-/// The first of two, or the second one if its key is before that of the first.
+/// Returns the second of two if its key is before that of the first, and otherwise the first.
 fn lesser(first: Placed, second: Placed) -> Placed
     ensures { result ≡ (if is_below second.key.items first.key.items then second else first) }
 {
@@ -272,7 +281,7 @@ fn lesser(first: Placed, second: Placed) -> Placed
     }
 }
 
-/// The place of the first column with the least key.
+/// Returns the place of the first column with the least key; `None` exactly if there is no column.
 fn first_by_key<T: Cubed>(
     alloc: Global,
     variables: &[u8],
@@ -297,8 +306,8 @@ fn first_by_key<T: Cubed>(
     Ok(Some(best.place))
 }
 
-/// The place of the column with the least scenario along the order: no column has the lows of its cube before those of
-/// this one's. `None` exactly if there is no column. The one error is `OutOfMemory`.
+/// Returns the place of the column with the least scenario: no cube's lows come before those of its cube, along the order.
+/// `None` exactly if there is no column. The one error is `OutOfMemory`.
 pub fn first_by_least_scenario<T: Cubed>(
     alloc: Global,
     problem: &Problem,
@@ -309,9 +318,10 @@ pub fn first_by_least_scenario<T: Cubed>(
     ensures none { IfOk result (λ r. IfNone r (columns.now ≡ [])) }
     ensures first { IfOk result (λ r. IfSome r (IsFirstByLows T.cubed problem.now order.now columns.now)) }
 {
-    // called for its contract: the graph is within its limits
+    // called for its contract: a problem is within the limits of a graph file, so there are at most 256 variables
     let _processes = problem.processes();
     let variables = variables_along(alloc, problem, order.processes())?;
     let place = first_by_key(alloc, variables.as_slice(), columns)?;
+
     Ok(place)
 }

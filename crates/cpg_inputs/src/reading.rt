@@ -23,15 +23,17 @@ use cpg_table::Tables;
 use cpg_words::{Command, Pair, Word};
 use std::alloc::Global;
 
-/// A graph, and tables that are to be judged for it.
+/// A graph, and the tables of a pack that are to be judged for it.
 #[derive(Drop)]
 struct GraphAndPack {
+    // the graph that the tables are to be judged for
     graph: Admitted,
+    // the tables, of this graph or another
     tables: Tables,
 }
 
-/// Reads a graph, and then a pack.
-fn read_judged<S: Shelf>(
+/// Reads a graph, and then a pack. A halt says why one of the two files stops the run.
+fn read_graph_and_pack<S: Shelf>(
     alloc: Global,
     shelf: &mut S,
     graph: &str,
@@ -52,7 +54,7 @@ fn read_judged<S: Shelf>(
     Ok(GraphAndPack { graph, tables })
 }
 
-/// Reads the graph of a command that reads nothing else.
+/// Reads the graph of a command that reads nothing else, and returns its inputs. A halt says why the file stops the run.
 fn graph_inputs<S: Shelf>(
     alloc: Global,
     shelf: &mut S,
@@ -68,7 +70,7 @@ fn graph_inputs<S: Shelf>(
     Ok(Inputs::Graph { graph, purpose })
 }
 
-/// What `check` reads.
+/// Reads the files of `check`, a graph and a pack, and returns its inputs. A halt says why one of them stops the run.
 fn check_inputs<S: Shelf>(
     alloc: Global,
     shelf: &mut S,
@@ -81,11 +83,12 @@ fn check_inputs<S: Shelf>(
     ensures access { SameAccess (S.may_fetch shelf.old) (S.may_fetch shelf.new) }
     ensures inputs { ReadsInputs (Check graph.now pack.now) (S.state shelf.old) (S.state shelf.new) result }
 {
-    let GraphAndPack { graph, tables } = read_judged(alloc, shelf, graph, pack)?;
+    let GraphAndPack { graph, tables } = read_graph_and_pack(alloc, shelf, graph, pack)?;
     Ok(Inputs::Check { graph, tables })
 }
 
-/// What `play` reads.
+/// Reads the files of `play`, a graph, a pack and a scenario, and returns its inputs. A halt says why one of them stops
+/// the run.
 fn play_inputs<S: Shelf>(
     alloc: Global,
     shelf: &mut S,
@@ -101,9 +104,9 @@ fn play_inputs<S: Shelf>(
     ensures access { SameAccess (S.may_fetch shelf.old) (S.may_fetch shelf.new) }
     ensures inputs { ReadsInputs (Play graph.now pack.now scenario.now turns) (S.state shelf.old) (S.state shelf.new) result }
 {
-    let judged = read_judged(alloc, shelf, graph, pack)?;
-    let played = read_played(alloc, shelf, scenario, judged.graph.problem())?;
-    let GraphAndPack { graph, tables } = judged;
+    let graph_and_pack = read_graph_and_pack(alloc, shelf, graph, pack)?;
+    let played = read_played(alloc, shelf, scenario, graph_and_pack.graph.problem())?;
+    let GraphAndPack { graph, tables } = graph_and_pack;
     Ok(Inputs::Play {
         graph,
         tables,
@@ -112,7 +115,8 @@ fn play_inputs<S: Shelf>(
     })
 }
 
-/// What `audit` reads.
+/// Reads the files of `audit`, a graph, a pack and a log, and returns its inputs. A halt says why one of them stops the
+/// run.
 fn audit_inputs<S: Shelf>(
     alloc: Global,
     shelf: &mut S,
@@ -127,13 +131,13 @@ fn audit_inputs<S: Shelf>(
     ensures access { SameAccess (S.may_fetch shelf.old) (S.may_fetch shelf.new) }
     ensures inputs { ReadsInputs (Audit graph.now pack.now log.now) (S.state shelf.old) (S.state shelf.new) result }
 {
-    let judged = read_judged(alloc, shelf, graph, pack)?;
-    let log = read_acts(alloc, shelf, log, judged.graph.problem())?;
-    let GraphAndPack { graph, tables } = judged;
+    let graph_and_pack = read_graph_and_pack(alloc, shelf, graph, pack)?;
+    let log = read_acts(alloc, shelf, log, graph_and_pack.graph.problem())?;
+    let GraphAndPack { graph, tables } = graph_and_pack;
     Ok(Inputs::Audit { graph, tables, log })
 }
 
-/// What `node` reads.
+/// Reads the pack of `node`, and returns its inputs. A halt says why the file stops the run.
 fn node_inputs<S: Shelf>(
     alloc: Global,
     shelf: &mut S,
@@ -149,7 +153,7 @@ fn node_inputs<S: Shelf>(
     Ok(Inputs::Node { tables, name })
 }
 
-/// What `live` reads before its stream.
+/// Reads the pack of `live`, and returns its inputs. A halt says why the file stops the run. The stream isn't read here.
 fn live_inputs<S: Shelf>(
     alloc: Global,
     shelf: &mut S,
@@ -170,7 +174,7 @@ fn live_inputs<S: Shelf>(
     })
 }
 
-/// Adds a part with its period. The one error is that memory runs out.
+/// Adds a part with its period. The one halt is that memory ran out.
 fn add(parts: &mut Vec<Part>, period: u64, problem: Problem) -> Result<(), Halt>
     ensures added { OnOk result (parts.new.items ≡ parts.old.items ++ record { period = period; problem = problem } ∷ []) }
     ensures halt { IfErr result (λ h. h ≡ Memory) }
@@ -181,7 +185,8 @@ fn add(parts: &mut Vec<Part>, period: u64, problem: Problem) -> Result<(), Halt>
     }
 }
 
-/// Reads the graphs of parts.
+/// Reads the graphs of parts, one after the other, and returns them with their periods. A halt says why one of the
+/// files stops the run, or that memory ran out.
 fn read_parts<S: Shelf>(alloc: Global, shelf: &mut S, pairs: &[Pair]) -> Result<Vec<Part>, Halt>
     requires { All (λ w. S.may_fetch shelf.old w) (map (λ pair. pair.graph) pairs.now) }
     ensures keeps { KeepsShelf (S.state shelf.old) (S.state shelf.new) }
@@ -198,7 +203,7 @@ fn read_parts<S: Shelf>(alloc: Global, shelf: &mut S, pairs: &[Pair]) -> Result<
     Ok(parts)
 }
 
-/// What `hyper` reads.
+/// Reads the graphs of `hyper`, and returns its inputs. A halt says why one of them stops the run, or that memory ran out.
 fn hyper_inputs<S: Shelf>(alloc: Global, shelf: &mut S, pairs: &[Pair]) -> Result<Inputs, Halt>
     requires files { All (λ w. S.may_fetch shelf.old w) (map (λ pair. pair.graph) pairs.now) }
     requires some { 0 < length pairs.now }
@@ -211,8 +216,8 @@ fn hyper_inputs<S: Shelf>(alloc: Global, shelf: &mut S, pairs: &[Pair]) -> Resul
     Ok(Inputs::Hyper(Parts::new(parts)))
 }
 
-/// Reads the files of a command and what they say, in the order of the words. If a file can't be read, is too long or is
-/// refused, that is the answer, and no later file is fetched. The stream of `live` isn't read here.
+/// Reads the files of a command in the order of the words, and returns what they say. If a file can't be read, is too
+/// long or is rejected, the halt says so, and no later file is fetched. The stream of `live` isn't read here.
 pub fn read_inputs<S: Shelf>(alloc: Global, shelf: &mut S, command: Command) -> Result<Inputs, Halt>
     requires { All (λ w. S.may_fetch shelf.old w) (file_words command) }
     ensures keeps { KeepsShelf (S.state shelf.old) (S.state shelf.new) }

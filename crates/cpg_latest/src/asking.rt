@@ -15,23 +15,23 @@ use cpg_run::Setting;
 use smallvec::SmallVec;
 use std::alloc::Global;
 
-/// How many live inputs are kept without memory of their own.
-const FEW: usize = 4;
+/// How many live inputs of a process are kept without an allocation. Few processes have more.
+const INPUTS_IN_PLACE: usize = 4;
 
-/// What a track says of a process.
+/// What the outcome of a track says of a process. It is found once for all courses of the track.
 #[derive(Drop)]
 pub(crate) struct Asked<'a> {
     /// The outcome of the track, without faults.
     pub(crate) scenario: &'a Scenario,
     /// Whether the process is active.
     pub(crate) acts: bool,
-    /// The conditions that decide it.
+    /// The conditions that decide it, in the urgency order of their processes.
     pub(crate) conditions: Vec<u32>,
-    /// Its live inputs.
-    pub(crate) inputs: SmallVec<u32, FEW>,
+    /// The live edges that lead to it.
+    pub(crate) inputs: SmallVec<u32, INPUTS_IN_PLACE>,
 }
 
-/// Whether a process is active. The contract alone names `problem`.
+/// Whether a process is active in an outcome. Only the contract names `problem`, whose guards these are.
 fn is_active(problem: &Problem, guards: &GuardTrees, scenario: &Scenario, process: u32) -> bool
     requires admitted { AreAdmitted problem.now guards.now }
     requires values { length scenario.now.values ≡ condition_count problem.now }
@@ -42,7 +42,7 @@ fn is_active(problem: &Problem, guards: &GuardTrees, scenario: &Scenario, proces
     active
 }
 
-/// Whether an edge is live. The contract alone names `problem`.
+/// Whether an edge is live in an outcome. Only the contract names `problem`, whose guards these are.
 fn is_live(problem: &Problem, guards: &GuardTrees, scenario: &Scenario, edge: u32) -> bool
     requires admitted { AreAdmitted problem.now guards.now }
     requires values { length scenario.now.values ≡ condition_count problem.now }
@@ -53,7 +53,7 @@ fn is_live(problem: &Problem, guards: &GuardTrees, scenario: &Scenario, edge: u3
     live
 }
 
-/// The conditions that decide a process. The contract alone names `problem`.
+/// Returns the conditions that decide a process in an outcome. Only the contract names `problem`, whose guards these are.
 fn deciding(
     alloc: Global,
     problem: &Problem,
@@ -71,8 +71,8 @@ fn deciding(
     Ok(conditions)
 }
 
-/// Whether an item that an active process may send is active: each broadcast is, and a message with its edge. The contract
-/// alone names `process`.
+/// Whether an item in the queue of an active process is active: a broadcast always is, and a message is if its edge is
+/// live. Only the contract names `process`.
 pub(crate) fn is_item_active(
     problem: &Problem,
     guards: &GuardTrees,
@@ -88,20 +88,21 @@ pub(crate) fn is_item_active(
     ensures { result ≡ item_active problem.now scenario.now.values (item_at problem.now item) }
 {
     let processes = problem.processes().len() as u32;
-    // items are numbered: first the processes, then the edges, and then the broadcasts
+    // items are numbered in the order starts, messages, broadcasts, so these are the broadcasts
     if item >= processes + problem.edges().len() as u32 {
         return true;
     }
+    // what is sent and no broadcast is a message, whose number is that of its edge after the starts
     is_live(problem, guards, scenario, item - processes)
 }
 
-/// The inputs of a process that are live.
+/// Returns the edges to a process that are live in an outcome.
 fn live_inputs(
     alloc: Global,
     setting: &Setting<'_>,
     scenario: &Scenario,
     process: u32,
-) -> Result<SmallVec<u32, FEW>, OutOfMemory>
+) -> Result<SmallVec<u32, INPUTS_IN_PLACE>, OutOfMemory>
     requires setting { IsSetting setting.now }
     requires values { length scenario.now.values ≡ condition_count setting.now.problem.now }
     requires process { process < process_count setting.now.problem.now }
@@ -116,7 +117,7 @@ fn live_inputs(
     Ok(edges)
 }
 
-/// What an outcome says of a process.
+/// Returns what an outcome says of a process.
 fn ask<'a>(
     alloc: Global,
     setting: &Setting<'_>,
@@ -140,7 +141,7 @@ fn ask<'a>(
     })
 }
 
-/// What each track says of a process.
+/// Returns what each track says of a process, in the order of the tracks.
 pub(crate) fn ask_each<'a>(
     alloc: Global,
     setting: &Setting<'_>,

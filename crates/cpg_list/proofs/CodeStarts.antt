@@ -1,5 +1,5 @@
--- One scenario gives an entry, if it is kept, and what the node carries on; and all of them do, one after
--- another.
+-- One scenario more of a loop over the scenarios: it gives an entry, if it is the least of the entry's cube, and its cube is
+-- replaced.
 use Rattle.std.proofs.Common.{◌≡◌, ◌≢◌, ◌∙◌, ℕ, ◌+◌, ◌<◌, ◌≤◌, Bool, true, false, if◌then◌else◌, List, [], ◌∷◌, ◌++◌}
 use Rattle.std.proofs.Common.{length, get_or, set, take, flat_map, Contains, AllPairs, Option, Some, None}
 use Rattle.std.proofs.Common.{is_some, option_to_list, arith, refl, sym, ap, inl, inr, subst, get_or-set_same}
@@ -35,7 +35,8 @@ use Rattle.cpg_run.proofs.EntriesFound.{AreEntriesAmong, not_before_place, passe
 
 -- ---- entries that are kept
 
--- an entry that is kept for the cube of some literals is kept for these literals
+-- an entry that is kept or not for one cube of some literals is so for the literals, as all cubes of them have one least
+-- scenario
 pub kept_of : (g : Graph) (s : Scenario) (time : ℕ) (literals cube : List Literal) → IsCubeOf g.faults literals cube →
     (r : Option Column) → IsLeastEntry g s time cube r →
     IsKeptOf g s time literals r
@@ -43,7 +44,7 @@ kept_of g s time literals cube is None h = λ other same least. h (same_least g 
 kept_of g s time literals cube is (Some e) h =
     (h.0, subst (IsCubeOf g.faults literals) (sym h.1) is, ap (lows g) h.1 ∙ h.2)
 
--- the cube without literals narrowed by literals is their cube
+-- a cube without literals, narrowed by literals, is their cube
 pub from_whole : (k : ℕ) (literals whole cube : List Literal) → whole ≡ [] → IsNarrowed k literals whole cube →
     IsCubeOf k literals cube
 from_whole k literals whole cube e n = n.by [] (subst (IsCubeOf k []) (sym e) (whole_cube k))
@@ -60,7 +61,7 @@ module _ (g : Graph) (rows : List (List Column)) (s : Scenario) (p : ℕ) where
       start_after g rows s p earlier ≡ earlier ++ decided g s p ++ heard g rows s p ++ received g rows s p
   start_plain earlier e = cond-false _ _ _ e
 
-  -- such a process carries what it receives
+  -- a process that isn't frozen counts what it receives
   pub received_plain : (process_at g p).frozen ≡ false → received_unless_frozen g rows s p ≡ received g rows s p
   received_plain e = cond-false _ _ _ e
 
@@ -84,27 +85,30 @@ module _ (g : Graph) (rows : List (List Column)) (s : Scenario) (p : ℕ) where
 
 -- ---- the entries of one scenario more
 
--- the entries of an item among the scenarios done so far, and a new scenario with its run
+-- given the entries of the item x for the scenarios done so far, and a scenario that isn't one of them, with its run
 module _ (g : Graph) (order : List ℕ) (topological : IsTopological g order) (frozen : List (Option ℕ))
     (rows : List (List Column)) (x : ℕ)
     (done : List Scenario) (entries : List Column) (so_far : AreEntriesAmong g order frozen rows x done entries)
     (s : Scenario) (law : IsScenario g s) (t : Times) (run : IsRun g order frozen s t) (new : Contains done s → ⊥) where
-  -- by whether the item has a time, and by whether an entry is kept: no entry comes for an inactive item, none for a
-  -- scenario that isn't the least of its cube, and one otherwise
+  -- With the entry r of the new scenario, if there is one, these are the entries of one scenario more. By cases: an inactive
+  -- item has none, nor has a scenario that isn't the least of its cube; any other has one.
   entry_at : (o : Option ℕ) → get_or t.times x None ≡ o → is_some o ≡ item_active g s.values (item_at g x) →
       (r : Option Column) →
       IsKeptAt g s o (carried g order rows s x) r
       → AreEntriesAmong g order frozen rows x (done ++ s ∷ []) (entries ++ option_to_list r)
+  -- the item is inactive
   entry_at None at off r e =
       subst (λ es. AreEntriesAmong g order frozen rows x (done ++ s ∷ []) (entries ++ option_to_list es)) (sym e)
       (subst (AreEntriesAmong g order frozen rows x (done ++ s ∷ [])) (sym (append-nil entries))
       (passed_inactive g order frozen rows x done entries so_far s (sym off)))
+  -- the scenario isn't the least of its cube
   entry_at (Some time) at on None h =
       subst (AreEntriesAmong g order frozen rows x (done ++ s ∷ [])) (sym (append-nil entries))
       (let literals = carried g order rows s x in
       let cube = cube_of g.faults literals in
       let is = cube_there g.faults literals in
       passed_other g order frozen rows x done entries so_far s cube is (h cube is))
+  -- the scenario is the least of its cube
   entry_at (Some time) at on (Some e) h = taken g order frozen rows x done entries so_far s e (record {
     lawful = law;
     active = sym on;
@@ -113,7 +117,7 @@ module _ (g : Graph) (order : List ℕ) (topological : IsTopological g order) (f
     cube = h.1;
   }) h.2 new
 
-  -- with the entry of the next scenario, if it is kept, the entries are those of one scenario more
+  -- the entry of the item at its time in the run is added, if there is one; an item without a time has none
   pub one_more : IsTimedIfActive g s t x → (r : Option Column) →
       IsKeptAt g s (get_or t.times x None) (carried g order rows s x) r →
       AreEntriesAmong g order frozen rows x (done ++ s ∷ []) (entries ++ option_to_list r)
@@ -121,21 +125,21 @@ module _ (g : Graph) (order : List ℕ) (topological : IsTopological g order) (f
 
 -- ---- the cubes of one scenario more
 
--- given for each scenario its literals from before and its new ones
+-- given for each scenario its literals before the loop, and those after it
 module _ (k : ℕ) (scenarios : List Scenario) (before literals : Scenario → List Literal) where
-  -- at first, all cubes are those from before
+  -- at first all cubes are those of the literals before
   pub none_done : (cubes : List (List Literal)) → AreCubesOf k scenarios before cubes →
       AreCubesUpTo k scenarios before literals 0 cubes
   none_done cubes are =
       record { count = are.count; done = λ i s h l. absurd (omega (arith, h)); rest = λ i s h l. are.each i s l }
 
-  -- after the last scenario, all cubes are new
+  -- after the last scenario all cubes are those of the new literals
   pub all_done : (n : ℕ) (cubes : List (List Literal)) → length scenarios ≤ n →
       AreCubesUpTo k scenarios before literals n cubes →
       AreCubesOf k scenarios literals cubes
   all_done n cubes h are = record { count = are.count; each = λ i s l. are.done i s (omega (arith, h, l)) l }
 
-  -- with the cube of the next scenario replaced, one scenario more is done
+  -- with the cube of the n-th scenario replaced by that of its new literals, n + 1 are done, and the others stay
   pub one_done : (n : ℕ) (cubes : List (List Literal)) (s : Scenario) (cube : List Literal) → n < length scenarios →
       AreCubesUpTo k scenarios before literals n cubes →
       s ≡ get_or scenarios n s
@@ -155,13 +159,13 @@ module _ (k : ℕ) (scenarios : List Scenario) (before literals : Scenario → L
         (are.rest i d (omega (arith, h)) m);
   }
 
--- the scenarios up to the next place
+-- the first n + 1 scenarios are the first n and the n-th
 pub next_scenario : (scenarios : List Scenario) (n : ℕ) (s : Scenario) → n < length scenarios →
     s ≡ get_or scenarios n s →
     take (n + 1) scenarios ≡ take n scenarios ++ s ∷ []
 next_scenario scenarios n s l at = take_more scenarios n s l ∙ ap (λ u. take n scenarios ++ u ∷ []) (sym at)
 
--- cubes that are made one after another
+-- if the first n cubes are those of the first n scenarios and that of the n-th is added, the first n + 1 are
 pub push_cube : (k : ℕ) (scenarios : List Scenario) (literals : Scenario → List Literal) (n : ℕ)
     (cubes new : List (List Literal)) (s : Scenario) (cube : List Literal) →
     n < length scenarios →
@@ -190,6 +194,7 @@ module _ (g : Graph) (order : List ℕ) (frozen : List (Option ℕ)) where
       ap is_some (time_is g order frozen s t run x l) ∙ go (item_active g s.values (item_at g x))
       (greatest (unfrozen_time g order s t x ∷ option_to_list (get_or frozen x None)))
     where
+      -- an option that is there only if b is true is there exactly if b is true
       go : (b : Bool) (n : ℕ) → is_some (if b then Some n else None) ≡ b
       go true n = refl
       go false n = refl
@@ -207,29 +212,29 @@ pub scenario_at : (scenarios : List Scenario) (n : ℕ) (s : Scenario) → n < l
     Contains scenarios s
 scenario_at scenarios n s l at = (n, l, sym at)
 
--- no scenario before a place is the one at the place
+-- the scenario at a place isn't among those before it, as no two are the same
 pub new_at : (scenarios : List Scenario) → AllPairs (λ s t. s ≢ t) scenarios → (n : ℕ) (s : Scenario) →
     n < length scenarios → s ≡ get_or scenarios n s → Contains (take n scenarios) s → ⊥
 new_at scenarios apart n s l at j = not_before_place scenarios n s apart l (subst (Contains (take n scenarios)) at j)
 
--- beside a start is carried what the processes before it on the node pass on
+-- what is carried beside the start of p is `start_after` of what the processes before it on its node pass on
 pub carried_start : (g : Graph) (order : List ℕ) (rows : List (List Column)) (s : Scenario) (p : ℕ) →
     p < process_count g →
     carried g order rows s p ≡ start_after g rows s p (passed_by g rows (before_on_node g order p) s)
 carried_start g order rows s p l = ap (carried_by_item g order rows s p) (item_at-start g p l)
 
--- the lists of all elements with one put last are those before and its own
+-- the lists of some elements and then that of one more are the lists of all, with that one put last
 pub flat_map_push : {X : Type 0} (f : X → List Literal) (xs : List X) (x : X) →
     flat_map f xs ++ f x ≡ flat_map f (xs ++ x ∷ [])
 flat_map_push f xs x = sym (flat_map-append f xs (x ∷ []) ∙ ap (λ z. flat_map f xs ++ z) (append-nil (f x)))
 
 -- ---- one scenario more of all of them
 
--- the scenario and the run at a place
+-- given: each scenario once and the run of each, and of the place n the scenario s and its run t
 module _ (g : Graph) (order : List ℕ) (topological : IsTopological g order) (frozen : List (Option ℕ))
     (rows : List (List Column)) (x : ℕ) (l : x < item_count g)
     (scenarios : List Scenario) (runs : List Times) (are : AreScenarios g scenarios)
-    (run : AreRuns g order frozen scenarios runs)
+    (each_run : AreRuns g order frozen scenarios runs)
     (n : ℕ) (s : Scenario) (t : Times) (inside : n < length scenarios) (at : s ≡ get_or scenarios n s)
     (is : t ≡ get_or runs n t) where
   -- the scenario at the place is one of the graph
@@ -238,13 +243,13 @@ module _ (g : Graph) (order : List ℕ) (topological : IsTopological g order) (f
 
   -- the run at the place is the run of the scenario
   pub run_here : IsRun g order frozen s t
-  run_here = run_at g order frozen scenarios runs run n s t inside at is
+  run_here = run_at g order frozen scenarios runs each_run n s t inside at is
 
-  -- the item has a time in it exactly if it is active
+  -- the item x has a time in it exactly if it is active
   pub timed_here : IsTimedIfActive g s t x
   timed_here = timed_if_active g order frozen s t run_here x l
 
-  -- with its entry, if it is kept, the entries are those of one scenario more
+  -- with the entry r of the scenario, if there is one, the entries of the first n scenarios are those of the first n + 1
   pub found_more : (entries next : List Column) → AreEntriesAmong g order frozen rows x (take n scenarios) entries →
       (r : Option Column) →
       IsKeptAt g s (get_or t.times x None) (carried g order rows s x) r
@@ -255,7 +260,7 @@ module _ (g : Graph) (order : List ℕ) (topological : IsTopological g order) (f
       (one_more g order topological frozen rows x (take n scenarios) entries so_far s law_here t run_here
       (new_at scenarios are.apart n s inside at) timed_here r h))
 
--- the cube of a scenario whose turn it is
+-- the cube at the place n, whose turn it is, is still that of the scenario's literals before
 pub cube_here : (k : ℕ) (scenarios : List Scenario) (before literals : Scenario → List Literal) (n : ℕ)
     (cubes : List (List Literal)) (s : Scenario) (cube : List Literal) →
     n < length scenarios →

@@ -1,4 +1,4 @@
-//! The rows of all items.
+//! Makes the rows of all items, along an order.
 ghost use Rattle.std.specs.Prelude.{◌≡◌, ◌<◌, ◌+◌, IfOk, OnOk, length, map};
 ghost use Rattle.cpg_base.specs.Graph.{process_count, item_count};
 ghost use Rattle.cpg_base.specs.Numbers.{numbers_below};
@@ -46,61 +46,64 @@ fn set_row(
     Ok(())
 }
 
-/// Makes the rows of what a process sends.
+/// Makes the rows of what a process sends. `ends` has for each scenario the cube of what is carried at the end of the
+/// process, and `queue` that of what earlier items leave in the queue of its node, which is narrowed by what these leave.
 fn make_sends(
     alloc: Global,
     listed: &Listed<'_>,
     process: u32,
     ends: &Cubes,
-    sent: &mut Cubes,
+    queue: &mut Cubes,
     rows: &mut Vec<TimedRow>,
 ) -> Result<(), OutOfMemory>
     requires listed { IsListed listed.now }
     requires process { process < process_count (graph_of listed.now) }
     requires ends { HasEnds listed.now rows.old.items process ends.now }
-    requires sent { HasQueued listed.now rows.old.items process (place listed.now.order.now process) sent.old }
+    requires queue { HasQueued listed.now rows.old.items process (place listed.now.order.now process) queue.old }
     requires made { HasMadeStart listed.now process rows.old.items }
-    ensures sent { OnOk result (HasQueued listed.now rows.new.items process (place listed.now.order.now process + 1) sent.new) }
+    ensures queue { OnOk result (HasQueued listed.now rows.new.items process (place listed.now.order.now process + 1) queue.new) }
     ensures made { OnOk result (HasMadeBefore listed.now (place listed.now.order.now process + 1) rows.new.items) }
     ensures same { OnOk result (KeepsEarlier listed.now process rows.old.items rows.new.items) }
 {
     let admitted = listed.admitted;
     for item in listed.plan.queue(admitted.problem(), process) {
-        let entries = send_entries(alloc, listed, rows.as_slice(), process, *item, ends, sent)?;
+        let entries = send_entries(alloc, listed, rows.as_slice(), process, *item, ends, queue)?;
         set_row(alloc, admitted, *item, entries, rows)?;
     }
     Ok(())
 }
 
-/// Makes the rows of what a process sends, given what its node carries on up to the process.
+/// Makes the rows of what a process sends, as in `make_sends`. `known` has for each scenario the cube of what its node
+/// carries on up to the process.
 fn make_sends_after(
     alloc: Global,
     listed: &Listed<'_>,
     process: u32,
     known: &Cubes,
-    sent: &mut Cubes,
+    queue: &mut Cubes,
     rows: &mut Vec<TimedRow>,
 ) -> Result<(), OutOfMemory>
     requires listed { IsListed listed.now }
     requires process { process < process_count (graph_of listed.now) }
     requires known { HasPassedBy listed.now rows.old.items process known.now }
-    requires sent { HasQueued listed.now rows.old.items process (place listed.now.order.now process) sent.old }
+    requires queue { HasQueued listed.now rows.old.items process (place listed.now.order.now process) queue.old }
     requires made { HasMadeStart listed.now process rows.old.items }
-    ensures sent { OnOk result (HasQueued listed.now rows.new.items process (place listed.now.order.now process + 1) sent.new) }
+    ensures queue { OnOk result (HasQueued listed.now rows.new.items process (place listed.now.order.now process + 1) queue.new) }
     ensures made { OnOk result (HasMadeBefore listed.now (place listed.now.order.now process + 1) rows.new.items) }
     ensures same { OnOk result (KeepsEarlier listed.now process rows.old.items rows.new.items) }
 {
-    // a frozen process carries at its ends just what decides it and its own count
+    // at the end of a frozen process just what decides it and its count are carried, and else all that its node carries on
     if listed.admitted.problem().is_frozen(process) {
         let ends = frozen_ends(alloc, listed.admitted, listed.scenarios, process)?;
-        make_sends(alloc, listed, process, &ends, sent, rows)?;
+        make_sends(alloc, listed, process, &ends, queue, rows)?;
         return Ok(());
     }
-    make_sends(alloc, listed, process, known, sent, rows)?;
+    make_sends(alloc, listed, process, known, queue, rows)?;
     Ok(())
 }
 
-/// Makes the row of the start of a process.
+/// Makes the row of the start of a process. `known` has for each scenario the cube of what its node carries on from earlier
+/// processes, and is narrowed by what it carries on from this one.
 fn make_start(
     alloc: Global,
     listed: &Listed<'_>,
@@ -123,32 +126,40 @@ fn make_start(
     Ok(())
 }
 
-/// Makes the rows of the process at a place and of what it sends.
+/// Makes the rows of the start of the process at a place and of what it sends. `known` and `queues` have by node and scenario
+/// the cubes of what the node carries on, and of what earlier items leave in its queue.
 fn make(
     alloc: Global,
     listed: &Listed<'_>,
     place: u32,
     known: &mut Vec<Cubes>,
-    sent: &mut Vec<Cubes>,
+    queues: &mut Vec<Cubes>,
     rows: &mut Vec<TimedRow>,
 ) -> Result<(), OutOfMemory>
     requires listed { IsListed listed.now }
     requires place { place < process_count (graph_of listed.now) }
-    requires carried { Carries listed.now rows.old.items place known.old.items sent.old.items }
+    requires carried { Carries listed.now rows.old.items place known.old.items queues.old.items }
     requires made { HasMadeBefore listed.now place rows.old.items }
-    ensures carried { OnOk result (Carries listed.now rows.new.items (place + 1) known.new.items sent.new.items) }
+    ensures carried { OnOk result (Carries listed.now rows.new.items (place + 1) known.new.items queues.new.items) }
     ensures made { OnOk result (HasMadeBefore listed.now (place + 1) rows.new.items) }
 {
     let process = listed.order.at(place);
     let node = listed.admitted.problem().node_of(process) as usize;
     make_start(alloc, listed, process, &mut known[node], rows)?;
-    make_sends_after(alloc, listed, process, &known[node], &mut sent[node], rows)?;
+    make_sends_after(
+        alloc,
+        listed,
+        process,
+        &known[node],
+        &mut queues[node],
+        rows,
+    )?;
     Ok(())
 }
 
-/// The rows of all items of a graph, given all scenarios, each once, and their runs: one entry for each group of scenarios
-/// in which the item's node has learnt the same, merged. An item that doesn't go over the bus, and is no start, has no
-/// column. Times are in time units of the graph file; the one error is `OutOfMemory`.
+/// Returns the rows of all items of a graph, by number, given all scenarios, each once, and their runs. A row has one entry
+/// for each group of scenarios in which the same literals are carried beside the item's time, merged. An item that is
+/// no start and doesn't go over the bus has no column.
 pub fn rows(
     alloc: Global,
     admitted: &Admitted,
@@ -167,8 +178,9 @@ pub fn rows(
     ensures rows { IfOk result (λ rows. AreRows admitted.now.graph admitted.now.order order.now frozen.now (map (λ r. r.columns) rows.items)) }
 {
     let problem = admitted.problem();
+    // before the first process no node carries anything on, and no queue leaves anything
     let mut known = whole_by_node(alloc, problem, scenarios.len())?;
-    let mut sent = whole_by_node(alloc, problem, scenarios.len())?;
+    let mut queues = whole_by_node(alloc, problem, scenarios.len())?;
     let mut rows = empty_rows(alloc, problem)?;
     let listed = Listed {
         admitted,
@@ -179,7 +191,7 @@ pub fn rows(
         runs,
     };
     for place in 0..problem.processes().len() as u32 {
-        make(alloc, &listed, place, &mut known, &mut sent, &mut rows)?;
+        make(alloc, &listed, place, &mut known, &mut queues, &mut rows)?;
     }
     let rows = to_rows(alloc, rows.as_slice())?;
     Ok(rows)

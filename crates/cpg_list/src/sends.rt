@@ -1,4 +1,4 @@
-//! The entries of sends, and what stands in the queues of nodes.
+//! The entries of sends, and what items leave to those behind them in a node's queue.
 ghost use Rattle.std.specs.Prelude.{◌≡◌, ◌<◌, ◌++◌, ◌∷◌, [], List, Contains, IfOk, OnOk, None, true, false, get_or};
 ghost use Rattle.cpg_base.specs.Activity.{item_active};
 ghost use Rattle.cpg_base.specs.Graph.{process_count, item_at, is_frozen};
@@ -28,28 +28,30 @@ use std::alloc::Global;
 /// An item and the process that sends it.
 #[derive(Clone, Copy)]
 struct Sending {
+    /// The process, which is the producer of the item.
     process: u32,
+    /// The number of the item.
     item: u32,
 }
 
-/// The condition whose value decides whether an item that a process sends is sent, if there is one.
+/// Returns the condition whose value decides whether an item is sent once its process has ended. `None` if it always is.
 fn deciding_value(problem: &Problem, process: u32, item: u32) -> Option<u32>
     requires process { process < process_count problem.now }
     requires item { Contains (queue_of problem.now process) item }
     ensures { IsSentValue problem.now item result }
 {
-    // a broadcast is sent at each end of its process
+    // a broadcast is sent at every end of its process
     let Item::Message(edge) = problem.item(item) else {
         return None;
     };
-    // the edge has no condition, so the message is sent at each end too
+    // so is the message of an edge without a `when`
     if problem.edges()[edge as usize].when.is_none() {
         return None;
     }
     problem.condition_of(process)
 }
 
-/// Narrows a cube by the value that decides whether an item that a process sends is sent, if there is one.
+/// Narrows a cube by the value that decides whether an item is sent once its process has ended, if there is one.
 fn narrow_by_sent_value(
     alloc: Global,
     problem: &Problem,
@@ -70,7 +72,7 @@ fn narrow_by_sent_value(
     Ok(())
 }
 
-/// Narrows a cube by what decides a process, and by the value that decides whether an item that it sends is sent.
+/// Narrows a cube by what decides a process, and by the value that decides whether an item is sent once it has ended.
 fn narrow_by_sending(
     alloc: Global,
     admitted: &Admitted,
@@ -99,7 +101,8 @@ fn narrow_by_sending(
     Ok(())
 }
 
-/// Narrows what stands in the queue by an item that isn't sent in the scenario.
+/// Narrows the cube of what the queue leaves by what an item leaves that isn't sent in the scenario: only what decides
+/// that it isn't.
 fn pass_over(
     alloc: Global,
     admitted: &Admitted,
@@ -107,7 +110,7 @@ fn pass_over(
     times: &RunTimes,
     process: u32,
     item: u32,
-    sent: &mut Cube,
+    queue: &mut Cube,
 ) -> Result<(), OutOfMemory>
     requires scenario { IsScenario admitted.now.graph scenario.now }
     requires process { process < process_count admitted.now.graph }
@@ -115,9 +118,9 @@ fn pass_over(
     requires active { IsTimedIfActive admitted.now.graph scenario.now times.now process }
     requires idle { item_active admitted.now.graph scenario.now.values (item_at admitted.now.graph item) ≡ false }
     ensures { OnOk result ((ends : List Literal) → IsNarrowed admitted.now.graph.faults
-        (queued_after admitted.now.graph scenario.now item ends) sent.old sent.new) }
+        (queued_after admitted.now.graph scenario.now item ends) queue.old queue.new) }
 {
-    // the process itself is idle
+    // the process itself is inactive, so its value doesn't matter
     let Some(_) = times.time(process) else {
         let conditions = deciding(alloc, admitted, scenario, process)?;
         narrow_by_decided(
@@ -126,16 +129,17 @@ fn pass_over(
             scenario,
             process,
             conditions.as_slice(),
-            sent,
+            queue,
         )?;
         return Ok(());
     };
-    // the process is active, but the value of its condition isn't the one that the edge asks for
-    narrow_by_sending(alloc, admitted, scenario, process, item, sent)?;
+    // the process is active, but its condition doesn't have the value of the edge's `when`
+    narrow_by_sending(alloc, admitted, scenario, process, item, queue)?;
     Ok(())
 }
 
-/// The entry of a frozen message that is sent in the scenario, if that is the least of the cube carried there.
+/// Returns the entry of a frozen message that is sent at `time` in the scenario, or `None` if the scenario isn't the least
+/// of the entry's cube. Narrows the cube of what the queue leaves by what the message leaves.
 fn send_frozen(
     alloc: Global,
     admitted: &Admitted,
@@ -143,26 +147,29 @@ fn send_frozen(
     time: u64,
     process: u32,
     item: u32,
-    sent: &mut Cube,
+    queue: &mut Cube,
 ) -> Result<Option<Column>, OutOfMemory>
     requires scenario { IsScenario admitted.now.graph scenario.now }
     requires process { process < process_count admitted.now.graph }
     requires item { Contains (queue_of admitted.now.graph process) item }
     requires frozen { is_frozen admitted.now.graph item ≡ true }
     requires active { item_active admitted.now.graph scenario.now.values (item_at admitted.now.graph item) ≡ true }
-    ensures entry { IfOk result (λ r. (queue ends : List Literal)
-        → IsKeptOf admitted.now.graph scenario.now time (send_after admitted.now.graph scenario.now item queue ends) r) }
-    ensures sent { OnOk result ((ends : List Literal) → IsNarrowed admitted.now.graph.faults
-        (queued_after admitted.now.graph scenario.now item ends) sent.old sent.new) }
+    ensures entry { IfOk result (λ r. (before ends : List Literal)
+        → IsKeptOf admitted.now.graph scenario.now time (send_after admitted.now.graph scenario.now item before ends) r) }
+    ensures queue { OnOk result ((ends : List Literal) → IsNarrowed admitted.now.graph.faults
+        (queued_after admitted.now.graph scenario.now item ends) queue.old queue.new) }
 {
+    // beside a frozen message only what decides its sending is carried
     let mut cube = Cube::whole(alloc);
     narrow_by_sending(alloc, admitted, scenario, process, item, &mut cube)?;
-    narrow_by_cube(alloc, &cube, sent)?;
+    narrow_by_cube(alloc, &cube, queue)?;
     let entry = kept(admitted.problem(), scenario, time, &cube)?;
     Ok(entry)
 }
 
-/// The entry of an item that is sent in the scenario, if that is the least of the cube carried there.
+/// Returns the entry of an item that isn't frozen and is sent at `time` in the scenario, or `None` if the scenario isn't
+/// the least of the entry's cube. `end` is the cube of what is carried at the end of the process. Narrows the cube of what
+/// the queue leaves by what the item leaves.
 fn send_plain(
     alloc: Global,
     problem: &Problem,
@@ -170,29 +177,31 @@ fn send_plain(
     time: u64,
     sending: Sending,
     end: &Cube,
-    sent: &mut Cube,
+    queue: &mut Cube,
 ) -> Result<Option<Column>, OutOfMemory>
     requires scenario { IsScenario problem.now scenario.now }
     requires process { sending.process < process_count problem.now }
     requires item { Contains (queue_of problem.now sending.process) sending.item }
     requires plain { is_frozen problem.now sending.item ≡ false }
     requires active { item_active problem.now scenario.now.values (item_at problem.now sending.item) ≡ true }
-    ensures entry { IfOk result (λ r. (queue ends : List Literal) → IsCubeOf problem.now.faults queue sent.old
+    ensures entry { IfOk result (λ r. (before ends : List Literal) → IsCubeOf problem.now.faults before queue.old
         → IsCubeOf problem.now.faults ends end.now
-        → IsKeptOf problem.now scenario.now time (send_after problem.now scenario.now sending.item queue ends) r) }
-    ensures sent { OnOk result ((ends : List Literal) → IsCubeOf problem.now.faults ends end.now
+        → IsKeptOf problem.now scenario.now time (send_after problem.now scenario.now sending.item before ends) r) }
+    ensures queue { OnOk result ((ends : List Literal) → IsCubeOf problem.now.faults ends end.now
         → Within (decided problem.now scenario.now sending.process) ends
-        → IsNarrowed problem.now.faults (queued_after problem.now scenario.now sending.item ends) sent.old sent.new) }
+        → IsNarrowed problem.now.faults (queued_after problem.now scenario.now sending.item ends) queue.old queue.new) }
 {
     let Sending { process, item } = sending;
-    narrow_by_cube(alloc, end, sent)?;
-    narrow_by_sent_value(alloc, problem, scenario, process, item, sent)?;
-    let entry = kept(problem, scenario, time, sent)?;
+    // beside the item is carried what the queue left so far and what the item leaves itself, so one cube serves as both
+    narrow_by_cube(alloc, end, queue)?;
+    narrow_by_sent_value(alloc, problem, scenario, process, item, queue)?;
+    let entry = kept(problem, scenario, time, queue)?;
     Ok(entry)
 }
 
-/// The entry of an item that a process sends in a scenario, if it is active there and the scenario is the least of the cube
-/// carried there. The cube of what stands in the queue is narrowed by what the item leaves.
+/// Returns the entry of an item in a scenario, or `None` if it isn't sent there or the scenario isn't the least of the
+/// entry's cube. `end` is the cube of what is carried at the end of the process, if it is active. Narrows the cube of what
+/// the queue leaves by what the item leaves.
 fn send_in(
     alloc: Global,
     admitted: &Admitted,
@@ -200,38 +209,38 @@ fn send_in(
     times: &RunTimes,
     sending: Sending,
     end: &Cube,
-    sent: &mut Cube,
+    queue: &mut Cube,
 ) -> Result<Option<Column>, OutOfMemory>
     requires scenario { IsScenario admitted.now.graph scenario.now }
     requires process { sending.process < process_count admitted.now.graph }
     requires item { Contains (queue_of admitted.now.graph sending.process) sending.item }
     requires process_active { IsTimedIfActive admitted.now.graph scenario.now times.now sending.process }
     requires item_active { IsTimedIfActive admitted.now.graph scenario.now times.now sending.item }
-    ensures entry { IfOk result (λ r. (queue ends : List Literal) → IsCubeOf admitted.now.graph.faults queue sent.old
+    ensures entry { IfOk result (λ r. (before ends : List Literal) → IsCubeOf admitted.now.graph.faults before queue.old
         → IsEndOf admitted.now.graph scenario.now sending.process ends end.now
         → IsKeptAt admitted.now.graph scenario.now (get_or times.now.times sending.item None)
-        (send_after admitted.now.graph scenario.now sending.item queue ends) r) }
-    ensures sent { OnOk result ((ends : List Literal) → IsEndOf admitted.now.graph scenario.now sending.process ends end.now
+        (send_after admitted.now.graph scenario.now sending.item before ends) r) }
+    ensures queue { OnOk result ((ends : List Literal) → IsEndOf admitted.now.graph scenario.now sending.process ends end.now
         → IsNarrowed admitted.now.graph.faults
-        (queued_after admitted.now.graph scenario.now sending.item ends) sent.old sent.new) }
+        (queued_after admitted.now.graph scenario.now sending.item ends) queue.old queue.new) }
 {
     let Sending { process, item } = sending;
     let problem = admitted.problem();
-    // the item isn't sent in the scenario
+    // an item that isn't sent has no time
     let Some(time) = times.time(item) else {
-        pass_over(alloc, admitted, scenario, times, process, item, sent)?;
+        pass_over(alloc, admitted, scenario, times, process, item, queue)?;
         return Ok(None);
     };
     if problem.is_frozen(item) {
-        let entry = send_frozen(alloc, admitted, scenario, time, process, item, sent)?;
+        let entry = send_frozen(alloc, admitted, scenario, time, process, item, queue)?;
         return Ok(entry);
     }
-    let entry = send_plain(alloc, problem, scenario, time, sending, end, sent)?;
+    let entry = send_plain(alloc, problem, scenario, time, sending, end, queue)?;
     Ok(entry)
 }
 
-/// The entries of an item that a process sends, for the scenarios that are the least of the cubes carried there. The contract
-/// alone names `rows`.
+/// Returns the entries of an item that a process sends, each found in the least scenario of its cube. Narrows for each
+/// scenario the cube of what the queue leaves by what the item leaves. Only the contract names `rows`.
 pub(crate) fn send_entries(
     alloc: Global,
     listed: &Listed<'_>,
@@ -239,15 +248,15 @@ pub(crate) fn send_entries(
     process: u32,
     item: u32,
     ends: &Cubes,
-    sent: &mut Cubes,
+    queue: &mut Cubes,
 ) -> Result<Vec<Column>, OutOfMemory>
     requires listed { IsListed listed.now }
     requires process { process < process_count (graph_of listed.now) }
     requires item { Contains (queue_of (graph_of listed.now) process) item }
     requires ends { HasEnds listed.now rows.now process ends.now }
-    requires sent { HasQueuedBefore listed.now rows.now item sent.old }
+    requires queue { HasQueuedBefore listed.now rows.now item queue.old }
     ensures entries { IfOk result (λ entries. HasEntries listed.now rows.now item entries.items) }
-    ensures sent { OnOk result (HasQueuedBy listed.now rows.now item sent.new) }
+    ensures queue { OnOk result (HasQueuedBy listed.now rows.now item queue.new) }
 {
     let (admitted, scenarios, runs) = (listed.admitted, listed.scenarios, listed.runs);
     let sending = Sending { process, item };
@@ -260,14 +269,15 @@ pub(crate) fn send_entries(
             &runs[at],
             sending,
             &ends.cubes[at],
-            &mut sent.cubes[at],
+            &mut queue.cubes[at],
         )?;
         push_entry(&mut entries, entry)?;
     }
     Ok(entries)
 }
 
-/// What is carried at the end of a frozen process in a scenario.
+/// Returns the cube of what is carried at the end of a frozen process in a scenario: what decides the process, and its
+/// fault count.
 fn frozen_end(
     alloc: Global,
     admitted: &Admitted,
@@ -289,11 +299,12 @@ fn frozen_end(
         conditions.as_slice(),
         &mut cube,
     )?;
+    // the variable of a process's fault count is the process's number, which is below 128
     narrow_to_number(alloc, problem, scenario, process as u8, &mut cube)?;
     Ok(cube)
 }
 
-/// What is carried at the ends of a frozen process.
+/// Returns for each scenario the cube of what is carried at the end of a frozen process.
 pub(crate) fn frozen_ends(
     alloc: Global,
     admitted: &Admitted,

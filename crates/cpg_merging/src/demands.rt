@@ -1,4 +1,5 @@
-//! How much columns ask above 0 in all. This usually shows at once that no two of them touch.
+//! The demands of columns: the time of each, with how much it asks. Columns that touch have one time and ask different
+//! amounts, so demands usually show at once that none touch.
 ghost use Rattle.std.specs.Prelude.{◌≡◌, ◌+◌, ◌*◌, ◌/◌, ◌^◌, ◌%◌, IfOk, length, map, sum_by};
 ghost use Rattle.std.specs.Bool.{OnFalse};
 ghost use Rattle.cpg_merging.specs.Demands.{AgreeByTime, demand_of, low_of};
@@ -8,10 +9,10 @@ use cpg_base::OutOfMemory;
 use cpg_cube::{Column, Literal};
 use std::alloc::Global;
 
-/// The number that separates a demand's time from how much is asked.
-const ASKED: u64 = 256;
+/// How many amounts a byte may say. A demand is its time, times this, plus the amount.
+const AMOUNTS: u64 = 256;
 
-/// The sum of the lows, in a byte.
+/// Returns how much these literals ask: the sum of their lows, as a byte.
 fn asked_in(literals: &[Literal]) -> u8
     ensures { result ≡ sum_by low_of literals.now % 256 }
 {
@@ -22,21 +23,21 @@ fn asked_in(literals: &[Literal]) -> u8
     asked
 }
 
-/// A time with how much is asked above 0 in all, in a byte, in one number.
+/// Returns the demand of a column with this time that asks this much. Both are in one number, modulo 2^64.
 pub fn demand(time: u64, asked: u8) -> u64
     ensures { result ≡ (time * 256 % 2 ^ 64 + asked) % 2 ^ 64 }
 {
-    time.wrapping_mul(ASKED).wrapping_add(u64::from(asked))
+    time.wrapping_mul(AMOUNTS).wrapping_add(u64::from(asked))
 }
 
-/// A column's time with how much it asks above 0 in all.
+/// Returns the demand of a column.
 fn demand_of(column: &Column) -> u64
     ensures { result ≡ demand_of column.now }
 {
     demand(column.time, asked_in(column.cube.literals()))
 }
 
-/// The demands of columns.
+/// Returns the demands of the columns. The one error is `OutOfMemory`.
 fn demands(alloc: Global, columns: &[Column]) -> Result<Vec<u64>, OutOfMemory>
     ensures { IfOk result (λ demands. demands.items ≡ map demand_of columns.now) }
 {
@@ -48,14 +49,15 @@ fn demands(alloc: Global, columns: &[Column]) -> Result<Vec<u64>, OutOfMemory>
     Ok(demands)
 }
 
-/// Whether two demands of one time differ.
+/// Whether two demands have one time and differ.
 fn do_differ(first: u64, second: u64) -> bool
     ensures { OnFalse result (first / 256 ≡ second / 256 → first ≡ second) }
 {
-    first != second && first / ASKED == second / ASKED
+    first != second && first / AMOUNTS == second / AMOUNTS
 }
 
-/// Whether any two demands of one time differ.
+/// Whether any two of these demands, which are sorted, have one time and differ. Such two stand side by side
+/// somewhere.
 fn do_any_differ(sorted: &[u64]) -> bool
     requires { DoNotFall sorted.now }
     ensures { OnFalse result (AgreeByTime sorted.now) }
@@ -68,18 +70,20 @@ fn do_any_differ(sorted: &[u64]) -> bool
     false
 }
 
-/// Whether any two demands of one time differ. If none do, no two columns that have these demands touch.
+/// Whether any two of these demands have one time and differ. If it is false, no two columns with these demands touch;
+/// true guarantees nothing.
 pub fn do_demands_differ(demands: Vec<u64>) -> bool
     ensures { OnFalse result (AgreeByTime demands.items) }
 {
     let mut demands = demands;
-    // most rows have few, so that this takes little
+    // rows mostly have few columns, so the sort is cheap
     demands.sort_unstable();
     do_any_differ(demands.as_slice())
 }
 
-/// Whether any two columns of one time differ in how much they ask, as those do that touch.
-pub(crate) fn have_many_demands(alloc: Global, columns: &[Column]) -> Result<bool, OutOfMemory>
+/// Whether any two of these columns have one time and ask different amounts, as those do that touch. True guarantees
+/// nothing. The one error is `OutOfMemory`.
+pub(crate) fn do_amounts_differ(alloc: Global, columns: &[Column]) -> Result<bool, OutOfMemory>
     ensures { IfOk result (λ r. OnFalse r (AgreeByTime (map demand_of columns.now))) }
 {
     let demands = demands(alloc, columns)?;

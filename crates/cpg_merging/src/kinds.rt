@@ -1,5 +1,5 @@
-//! Kinds of columns. Columns that touch are of one kind and ask different amounts above 0 in all, so usually few
-//! columns are left to look at.
+//! Kinds of columns. Columns that touch are of one kind and ask different amounts, so usually few columns are left
+//! that have to be looked at.
 ghost use Rattle.std.specs.Prelude.{ℕ, ◌≡◌, ◌%◌, ◌^◌, ◌<◌, IfOk, filter, get_or, length, map, sum_by};
 ghost use Rattle.cpg_merging.specs.Demands.{low_of};
 ghost use Rattle.cpg_merging.specs.Kinds.{AreTold, HoldCandidates, IsTold, is_candidate, kind_by, kind_of, variable_of};
@@ -10,18 +10,19 @@ use cpg_base::OutOfMemory;
 use cpg_cube::{Column, Literal};
 use std::alloc::Global;
 
-/// How many places a table has for each column.
-const SPREAD: usize = 8;
+/// How many places a table has for each column, so that kinds that differ seldom share a place.
+const PLACES_PER_COLUMN: usize = 8;
 
-/// What columns that touch have in common, and how much a column asks above 0 in all, as a byte.
+/// What columns that touch have in common, and how much the column asks.
 #[derive(Clone, Copy)]
 struct ColumnKind {
     /// A number for the time, for how many literals there are and for the sum of their variables.
     number: u64,
+    /// How much the column asks: the sum of the lows of its literals, as a byte.
     asked: u8,
 }
 
-/// The kind of a column with this time and these literals.
+/// Returns the kind of a column with this time and these literals.
 fn kind_by(time: u64, literals: &[Literal]) -> ColumnKind
     ensures { result ≡ kind_by time literals.now }
 {
@@ -31,14 +32,14 @@ fn kind_by(time: u64, literals: &[Literal]) -> ColumnKind
         variables = variables.wrapping_add(literal.variable);
         asked = asked.wrapping_add(literal.low);
     }
-    let many = mixed(mixed(0, time), literals.len() as u64);
+    let hash = mixed(mixed(0, time), literals.len() as u64);
     ColumnKind {
-        number: mixed(many, u64::from(variables)),
+        number: mixed(hash, u64::from(variables)),
         asked,
     }
 }
 
-/// The kinds of columns.
+/// Returns the kinds of the columns. The one error is `OutOfMemory`.
 fn kinds(alloc: Global, columns: &[Column]) -> Result<Vec<ColumnKind>, OutOfMemory>
     ensures { IfOk result (λ kinds. kinds.items ≡ map kind_of columns.now) }
 {
@@ -50,7 +51,7 @@ fn kinds(alloc: Global, columns: &[Column]) -> Result<Vec<ColumnKind>, OutOfMemo
     Ok(kinds)
 }
 
-/// How much the last column of each place asks.
+/// Returns, for each of `count` places, how much the last column of the place asks; 0 if it has none.
 fn last_asked(alloc: Global, count: usize, kinds: &[ColumnKind]) -> Result<Vec<u8>, OutOfMemory>
     requires { 0 < count }
     ensures { IfOk result (λ told. length told.items ≡ count) }
@@ -63,7 +64,8 @@ fn last_asked(alloc: Global, count: usize, kinds: &[ColumnKind]) -> Result<Vec<u
     Ok(told)
 }
 
-/// Notes a difference if a column asks for something else than the last column of its place did.
+/// Notes a difference at the place of a column if it doesn't ask what the last column of the place does, which `told`
+/// has.
 fn note(told: &[u8], kind: ColumnKind, differing: &mut [bool])
     requires some { 0 < length told.now }
     requires long { length differing.old ≡ length told.now }
@@ -72,14 +74,14 @@ fn note(told: &[u8], kind: ColumnKind, differing: &mut [bool])
     ensures noted { IsTold told.now differing.new kind }
 {
     let place = place_in(told.len(), kind.number);
-    // it asks for the same as the last one, so no difference is noted
+    // it asks what the last column of the place asks
     if told[place] == kind.asked {
         return;
     }
     differing[place] = true;
 }
 
-/// The places where some column asks for something else than another column of the place.
+/// Returns at which places some column doesn't ask what the last one of the place does, which `told` has.
 fn differing(alloc: Global, told: &[u8], kinds: &[ColumnKind]) -> Result<Vec<bool>, OutOfMemory>
     requires { 0 < length told.now }
     ensures long { IfOk result (λ differing. length differing.items ≡ length told.now) }
@@ -92,7 +94,7 @@ fn differing(alloc: Global, told: &[u8], kinds: &[ColumnKind]) -> Result<Vec<boo
     Ok(differing)
 }
 
-/// The columns of these places.
+/// Returns the columns whose place has a difference. `kinds` are their kinds.
 fn chosen<'a>(
     alloc: Global,
     differing: &[bool],
@@ -112,7 +114,8 @@ fn chosen<'a>(
     Ok(chosen)
 }
 
-/// Columns that include all those that touch another column.
+/// Returns the columns whose place has columns that ask differently. All columns that touch another one are among
+/// them. The one error is `OutOfMemory`.
 pub(crate) fn candidates<'a>(
     alloc: Global,
     columns: &'a [Column],
@@ -120,7 +123,11 @@ pub(crate) fn candidates<'a>(
     ensures { IfOk result (λ candidates. HoldCandidates columns.now (map (λ b. b.now) candidates.items)) }
 {
     let kinds = kinds(alloc, columns)?;
-    let count = kinds.len().saturating_add(1).saturating_mul(SPREAD);
+    // one column more than there are, so that there is a place if there are none
+    let count = kinds
+        .len()
+        .saturating_add(1)
+        .saturating_mul(PLACES_PER_COLUMN);
     let told = last_asked(alloc, count, kinds.as_slice())?;
     let differing = differing(alloc, told.as_slice(), kinds.as_slice())?;
     let chosen = chosen(alloc, differing.as_slice(), kinds.as_slice(), columns)?;

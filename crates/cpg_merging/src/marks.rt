@@ -1,35 +1,36 @@
-//! Marks of the variables at which any two columns of a row may touch.
+//! Marks of the variables at which two columns of a row may touch. A mark may be wrong; no mark says that no two touch
+//! there.
 ghost use Rattle.std.specs.Prelude.{ℕ, ◌≡◌, Contains, IfOk, map};
 ghost use Rattle.cpg_cube.specs.declared.literal.Literal.{Literal};
 ghost use Rattle.cpg_merging.specs.Totals.{AreMarked, AreMarkedBy, AreSums, HasNoPartner, IsMarked, total_of};
 ghost use Rattle.cpg_merging.specs.Merging.{IsShorn};
 
-use crate::demands::have_many_demands;
+use crate::demands::do_amounts_differ;
 use crate::kinds::candidates;
 use crate::totals::{Sums, has_partner, sieve_of, totals};
 use cpg_base::{OutOfMemory, Problem};
 use cpg_cube::{BLOCK, Column, Listing, Literal, VARIABLES, begin_at_zero};
 use std::alloc::Global;
 
-/// Marks the variable of a literal if a column with this sum may follow another column there.
+/// Marks the variable of a literal if a column with this total may follow another one at the literal.
 fn mark_at(sums: Sums<'_>, total: u64, literal: Literal, marks: &mut [bool; VARIABLES])
     requires { AreSums sums.sorted.now sums.sieve.now }
     ensures kept { (v : ℕ) → IsMarked marks.old v → IsMarked marks.new v }
     ensures marked { ¬ IsMarked marks.new literal.variable → HasNoPartner sums.entry.sorted.now total literal }
 {
-    // most literals begin at 0, and nothing comes before 0
+    // mostly a literal begins at 0, and no range ends before 0
     if literal.low == 0 {
         return;
     }
     let place = literal.variable as usize;
-    // marked already, whatever this literal shows
+    // the variable is marked already
     if marks[place] {
         return;
     }
     marks[place] = has_partner(sums, total, literal);
 }
 
-/// Marks the variables of literals at which a column with this sum may follow another.
+/// Marks the variable of each of these literals at which a column with this total may follow another one.
 fn mark_each(sums: Sums<'_>, total: u64, literals: &[Literal], marks: &mut [bool; VARIABLES])
     requires { AreSums sums.sorted.now sums.sieve.now }
     ensures kept { (v : ℕ) → IsMarked marks.old v → IsMarked marks.new v }
@@ -40,7 +41,7 @@ fn mark_each(sums: Sums<'_>, total: u64, literals: &[Literal], marks: &mut [bool
     }
 }
 
-/// Marks as `mark_each` does, at once if all literals begin at 0.
+/// Does what `mark_each` does for a block of literals; if all of them begin at 0, as they mostly do, by one test.
 fn mark_block(
     sums: Sums<'_>,
     total: u64,
@@ -51,14 +52,14 @@ fn mark_block(
     ensures kept { (v : ℕ) → IsMarked marks.old v → IsMarked marks.new v }
     ensures marked { (l : Literal) → Contains literals.now l → ¬ IsMarked marks.new l.variable → HasNoPartner sums.entry.sorted.now total l }
 {
-    // nothing comes before 0, so none of the block can be marked
+    // no range ends before 0, so none of the block is marked
     if begin_at_zero(literals) {
         return;
     }
     mark_each(sums, total, literals, marks);
 }
 
-/// Marks as `mark_each` does, for any number of literals.
+/// Does what `mark_each` does, block by block.
 fn mark(sums: Sums<'_>, total: u64, literals: &[Literal], marks: &mut [bool; VARIABLES])
     requires { AreSums sums.sorted.now sums.sieve.now }
     ensures kept { (v : ℕ) → IsMarked marks.old v → IsMarked marks.new v }
@@ -69,11 +70,12 @@ fn mark(sums: Sums<'_>, total: u64, literals: &[Literal], marks: &mut [bool; VAR
         mark_block(sums, total, block, marks);
         left = rest;
     }
-    // fewer than a block are left
+    // fewer literals than a block has are left
     mark_each(sums, total, left, marks);
 }
 
-/// The variables at which some column may follow one with a sum among these, marked by number.
+/// Returns at which variables some column may follow one whose total is among the sums, by number. `totals` are those
+/// of the columns.
 fn marks_by(sums: Sums<'_>, totals: &[u64], columns: &[&Column]) -> [bool; VARIABLES]
     requires sums { AreSums sums.sorted.now sums.sieve.now }
     requires totals { totals.now ≡ map total_of (map (λ b. b.now) columns.now) }
@@ -86,7 +88,7 @@ fn marks_by(sums: Sums<'_>, totals: &[u64], columns: &[&Column]) -> [bool; VARIA
     marks
 }
 
-/// The variables at which some column may follow another by the sums, marked by number.
+/// Returns at which variables some column may follow another one, judged by their totals, by number.
 fn marks_over(alloc: Global, columns: &[&Column]) -> Result<[bool; VARIABLES], OutOfMemory>
     ensures { IfOk result (λ marks. AreMarkedBy (map total_of (map (λ b. b.now) columns.now)) marks (map (λ b. b.now) columns.now)) }
 {
@@ -102,7 +104,8 @@ fn marks_over(alloc: Global, columns: &[&Column]) -> Result<[bool; VARIABLES], O
     Ok(marks_by(sums, totals.as_slice(), columns))
 }
 
-/// The variables at which some column may follow another, marked by number.
+/// Returns at which variables some column may follow another one, by number; false says that none does there. The one
+/// error is `OutOfMemory`.
 fn marks_of(
     alloc: Global,
     problem: &Problem,
@@ -113,13 +116,13 @@ fn marks_of(
 {
     // called for its contract: the graph is within its limits
     let _processes = problem.processes();
-    // this usually shows already that no two columns touch
-    let many = have_many_demands(alloc, columns)?;
-    if !many {
+    // usually no two columns of one time ask differently, so none touch
+    let differ = do_amounts_differ(alloc, columns)?;
+    if !differ {
         return Ok([false; VARIABLES]);
     }
     let candidates = candidates(alloc, columns)?;
-    // no two columns of one kind ask differently
+    // no two columns of one kind ask differently, so none touch
     if candidates.is_empty() {
         return Ok([false; VARIABLES]);
     }
@@ -127,16 +130,17 @@ fn marks_of(
     Ok(marks)
 }
 
-/// Columns, and the variables at which any two of them may touch.
+/// Columns, with marks of the variables at which two of them may touch.
 #[derive(Drop)]
 pub(crate) struct Marked {
+    /// The columns, and whether they are known to stand by their least scenarios.
     pub(crate) listing: Listing,
-    /// Whether each variable is one, by number.
+    /// For each variable by number, whether two columns may touch at it.
     pub(crate) marks: [bool; VARIABLES],
 }
 
 impl Marked {
-    /// The columns with their marks.
+    /// Returns the columns with their marks. The one error is `OutOfMemory`.
     pub(crate) fn of(
         alloc: Global,
         problem: &Problem,

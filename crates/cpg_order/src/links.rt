@@ -8,9 +8,10 @@ use cpg_base::{OutOfMemory, Problem};
 use std::alloc::Global;
 use std::marker::Model;
 
-/// Numbers of edges.
+/// A list of edge numbers.
 #[derive(Drop)]
 struct EdgeList {
+    /// The numbers, the lowest first.
     edges: Vec<u32>,
 }
 
@@ -23,7 +24,7 @@ impl Model for EdgeList {
 }
 
 impl EdgeList {
-    /// An empty list.
+    /// Returns an empty list.
     fn empty(alloc: Global) -> EdgeList
         ensures { result ≡ [] }
     {
@@ -40,7 +41,7 @@ impl EdgeList {
         Ok(())
     }
 
-    /// The edges, as a slice.
+    /// Returns the edges, as a slice.
     fn as_slice(&self) -> &[u32]
         ensures { result.now ≡ self.now }
     {
@@ -48,7 +49,7 @@ impl EdgeList {
     }
 }
 
-/// Empty lists, one for each of `count` processes.
+/// Returns an empty list for each of `count` processes.
 fn empty_lists(alloc: Global, count: usize) -> Result<Vec<EdgeList>, OutOfMemory>
     ensures { IfOk result (λ lists. lists.items ≡ map (λ _. []) (numbers_below count)) }
 {
@@ -60,10 +61,12 @@ fn empty_lists(alloc: Global, count: usize) -> Result<Vec<EdgeList>, OutOfMemory
     Ok(lists)
 }
 
-/// The inputs and outputs of each process, seen as both lists of lists of edge numbers.
+/// The inputs and outputs of each process, seen as the number of processes and two lists of lists of edge numbers.
 #[derive(Drop)]
 pub struct Links {
+    /// By process, the edges that lead to it, the lowest first.
     inputs: Vec<EdgeList>,
+    /// By process, the edges that lead away from it, the lowest first.
     outputs: Vec<EdgeList>,
 }
 
@@ -75,37 +78,42 @@ impl Model for Links {
 
     ghost view = { λ l. record { count = length l.inputs.items; inputs = l.inputs.items; outputs = l.outputs.items } };
 
+    // both have a list for each process
     ghost invariant = { λ l. length l.outputs.items ≡ length l.inputs.items };
 }
 
 impl Links {
-    /// The links of a graph.
+    /// Returns the links of a graph.
     pub fn of(alloc: Global, problem: &Problem) -> Result<Links, OutOfMemory>
         ensures { IfOk result (λ links. links ≡ links_of problem.now) }
     {
         let count = problem.processes().len();
         let mut inputs = empty_lists(alloc, count)?;
         let mut outputs = empty_lists(alloc, count)?;
-        for (e, edge) in problem.edges().iter().enumerate() {
-            inputs[edge.to as usize].push(e as u32)?;
-            outputs[edge.from as usize].push(e as u32)?;
+        // edges are met by number, so each list rises
+        for (number, edge) in problem.edges().iter().enumerate() {
+            // the number fits, since there are at most 256 edges
+            inputs[edge.to as usize].push(number as u32)?;
+            outputs[edge.from as usize].push(number as u32)?;
         }
         Ok(Links { inputs, outputs })
     }
 
-    /// The numbers of the edges that lead to a process, the lowest first.
+    /// Returns the numbers of the edges that lead to a process, the lowest first.
     pub fn inputs(&self, process: u32) -> &[u32]
         requires { process < self.now.count }
         ensures inputs { result.now ≡ get_or self.now.inputs process [] }
+        // of the links of a graph these are the inputs of its process
         ensures of_graph { (g : Graph) → self.now ≡ links_of g → result.now ≡ inputs g process }
     {
         self.inputs[process as usize].as_slice()
     }
 
-    /// The numbers of the edges that lead away from a process, the lowest first.
+    /// Returns the numbers of the edges that lead away from a process, the lowest first.
     pub fn outputs(&self, process: u32) -> &[u32]
         requires { process < self.now.count }
         ensures outputs { result.now ≡ get_or self.now.outputs process [] }
+        // of the links of a graph these are the outputs of its process
         ensures of_graph { (g : Graph) → self.now ≡ links_of g → result.now ≡ outputs g process }
     {
         self.outputs[process as usize].as_slice()

@@ -1,4 +1,4 @@
-//! Counting views, outcome by outcome.
+//! Counting the views of a set of variables, outcome by outcome.
 ghost use Rattle.std.specs.Prelude.{◌≡◌, ◌<◌, ◌≤◌, All, IfOk, length, min, sum_by};
 ghost use Rattle.cpg_base.specs.Graph.{process_count, condition_count};
 ghost use Rattle.cpg_order.specs.Urgency.{IsTopological};
@@ -13,18 +13,18 @@ use cpg_base::{Order, OutOfMemory, Problem, Scenario};
 use cpg_rules::Admitted;
 use std::alloc::Global;
 
-/// What counting the views of any set of variables needs.
+/// What is needed to count the views of any set of variables.
 #[derive(Drop)]
 pub struct Counter {
-    /// For each number of free counts, its ways.
+    /// For each number of fault counts, in how many ways they add up to at most k.
     ways: WaysTable,
-    /// The conditions by the order of their processes.
+    /// The conditions, in the order of their processes.
     conditions: Vec<u32>,
-    /// A scenario in which every value is false.
+    /// A scenario in which every value is false; values are set in it and reset while views are counted.
     scenario: Scenario,
 }
 
-/// The conditions by the order of their processes.
+/// Returns the conditions, in the order of their processes.
 fn conditions_along(
     alloc: Global,
     problem: &Problem,
@@ -79,7 +79,7 @@ fn is_value_free(
     guards.active(process, scenario)
 }
 
-/// How many processes may have faults.
+/// Returns how many processes may have faults with the values of the scenario (`is_count_free`).
 fn free_counts(admitted: &Admitted, reached: &Variables, scenario: &Scenario) -> usize
     requires { length scenario.now.values ≡ condition_count admitted.now.graph }
     ensures counts { result ≡ free_counts admitted.now.graph reached.now scenario.now.values }
@@ -95,7 +95,7 @@ fn free_counts(admitted: &Admitted, reached: &Variables, scenario: &Scenario) ->
     counts
 }
 
-/// How many views an outcome has. Without faults it has one: itself.
+/// Returns how many views an outcome has: the ways in which the counts that are free add up to at most k.
 fn views_of_outcome(
     admitted: &Admitted,
     ways: &[u64],
@@ -106,14 +106,15 @@ fn views_of_outcome(
     requires values { length scenario.now.values ≡ condition_count admitted.now.graph }
     ensures { result ≡ views_of_outcome admitted.now.graph reached.now scenario.now.values }
 {
+    // no count may be above 0, so the outcome itself is the only view
     if admitted.problem().faults() == 0 {
         return 1;
     }
     ways[free_counts(admitted, reached, scenario)]
 }
 
-/// How many views there are with the values so far, if these conditions are still to be chosen; `most` if there are
-/// more.
+/// Returns how many views there are with the values set so far, if the values of `conditions` are still to be chosen;
+/// `most` if there are more. The scenario is as before in the end.
 fn views_from(
     admitted: &Admitted,
     ways: &[u64],
@@ -132,22 +133,24 @@ fn views_from(
     let Some((condition, left)) = conditions.split_first() else {
         return views_of_outcome(admitted, ways, reached, scenario).min(most);
     };
-    let first = views_from(admitted, ways, reached, left, scenario, most);
-    if first == most {
-        return first;
+    let as_set = views_from(admitted, ways, reached, left, scenario, most);
+    // the most that is returned is reached, so the rest doesn't matter
+    if as_set == most {
+        return as_set;
     }
+    // the value can't be true, so there are no views with it
     if !is_value_free(admitted, reached, *condition, scenario) {
-        return first;
+        return as_set;
     }
     let was = scenario.value(*condition);
     scenario.set_value(*condition, true);
-    let second = views_from(admitted, ways, reached, left, scenario, most - first);
+    let with_true = views_from(admitted, ways, reached, left, scenario, most - as_set);
     scenario.set_value(*condition, was);
-    first + second
+    as_set + with_true
 }
 
 impl Counter {
-    /// What counting needs along an order.
+    /// Returns a counter of views under the order. The one error is `OutOfMemory`.
     pub fn of(alloc: Global, problem: &Problem, order: &Order) -> Result<Counter, OutOfMemory>
         requires { length order.now ≡ process_count problem.now }
         ensures { IfOk result (IsCounterFor problem.now order.now) }
@@ -159,7 +162,7 @@ impl Counter {
         })
     }
 
-    /// How many ways a set of variables has; `most` if there are more. The contract alone names `order`.
+    /// Returns how many views a set of variables has; `most` if there are more. The contract alone names `order`.
     pub fn views(
         &mut self,
         admitted: &Admitted,

@@ -1,4 +1,4 @@
-//! The places that scenarios of a space come to.
+//! Walks down a tree of places that gather the places that scenarios of a space come to.
 ghost use Rattle.std.specs.Prelude.{◌≡◌, ℕ, Option, Contains, IfOk};
 ghost use Rattle.std.specs.Bool.{OnTrue};
 ghost use Rattle.cpg_base.specs.Scenario.{Scenario};
@@ -12,7 +12,7 @@ use crate::walk::Test;
 use cpg_base::OutOfMemory;
 use cpg_tree::{Space, Top, TreeItem, part_in, top_of};
 
-/// Adds a place, if there is one, and says whether there is.
+/// Adds a place to those found, if there is one, and returns whether there is.
 fn add_place(place: Option<u32>, found: &mut Vec<u32>) -> Result<bool, OutOfMemory>
     ensures kept { IfOk result (λ _. (i : ℕ) → Contains found.old.items i → Contains found.new.items i) }
     ensures found { IfOk result (λ there. OnTrue there (IsAmong found.new.items place)) }
@@ -25,8 +25,8 @@ fn add_place(place: Option<u32>, found: &mut Vec<u32>) -> Result<bool, OutOfMemo
     Ok(true)
 }
 
-/// Adds the places that scenarios of a space come to. It stops with false as soon as there is none or a test fails, the
-/// place where it fails left out. The space is changed on the way, and is as before if all passed.
+/// Adds the places that scenarios of a space come to. It stops with false at the first leaf without a place or at which a
+/// test fails. The space is narrowed on the way, and is as before on true.
 fn gather_each<J: Test>(
     items: &[TreeItem<Option<u32>>],
     space: &mut Space,
@@ -65,19 +65,19 @@ fn gather_each<J: Test>(
                 let all = gather_each(below, space, test, found)?;
                 return Ok(all);
             }
-            // both sides are open: the space is made narrower for each of them, and then as before
-            let most = space.close_above(variable, cut);
-            let low = gather_each(below, space, test, found)?;
-            if !low {
+            // both sides are open: the space is narrowed to each of them in turn, and reopened after it
+            let old_high = space.close_above(variable, cut);
+            let all_below = gather_each(below, space, test, found)?;
+            if !all_below {
                 return Ok(false);
             }
-            space.reopen_above(variable, most);
-            let was = space.close_below(variable, cut);
-            let high = gather_each(above, space, test, found)?;
-            if !high {
+            space.reopen_above(variable, old_high);
+            let old_low = space.close_below(variable, cut);
+            let all_above = gather_each(above, space, test, found)?;
+            if !all_above {
                 return Ok(false);
             }
-            space.reopen_below(variable, was);
+            space.reopen_below(variable, old_low);
             Ok(true)
         }
     }
@@ -102,7 +102,7 @@ fn gather_in_all<J: Test>(
     Ok(all)
 }
 
-/// Adds a place that scenarios of a space come to, if there is one and a test passes there, and says whether it did.
+/// Adds a place that scenarios of a space come to, if there is one and a test passes there, and returns whether it did.
 fn gather_one<J: Test>(
     place: Option<u32>,
     space: &Space,
@@ -120,7 +120,8 @@ fn gather_one<J: Test>(
     Ok(there)
 }
 
-/// Adds the places that scenarios of a space come to. It stops with false as soon as there is none or a test fails.
+/// Adds the places that scenarios of a space come to. It stops with false at the first leaf without a place or at which a
+/// test fails. The space isn't copied if all scenarios come to one leaf.
 pub(crate) fn gather<J: Test>(
     items: &[TreeItem<Option<u32>>],
     space: &Space,
@@ -133,7 +134,7 @@ pub(crate) fn gather<J: Test>(
     ensures found { IfOk result (λ all. OnTrue all ((n : TreeNode (Option ℕ)) → items.now ≡ flat n → (s : Scenario) → IsInSpace space.now s →
         J.guarantees test.now (value_at n s) s × IsAmong found.new.items (value_at n s))) }
 {
-    // mostly it comes to one place, and then the space isn't copied
+    // mostly all scenarios come to one leaf, and then the space isn't copied
     let part = part_in(items, space);
     match top_of(part) {
         Top::Value(place) => {

@@ -1,5 +1,6 @@
-//! The tree of the places of cubes that a list read off that tree from below: each cube says all that leads to its leaf, and
-//! the next cube is what is next in the tree. So no cube is looked for, and each is compared once with one before it.
+//! The tree of the places of cubes that were read off it, from the lowest leaf up: each cube says all that leads to its
+//! leaf, and the next cube is that of the next leaf. So no cube is looked for, and each is compared once with one before
+//! it.
 ghost use Rattle.std.specs.Prelude.{◌≡◌, ◌≤◌, ◌<◌, [], IfOk, IfSome, length, map, true, take};
 ghost use Rattle.std.specs.Bool.{OnTrue};
 ghost use Rattle.cpg_base.specs.Scenario.{Scenario};
@@ -17,50 +18,53 @@ use cpg_cube::{Cube, Literal};
 use cpg_tree::{Space, fork_of};
 use std::alloc::Global;
 
-/// Where a cube parts a space, and how many of its literals stand before the one that says so.
+/// Where a cube parts a space.
 #[derive(Clone, Copy)]
 struct ListedPart {
+    /// The cut.
     cut: PlaceCut,
+    /// How many literals of the cube come before the one on the cut's variable.
     depth: usize,
 }
 
-/// What a literal is in a space.
+/// What a literal of the first cube of a space says there.
 #[derive(Clone, Copy)]
 enum ListedStep {
-    /// It says no less than the space does of its variable, and no more.
+    /// No less than the space of its variable, and no more.
     Known,
-    /// It leaves the numbers above a cut to other cubes.
+    /// That the numbers above a cut are left to other cubes.
     Parts(PlaceCut),
-    /// The cubes don't stand as a tree lists them.
+    /// That the cubes don't stand as a tree lists them.
     Unknown,
 }
 
-/// What stands at the top of the tree from a cube on.
+/// What stands at the top of the tree of a space whose first cube is given.
 #[derive(Clone, Copy)]
 enum ListedTop {
     /// The cube's own leaf.
     Own,
+    /// A fork.
     Fork(ListedPart),
-    /// The cubes don't stand as a tree lists them.
+    /// It isn't found: the cubes don't stand as a tree lists them.
     Unknown,
 }
 
-/// What a literal is in a space.
+/// Returns what a literal of the first cube of a space says there.
 fn step_of(space: &Space, literal: Literal) -> ListedStep
     ensures { IsListedStep space.now literal result }
 {
-    // a tree goes down from below, so the first cube of a space begins at its least number
+    // a list begins with the lowest leaf, so the first cube of a space begins at its least numbers
     if literal.low != space.low[literal.variable as usize] {
         return ListedStep::Unknown;
     }
-    // the literal leaves out no number of the space: it says what the space does, or goes beyond it
+    // the literal leaves out no number of the space: it says what the space does, or goes beyond the range
     if !space.is_open_above(literal.variable, literal.high) {
         if literal.high <= space.high[literal.variable as usize] {
             return ListedStep::Known;
         }
         return ListedStep::Unknown;
     }
-    // no scenario of the space has so few faults: such a cube is in no tree
+    // all numbers of the space are above the literal: such a cube is in no tree
     if !space.is_open_below(literal.variable, literal.high) {
         return ListedStep::Unknown;
     }
@@ -70,14 +74,14 @@ fn step_of(space: &Space, literal: Literal) -> ListedStep
     })
 }
 
-/// The top of the tree from a cube on, if the first literals, up to a depth, say who is in the space. The contract alone
-/// names `k`.
+/// Returns the top of the tree of a space whose first cube has these literals, if the first `depth` of them say which
+/// scenarios are in the space. The contract alone needs `k`.
 fn top_behind(k: u8, space: &Space, literals: &[Literal], depth: usize) -> ListedTop
     requires own { IsOwn k space.now (take depth literals.now) }
     requires depth { depth ≤ length literals.now }
     ensures { IsListedTop k space.now literals.now result }
 {
-    // the first literal that says less than the space parts it
+    // the first literal that leaves numbers to other cubes parts the space
     for at in depth..literals.len() {
         match step_of(space, literals[at]) {
             ListedStep::Known => {}
@@ -88,11 +92,11 @@ fn top_behind(k: u8, space: &Space, literals: &[Literal], depth: usize) -> Liste
     ListedTop::Own
 }
 
-/// The top of the tree from a cube on, if the first literals, up to a depth, and the range of a variable say who is in the
-/// space, and if the literal behind these is on that variable.
+/// Returns the top of the tree of a space that is a side of a fork and whose first cube has these literals, if those
+/// before the fork's variable, and the space's range of that, say which scenarios are in the space.
 #[inline(always)]
 fn top_on(k: u8, space: &Space, literals: &[Literal], part: ListedPart) -> ListedTop
-    // the first literals of the cube and the range of the part's variable say who is in the space
+    // the first literals of the cube and the range of the part's variable say which scenarios are in the space
     requires { IsOwnOn k space.now (take part.depth literals.now) part.cut.variable }
     ensures { IsListedTop k space.now literals.now result }
 {
@@ -114,7 +118,7 @@ fn top_on(k: u8, space: &Space, literals: &[Literal], part: ListedPart) -> Liste
     }
 }
 
-/// Whether a literal stands at a depth, on the variable of a cut and above it.
+/// Whether the literal behind the first `part.depth` is on the variable of a cut and above it.
 #[inline(always)]
 fn is_above(literals: &[Literal], part: ListedPart) -> bool
     ensures { OnTrue result (part.depth < length literals.now) }
@@ -125,7 +129,7 @@ fn is_above(literals: &[Literal], part: ListedPart) -> bool
     }
 }
 
-/// Whether a cube is above a cut, and says before it what another does.
+/// Whether a cube is above a cut, and its literals before that are those of another cube.
 #[inline(always)]
 fn is_next(literals: &[Literal], others: &[Literal], part: ListedPart) -> bool
     ensures { OnTrue result (take part.depth literals.now ≡ take part.depth others.now) }
@@ -141,7 +145,7 @@ fn is_next(literals: &[Literal], others: &[Literal], part: ListedPart) -> bool
     are_same_literals(&literals[..part.depth], &others[..part.depth])
 }
 
-/// The literals of the cube at a place, if it is above a cut, and says before it what the one at another place does.
+/// Whether there is a cube at `place`, it is above a cut, and its literals before that are those of the cube at `from`.
 #[inline(always)]
 fn next_above(cubes: &[&Cube], from: u32, place: u32, part: ListedPart) -> bool
     ensures { OnTrue result (IsNextCube (map (λ b. b.now) cubes.now) from place part.depth) }
@@ -150,13 +154,15 @@ fn next_above(cubes: &[&Cube], from: u32, place: u32, part: ListedPart) -> bool
     let Some(cube) = cubes.get(place as usize) else {
         return false;
     };
+    // the fork was found by this cube, so it is there; no clause says so
     let Some(other) = cubes.get(from as usize) else {
         return false;
     };
     is_next(cube.literals(), other.literals(), part)
 }
 
-/// How long the lists of a space are, which is known where they are read.
+/// Called for its contract alone, not for what it returns: how long the lists of a space are, which is known where they are
+/// read.
 fn see_lists(space: &Space, variable: u8) -> bool
     ensures lows { length space.now.low ≡ 256 }
     ensures highs { length space.now.high ≡ 256 }
@@ -164,8 +170,9 @@ fn see_lists(space: &Space, variable: u8) -> bool
     space.low[variable as usize] <= space.high[variable as usize]
 }
 
-/// Adds the tree of what is above a cut, from the cube at a place on: a leaf without a cube unless that is above the cut, too,
-/// and says before it what the first cube below does. The answer and the rest are those of `build_listed`.
+/// Adds the tree of the side above a fork, from the cube at `place` on: a leaf without a cube, unless that cube is above
+/// the cut and has the same literals before it as the cube at `from`, the first of the fork. The rest is as for
+/// `build_listed`.
 #[cycle(build_listed)]
 #[inline(always)]
 fn build_listed_above(
@@ -178,7 +185,7 @@ fn build_listed_above(
     growth: &mut TreeGrowth,
 ) -> Result<Option<u32>, OutOfMemory>
     requires ranges { AreRangesAll k space.old }
-    // the first literals of the cube and the range of the part's variable say who is in the space
+    // the first literals of the cube and the range of the part's variable say which scenarios are in the space
     requires own { IsOwnOn k space.old (take part.depth (cube_at (map (λ b. b.now) cubes.now) from)) part.cut.variable }
     // if a place is answered, the tree of the cubes from `place` up to it has been added
     ensures added { IfOk result (λ r. IfSome r (λ to. AddsSliceTree (map (λ b. b.now) cubes.now) k space.old place to growth.old growth.new)) }
@@ -188,7 +195,7 @@ fn build_listed_above(
     if next_above(cubes, from, place, part) {
         return build_listed(k, space, cubes, place, part, growth);
     }
-    // else no cube is on the upper side: it is a leaf without a place
+    // no cube is on the upper side: it is a leaf without a place, if there may be one more item
     if !growth.may_grow() {
         return Ok(None);
     }
@@ -196,7 +203,7 @@ fn build_listed_above(
     Ok(Some(place))
 }
 
-/// Adds the tree that a fork parts, from the cube at a place on. The answer and the rest are those of `build_listed`.
+/// Adds the tree of a fork, from the cube at a place on. The rest is as for `build_listed`.
 #[cycle(build_listed)]
 #[inline(never)]
 fn build_listed_fork(
@@ -209,39 +216,38 @@ fn build_listed_fork(
 ) -> Result<Option<u32>, OutOfMemory>
     requires open { IsOpenCut space.old part.cut.variable part.cut.most }
     requires ranges { AreRangesAll k space.old }
-    // the first literals of the cube and the range of the part's variable say who is in the space
+    // the first literals of the cube and the range of the part's variable say which scenarios are in the space
     requires own { IsOwnOn k space.old (take part.depth (cube_at (map (λ b. b.now) cubes.now) place)) part.cut.variable }
     // if a place is answered, the tree of the cubes from `place` up to it has been added
     ensures added { IfOk result (λ r. IfSome r (λ to. AddsSliceTree (map (λ b. b.now) cubes.now) k space.old place to growth.old growth.new)) }
     ensures same { IfOk result (λ r. IfSome r (λ to. space.new ≡ space.old)) }
 {
     let cut = part.cut;
-    // how long the lists of the space are
+    // called for its contract: how long the lists of the space are
     let _is_seen = see_lists(space, cut.variable);
     let start = growth.items.len();
-    let most = space.close_above(cut.variable, cut.most);
+    let old_high = space.close_above(cut.variable, cut.most);
     // the lower side first: its cubes stand before those of the upper side
     let below = build_listed(k, space, cubes, place, part, growth)?;
     let Some(border) = below else {
         return Ok(None);
     };
-    space.reopen_above(cut.variable, most);
+    space.reopen_above(cut.variable, old_high);
     let middle = growth.items.len();
-    let was = space.close_below(cut.variable, cut.most);
+    let old_low = space.close_below(cut.variable, cut.most);
     let above = build_listed_above(k, space, cubes, place, border, part, growth)?;
     let Some(to) = above else {
         return Ok(None);
     };
-    space.reopen_below(cut.variable, was);
-    // both sides stand behind each other, and the fork goes before them
+    space.reopen_below(cut.variable, old_low);
+    // the lists of both sides stand one behind the other, and the fork comes behind them
     fork_of(&mut growth.items, start, middle, cut.variable, cut.most)?;
     Ok(Some(to))
 }
 
-/// Adds the tree for the scenarios of a space from the cube at a place on, unless there would be too many items, and answers
-/// the place behind its last cube; none if there is no tree: then the cubes don't stand as a tree lists them, or there would
-/// be more items. The cube's first literals and the range of a part's variable say who is in the space, which is as before if there
-/// is a tree.
+/// Adds the tree for the scenarios of a space, whose first cube is at a place, and returns the place behind its last
+/// cube; the space is as before then. `None` if the cubes don't stand as a tree lists them, or if there would be too many
+/// items: then nothing is said of the list and the space.
 #[cycle(build_listed)]
 #[inline(always)]
 fn build_listed(
@@ -253,7 +259,7 @@ fn build_listed(
     growth: &mut TreeGrowth,
 ) -> Result<Option<u32>, OutOfMemory>
     requires ranges { AreRangesAll k space.old }
-    // the first literals of the cube and the range of the part's variable say who is in the space
+    // the first literals of the cube and the range of the part's variable say which scenarios are in the space
     requires own { IsOwnOn k space.old (take part.depth (cube_at (map (λ b. b.now) cubes.now) place)) part.cut.variable }
     // if a place is answered, the tree of the cubes from `place` up to it has been added
     ensures added { IfOk result (λ r. IfSome r (λ to. AddsSliceTree (map (λ b. b.now) cubes.now) k space.old place to growth.old growth.new)) }
@@ -263,6 +269,7 @@ fn build_listed(
     if !growth.may_grow() {
         return Ok(None);
     }
+    // no cube is left, but the tree isn't complete
     let Some(cube) = cubes.get(place as usize) else {
         return Ok(None);
     };
@@ -278,7 +285,7 @@ fn build_listed(
     }
 }
 
-/// Adds the tree of all cubes for all scenarios of at most `k` faults; whether there is one.
+/// Adds the tree of all cubes for all scenarios of at most `k` faults, and returns whether there is one.
 fn build_all_listed(
     k: u8,
     space: &mut Space,
@@ -287,7 +294,7 @@ fn build_all_listed(
 ) -> Result<bool, OutOfMemory>
     requires ranges { AreRangesAll k space.old }
     requires own { IsOwn k space.old [] }
-    // if the answer is yes, the tree of these cubes has been added, for all scenarios of the space
+    // on true, the tree of these cubes has been added, for all scenarios of the space
     ensures { IfOk result (λ is. OnTrue is (AddsSliceTree (map (λ b. b.now) cubes.now) k space.old 0 (length cubes.now) growth.old growth.new)) }
 {
     // without cubes there is no fork to begin with
@@ -312,7 +319,7 @@ fn build_all_listed(
     Ok(true)
 }
 
-/// Whether a cube has a literal on a value.
+/// Whether a cube has a literal on a condition's value: values come last.
 fn has_value(cube: &Cube) -> bool {
     match cube.literals().last() {
         Some(last) => last.variable >= FIRST_VALUE,
@@ -320,9 +327,9 @@ fn has_value(cube: &Cube) -> bool {
     }
 }
 
-/// The tree of the places of cubes that were read off it, in the scenarios of at most `k` faults and with at most this many
-/// items; `None` if they weren't, or if there would be more items, or if there is but one cube, or if the first has a literal
-/// on a value: most trees have values at the top, and cubes have them last.
+/// Returns the tree of the places of cubes that were read off it, for all scenarios of at most `k` faults. `None` if they
+/// weren't, if it would have more than `items` items, if there is at most one cube, or if the first one has a literal on a
+/// value: most trees test values first, but cubes have them last.
 pub(crate) fn listed_tree(
     alloc: Global,
     k: u8,
@@ -333,6 +340,7 @@ pub(crate) fn listed_tree(
     // a tree has for each scenario of at most k faults the place of the one cube that it matches, or none
     ensures { IfOk result (λ r. IfSome r (λ t. (s : Scenario) → HasAtMostFaults k s → IsPlaceOfMatch (map (λ b. b.now) cubes.now) (place_at t s) s)) }
 {
+    // these are left to the other ways to build a tree
     let Some(first) = cubes.first() else {
         return Ok(None);
     };

@@ -1,4 +1,4 @@
-//! The tree of the places of cubes of which no scenario matches two.
+//! The tree of the places of cubes, in any order: it leads each scenario to the place of the one cube that it matches.
 ghost use Rattle.std.specs.Prelude.{◌≡◌, ◌++◌, ◌≤◌, ◌<◌, ℕ, [], Contains, IfOk, IfSome, None, OnOk, false, length, map, true};
 ghost use Rattle.std.specs.Bool.{OnFalse, OnTrue};
 ghost use Rattle.cpg_base.specs.Scenario.{Scenario, number_of};
@@ -19,24 +19,25 @@ use cpg_tree::{Space, Tally, TreeItem, fork_of};
 use std::alloc::Global;
 use std::marker::Model;
 
-/// A tree has at most this many items for each cube, and `FEW` besides.
-const EACH: u32 = 6;
-/// How many items a tree of few cubes may have.
-const FEW: u32 = 64;
-/// The number for each cube if a cube that goes to both sides of a fork counts as an item, too.
-const EACH_SHARED: u32 = 8;
-/// The number that is added to `EACH_SHARED` for each cube.
-const FEW_SHARED: u32 = 104;
-/// Room is made at once for at most this many of the places that go to a side of a fork. Most often that is all of them.
+/// A tree may have `ITEMS_EACH` items for each cube, and `ITEMS_BESIDES` more, if the cubes stand as it lists them.
+const ITEMS_EACH: u32 = 6;
+
+const ITEMS_BESIDES: u32 = 64;
+/// A tree of cubes in any order may cost `COST_EACH` for each cube, and `COST_BESIDES` more: 1 for each item, and 1 for each
+/// place that a fork leaves on both its sides.
+const COST_EACH: u32 = 8;
+
+const COST_BESIDES: u32 = 104;
+/// For at most this many places room is made at once on each side of a fork. Most often that is room for all of them.
 const AT_ONCE: usize = 32;
 
-/// A place, with what is known of its cube in the space where it stands: hints, that no clause speaks of.
+/// The place of a cube in a list, with what is known of the cube in the space of a fork's side: hints, on which no proof relies.
 #[derive(Clone, Copy)]
 struct PlaceHint {
     place: u32,
-    /// At least this many of the first literals hold in the whole space.
+    /// At least this many of the cube's first literals hold in the whole space.
     held: u16,
-    /// How many faults are left beyond those that the cube asks for.
+    /// How many faults the space leaves beyond those that the cube asks for.
     spare: u8,
 }
 
@@ -44,10 +45,11 @@ struct PlaceHint {
 #[derive(Clone, Copy)]
 pub(crate) struct PlaceCut {
     pub(crate) variable: u8,
+    /// The greatest number that goes below the fork.
     pub(crate) most: u8,
 }
 
-/// A cut, with the numbers of its variable that a space leaves on both sides.
+/// A cut, with the least and the greatest number of its variable in a space.
 #[derive(Clone, Copy)]
 struct CutSpan {
     cut: PlaceCut,
@@ -55,44 +57,46 @@ struct CutSpan {
     /// The least number above the cut.
     next: u8,
     greatest: u8,
-    /// How many faults a scenario above the cut has on the variable, at least.
+    /// How many faults a scenario above the cut has at least by the variable: `next` for a count, and none for a value.
     faults: u8,
 }
 
-/// The range that literals have of a variable: no number below `low`, and none above `high` but where that is the last of all.
+/// The range that literals leave a variable; `high` is 255 if there is no bound.
 #[derive(Clone, Copy)]
 struct VariableRange {
     low: u8,
     high: u8,
-    /// Whether the first literal says it that isn't known to hold in the whole space.
+    /// Whether it comes from the first literal that isn't known to hold in the whole space.
     is_first: bool,
 }
 
-/// What stands at the top of the tree of some places.
+/// What stands at the top of the tree of some places for the scenarios of a space.
 #[derive(Clone, Copy)]
 enum PlacesTop {
+    /// All scenarios of the space come to this place, or to none.
     Leaf(Option<u32>),
     Fork(PlaceCut),
-    /// Two cubes may match together.
+    /// It isn't found: two cubes may match together.
     Unknown,
 }
 
-/// The places that go to each side of a fork.
+/// The places that go below a fork (`low`) and above it (`high`).
 #[derive(Drop)]
 struct PlaceSides {
     low: Vec<PlaceHint>,
     high: Vec<PlaceHint>,
 }
 
-/// A list to which the items of trees are added, and how many more there may be.
+/// A list to which the items of a tree are added, and how much the tree may still cost.
 #[derive(Drop)]
 pub(crate) struct TreeGrowth {
     pub(crate) items: Vec<TreeItem<Option<u32>>>,
+    /// How many more items there may be; other costs are taken from this too.
     pub(crate) left: u32,
 }
 
 impl TreeGrowth {
-    /// A list without items, with memory for the tree of this many places, each at one leaf.
+    /// Returns a list without items, to which `left` may be added, with memory for a tree that has each place at one leaf.
     pub(crate) fn new(alloc: Global, places: usize, left: u32) -> Result<TreeGrowth, OutOfMemory>
         ensures items { IfOk result (λ r. r.items.items ≡ []) }
         ensures left { IfOk result (λ r. r.left ≡ left) }
@@ -101,7 +105,7 @@ impl TreeGrowth {
         Ok(TreeGrowth { items, left })
     }
 
-    /// Whether there may be one more item, which is counted.
+    /// Whether there may be one more item, which is then counted as there.
     pub(crate) fn may_grow(&mut self) -> bool
         ensures items { self.new.items.items ≡ self.old.items.items }
         ensures left { OnTrue result (self.new.left < self.old.left) }
@@ -113,7 +117,7 @@ impl TreeGrowth {
         true
     }
 
-    /// Adds a leaf.
+    /// Adds a leaf with a place, or with none.
     pub(crate) fn add_leaf(&mut self, place: Option<u32>) -> Result<(), OutOfMemory>
         ensures items { IfOk result (λ _. self.new.items.items ≡ self.old.items.items ++ flat (Leaf place)) }
         ensures left { self.new.left ≡ self.old.left }
@@ -123,7 +127,7 @@ impl TreeGrowth {
     }
 }
 
-/// The literal on a variable, if there is one from a place on.
+/// Returns the literal on a variable at the place `from` or later, or `None`. Variables rise, so the search ends at a greater one.
 pub(crate) fn literal_from(literals: &[Literal], from: usize, variable: u8) -> Option<Literal>
     ensures { IfSome result (IsImpliedBy literals.now) }
 {
@@ -138,7 +142,7 @@ pub(crate) fn literal_from(literals: &[Literal], from: usize, variable: u8) -> O
     None
 }
 
-/// The literal on a variable, if there is one before a place.
+/// Returns the literal on a variable before the place `end`, or `None`. Variables rise, so the search ends at a lesser one.
 pub(crate) fn literal_up_to(literals: &[Literal], end: usize, variable: u8) -> Option<Literal>
     ensures { IfSome result (IsImpliedBy literals.now) }
 {
@@ -155,7 +159,7 @@ pub(crate) fn literal_up_to(literals: &[Literal], end: usize, variable: u8) -> O
     None
 }
 
-/// The literal on a variable, if there is one from a place on or if it is on a value: these are the last.
+/// Returns the literal on a variable: on a count from the place `from` on, or on a value, as values are last. Else `None`.
 fn literal_on(literals: &[Literal], from: usize, variable: u8) -> Option<Literal>
     ensures { IfSome result (IsImpliedBy literals.now) }
 {
@@ -166,7 +170,7 @@ fn literal_on(literals: &[Literal], from: usize, variable: u8) -> Option<Literal
     }
 }
 
-/// The first value from the last on that literals leave open, if there is one.
+/// Returns the last literal on a value that isn't known to hold in the whole space; `None` if there is none. Values come last.
 pub(crate) fn open_value(space: &Space, literals: &[Literal]) -> Option<Literal> {
     for later in 0..literals.len() {
         let literal = literals[literals.len() - 1 - later];
@@ -180,7 +184,7 @@ pub(crate) fn open_value(space: &Space, literals: &[Literal]) -> Option<Literal>
     None
 }
 
-/// How many of the first literals hold in the whole space, up to the first that doesn't. The first `held` are known to.
+/// Returns how many literals hold in the whole space before the first that doesn't. The first `held` are known to hold.
 fn held_on(space: &Space, literals: &[Literal], held: usize) -> usize {
     for at in held..literals.len() {
         if !space.implies(&literals[at]) {
@@ -190,7 +194,7 @@ fn held_on(space: &Space, literals: &[Literal], held: usize) -> usize {
     literals.len()
 }
 
-/// A literal that doesn't hold in the whole space, a value if there is one, or else the first.
+/// Returns a literal that doesn't hold in the whole space, on a value if there is one, or else the first; `None` if all hold.
 fn open_literal(space: &Space, literals: &[Literal], held: u16) -> Option<Literal> {
     let value = open_value(space, literals);
     if value.is_some() {
@@ -201,7 +205,7 @@ fn open_literal(space: &Space, literals: &[Literal], held: u16) -> Option<Litera
         .copied()
 }
 
-/// The literal at a place, if it is on this variable.
+/// Returns the literal at a place; `None` exactly if there is none, or it is on another variable.
 fn literal_at(literals: &[Literal], place: usize, variable: u8) -> Option<Literal>
     ensures implied { IfSome result (IsImpliedBy literals.now) }
     ensures on { IfSome result (λ l. l.variable ≡ variable) }
@@ -215,7 +219,7 @@ fn literal_at(literals: &[Literal], place: usize, variable: u8) -> Option<Litera
     Some(literals[place])
 }
 
-/// The range that a literal has of its variable.
+/// Returns the range that a literal leaves its variable.
 fn literal_range(literal: Literal, is_first: bool) -> VariableRange
     ensures { result ≡ record { low = literal.low; high = literal.high; is_first = is_first } }
 {
@@ -226,11 +230,10 @@ fn literal_range(literal: Literal, is_first: bool) -> VariableRange
     }
 }
 
-/// The range that literals have of a variable, but for the first `held`, which hold in the whole space.
+/// Returns the range that literals leave a variable. The first `held` aren't looked at, since they hold in the whole space.
 fn variable_range(literals: &[Literal], held: usize, variable: u8) -> VariableRange
     ensures { IsVariableRange literals.now variable result }
 {
-    // mostly the first of them
     if let Some(first) = literal_at(literals, held, variable) {
         return literal_range(first, true);
     }
@@ -246,8 +249,7 @@ fn variable_range(literals: &[Literal], held: usize, variable: u8) -> VariableRa
     }
 }
 
-/// How many of the first literals are known to hold in the whole space. The first `held` are. More are counted if a
-/// literal before a variable is next, so that the way to that is short.
+/// Returns how many first literals are known to hold in the whole space: `held`, or more if the next is before `variable`.
 fn held_at(space: &Space, literals: &[Literal], held: u16, variable: u8) -> u16 {
     match literals.get(held as usize) {
         Some(literal) if literal.variable < variable && variable < FIRST_VALUE => {
@@ -257,8 +259,7 @@ fn held_at(space: &Space, literals: &[Literal], held: u16, variable: u8) -> u16 
     }
 }
 
-/// How many of the first literals hold if a variable is in this range. The first `held` are known to hold in the
-/// whole space.
+/// Returns how many first literals hold if a variable is from `least` to `greatest`: `held`, and the next if `range` is its own.
 fn held_with(held: u16, range: VariableRange, least: u8, greatest: u8) -> u16 {
     if range.is_first && range.low <= least && greatest <= range.high {
         held.saturating_add(1)
@@ -267,7 +268,7 @@ fn held_with(held: u16, range: VariableRange, least: u8, greatest: u8) -> u16 {
     }
 }
 
-/// Adds a place as it stands up to a cut, unless the variable's range is above the cut.
+/// Adds a place to the side below a cut, unless the cube's range of the variable is all above the cut.
 fn keep_below(
     low: &mut Vec<PlaceHint>,
     range: VariableRange,
@@ -277,6 +278,7 @@ fn keep_below(
     ensures { OnOk result (KeepsPlace (λ s. (number_of s span.cut.variable ≤ span.cut.most) × (range.low ≤ number_of s span.cut.variable))
         hint.place low.old.items low.new.items) }
 {
+    // the range has no number up to the cut
     if range.low > span.cut.most {
         return Ok(());
     }
@@ -288,7 +290,8 @@ fn keep_below(
     Ok(())
 }
 
-/// Whether the faults that are left above a cut suffice for literals, which is mostly known already. The space is as before.
+/// Whether the faults that a space leaves above a cut suffice for literals. `taken` is how many of the hint's spare faults the
+/// fork takes; mostly these suffice. The space is as before.
 fn do_suffice_above(
     space: &mut Space,
     literals: &[Literal],
@@ -304,13 +307,13 @@ fn do_suffice_above(
     if taken <= hint.spare {
         return true;
     }
-    let was = space.close_below(cut.variable, cut.most);
+    let old_low = space.close_below(cut.variable, cut.most);
     let do_suffice = space.affords(literals, hint.held as usize);
-    space.reopen_below(cut.variable, was);
+    space.reopen_below(cut.variable, old_low);
     do_suffice
 }
 
-/// Adds a place as it stands above a cut, unless the variable's range ends at the cut or before, or there are too few faults
+/// Adds a place to the side above a cut, unless the variable's range ends at the cut or before, or there are too few faults
 /// left. The space is as before.
 fn keep_above(
     high: &mut Vec<PlaceHint>,
@@ -327,10 +330,11 @@ fn keep_above(
         hint.place high.old.items high.new.items) }
     ensures same { space.new ≡ space.old }
 {
+    // the range has no number above the cut
     if range.high < span.cut.most.saturating_add(1) {
         return Ok(());
     }
-    // the fork takes those faults that the literal doesn't ask for
+    // the fork takes the faults up to the number above the cut that neither the cube nor the space asked for before
     let taken = span.faults.saturating_sub(range.low.max(span.least));
     if !do_suffice_above(space, literals, hint, taken, span.cut) {
         return Ok(());
@@ -343,7 +347,7 @@ fn keep_above(
     Ok(())
 }
 
-/// Adds a place to the sides of a fork that have scenarios which match its cube. The space is as before.
+/// Adds a place to those sides of a fork on which some scenario may match its cube, if there is one. The space is as before.
 fn keep(
     low: &mut Vec<PlaceHint>,
     high: &mut Vec<PlaceHint>,
@@ -375,7 +379,7 @@ fn keep(
     Ok(())
 }
 
-/// A cut, with the numbers that a space leaves.
+/// Returns a cut with the numbers of its variable that a space has.
 fn span_of(space: &Space, cut: PlaceCut) -> CutSpan
     ensures { result.cut ≡ cut }
 {
@@ -389,7 +393,7 @@ fn span_of(space: &Space, cut: PlaceCut) -> CutSpan
     }
 }
 
-/// The places whose cubes some scenario of each side of a fork may match. The space is as before if it answers.
+/// Returns for each side of a fork the places whose cubes some scenario there may match. The space is as before if it answers.
 fn parted(
     alloc: Global,
     space: &mut Space,
@@ -413,7 +417,7 @@ fn parted(
     Ok(PlaceSides { low, high })
 }
 
-/// A cut that has numbers of the space on both sides.
+/// Returns a cut; `None` exactly if the space has no number of the variable on one of its sides.
 fn open_cut(space: &Space, variable: u8, most: u8) -> Option<PlaceCut>
     ensures { IfSome result (λ r. IsOpenCut space.now r.variable r.most) }
 {
@@ -426,8 +430,7 @@ fn open_cut(space: &Space, variable: u8, most: u8) -> Option<PlaceCut>
     Some(PlaceCut { variable, most })
 }
 
-/// The cut at which a literal parts a space, if it does: just below its low, or at its high if the space leaves
-/// nothing below its low.
+/// Returns the cut at which a literal parts a space, if it does: below its low, or at its high if the space begins at its low.
 pub(crate) fn cut_of(space: &Space, literal: Literal) -> Option<PlaceCut>
     ensures { IfSome result (λ r. IsOpenCut space.now r.variable r.most) }
 {
@@ -439,7 +442,7 @@ pub(crate) fn cut_of(space: &Space, literal: Literal) -> Option<PlaceCut>
     open_cut(space, literal.variable, most)
 }
 
-/// Whether literals hold in the whole space.
+/// Whether all literals hold in the whole space; true only if they do.
 fn do_hold(space: &Space, literals: &[Literal]) -> bool
     ensures { OnTrue result ((s : Scenario) → IsInSpace space.now s → matches literals.now s ≡ true) }
 {
@@ -451,7 +454,7 @@ fn do_hold(space: &Space, literals: &[Literal]) -> bool
     true
 }
 
-/// The literals of a place's cube from the first on that doesn't hold in the whole space.
+/// Returns a place's literals from the first one on that doesn't hold in the whole space; none for a place behind the cubes.
 fn open_literals<'a>(space: &Space, cubes: &[&'a Cube], hint: PlaceHint) -> &'a [Literal] {
     let Some(cube) = cubes.get(hint.place as usize) else {
         return &[];
@@ -463,21 +466,21 @@ fn open_literals<'a>(space: &Space, cubes: &[&'a Cube], hint: PlaceHint) -> &'a 
     &literals[from..]
 }
 
-/// Counts the open literals of some places.
+/// Adds the open literals of some places' cubes to a tally.
 fn count_all(space: &Space, cubes: &[&Cube], hints: &[PlaceHint], tally: &mut Tally) {
     for hint in hints {
         tally.add(open_literals(space, cubes, *hint));
     }
 }
 
-/// Takes these counts away.
+/// Takes the open literals of some places' cubes out of a tally again.
 fn clear_all(space: &Space, cubes: &[&Cube], hints: &[PlaceHint], tally: &mut Tally) {
     for hint in hints {
         tally.clear(open_literals(space, cubes, *hint));
     }
 }
 
-/// The cut that parts some places best, by a tally that has tables.
+/// Returns the cut that parts some places best; `None` if the tally has no tables, or finds no cut that parts the space too.
 fn best_cut(
     space: &Space,
     cubes: &[&Cube],
@@ -498,7 +501,7 @@ fn best_cut(
     open_cut(space, parting.variable, parting.most)
 }
 
-/// Where to part two or more places: where a tally says, or else at the first one's open literal.
+/// Returns where to part places: where a tally says if there are two or more, or else at the first's open literal; else `None`.
 fn fork_at(
     space: &Space,
     cubes: &[&Cube],
@@ -517,7 +520,7 @@ fn fork_at(
     cut_of(space, literal)
 }
 
-/// The top of the tree of some places for the scenarios of a space.
+/// Returns the top of the tree of some places in a space: without places a leaf with none, and `Unknown` if a place has no cube.
 fn places_top(space: &Space, cubes: &[&Cube], hints: &[PlaceHint], tally: &mut Tally) -> PlacesTop
     ensures { IsPlacesTop (map (λ b. b.now) cubes.now) space.now (places_of hints.now) result }
 {
@@ -534,6 +537,7 @@ fn places_top(space: &Space, cubes: &[&Cube], hints: &[PlaceHint], tally: &mut T
             None => PlacesTop::Unknown,
         };
     }
+    // the first cube matches all scenarios of the space, and another one may match some too
     if !rest.is_empty() {
         return PlacesTop::Unknown;
     }
@@ -543,7 +547,7 @@ fn places_top(space: &Space, cubes: &[&Cube], hints: &[PlaceHint], tally: &mut T
     PlacesTop::Leaf(Some(first.place))
 }
 
-/// How many more items there may be if a fork parts this many places: each that goes to both sides counts as one.
+/// Returns how many more items there may be once a fork has parted `count` places: each on both its sides counts as one.
 fn left_after(left: u32, count: usize, sides: &PlaceSides) -> u32
     ensures { result ≤ left }
 {
@@ -552,7 +556,7 @@ fn left_after(left: u32, count: usize, sides: &PlaceSides) -> u32
     left.saturating_sub(shared as u32)
 }
 
-/// Adds the tree of places that a fork parts. The space is as before if there is a tree.
+/// Adds the tree of places that a fork parts. The answer and the space are those of `build_place_tree`.
 #[cycle(build_place_tree)]
 fn build_forked_places(
     alloc: Global,
@@ -573,25 +577,24 @@ fn build_forked_places(
     drop(hints);
     growth.left = left_after(growth.left, count, &sides);
     let start = growth.items.len();
-    let most = space.close_above(cut.variable, cut.most);
+    let old_high = space.close_above(cut.variable, cut.most);
     let has_below = build_place_tree(alloc, space, cubes, sides.low, growth, tally)?;
     if !has_below {
         return Ok(false);
     }
-    space.reopen_above(cut.variable, most);
+    space.reopen_above(cut.variable, old_high);
     let middle = growth.items.len();
-    let was = space.close_below(cut.variable, cut.most);
+    let old_low = space.close_below(cut.variable, cut.most);
     let has_above = build_place_tree(alloc, space, cubes, sides.high, growth, tally)?;
     if !has_above {
         return Ok(false);
     }
-    space.reopen_below(cut.variable, was);
+    space.reopen_below(cut.variable, old_low);
     fork_of(&mut growth.items, start, middle, cut.variable, cut.most)?;
     Ok(true)
 }
 
-/// Adds the tree of these places for the scenarios of a space, unless there would be too many items; false if there is none:
-/// then two cubes may match together, or there would be more items. The space is as before if there is a tree.
+/// Adds the tree of places for a space, and leaves the space as it was. False guarantees nothing: it has none, or costs too much.
 #[cycle(build_place_tree)]
 fn build_place_tree(
     alloc: Global,
@@ -617,7 +620,7 @@ fn build_place_tree(
     }
 }
 
-/// How many faults literals ask for.
+/// Returns how many faults literals ask for together. Counts come first, so it ends at the first value.
 fn faults_asked(literals: &[Literal]) -> u8 {
     let mut faults: u8 = 0;
     for literal in literals {
@@ -629,7 +632,7 @@ fn faults_asked(literals: &[Literal]) -> u8 {
     faults
 }
 
-/// Adds a place, unless there are too few faults for its cube in the space of all scenarios of at most `k`.
+/// Adds a place, unless it has no cube or this asks for more than `k` faults. The space is that of scenarios of up to `k` faults.
 fn admit(
     hints: &mut Vec<PlaceHint>,
     k: u8,
@@ -644,6 +647,7 @@ fn admit(
     };
     let literals = cube.literals();
     let asked = faults_asked(literals);
+    // `asked` is a hint, so the space has to say so too
     if asked > k {
         if !space.affords(literals, 0) {
             return Ok(());
@@ -657,7 +661,7 @@ fn admit(
     Ok(())
 }
 
-/// The places whose cubes some scenario of the space of all scenarios of at most `k` faults may match.
+/// Returns the places whose cubes some scenario of the space may match, which is that of all scenarios of at most `k` faults.
 fn hints_of(
     alloc: Global,
     k: u8,
@@ -674,13 +678,12 @@ fn hints_of(
     Ok(hints)
 }
 
-/// The tree of places of cubes in any order, in the scenarios of at most `k` faults and with at most this many items, by forks
-/// that a tally chooses.
+/// Returns the tree of places for all scenarios of at most `k` faults, by forks that a tally chooses. `None` guarantees nothing.
 fn place_tree_by(
     alloc: Global,
     k: u8,
     cubes: &[&Cube],
-    items: u32,
+    most_cost: u32,
     tally: &mut Tally,
 ) -> Result<Option<Places>, OutOfMemory>
     requires { length cubes.now ≤ MOST_LOAD }
@@ -688,7 +691,7 @@ fn place_tree_by(
 {
     let mut space = Space::whole(k);
     let hints = hints_of(alloc, k, &space, cubes)?;
-    let mut growth = TreeGrowth::new(alloc, cubes.len(), items)?;
+    let mut growth = TreeGrowth::new(alloc, cubes.len(), most_cost)?;
     let has_tree = build_place_tree(alloc, &mut space, cubes, hints, &mut growth, tally)?;
     if !has_tree {
         return Ok(None);
@@ -696,27 +699,27 @@ fn place_tree_by(
     Ok(Some(Places::grown(growth)))
 }
 
-/// Does what `place_tree_by` does, by forks at the first literal that is open, or, if that leads to no tree, by those that part
-/// the cubes best. The first way mostly leads to a tree, and takes less time.
+/// Does what `place_tree_by` does, by forks at the first open literal, which is faster, or if that fails, by the best forks.
 fn place_tree(
     alloc: Global,
     k: u8,
     cubes: &[&Cube],
-    items: u32,
+    most_cost: u32,
 ) -> Result<Option<Places>, OutOfMemory>
     requires { length cubes.now ≤ MOST_LOAD }
     ensures { IfOk result (λ r. IfSome r (λ t. (s : Scenario) → HasAtMostFaults k s → IsPlaceOfMatch (map (λ b. b.now) cubes.now) (place_at t s) s)) }
 {
+    // a tally without tables finds no cut
     let mut tally = Tally::new(alloc);
-    if let Some(places) = place_tree_by(alloc, k, cubes, items, &mut tally)? {
+    if let Some(places) = place_tree_by(alloc, k, cubes, most_cost, &mut tally)? {
         return Ok(Some(places));
     }
     tally.keep(alloc)?;
-    let places = place_tree_by(alloc, k, cubes, items, &mut tally)?;
+    let places = place_tree_by(alloc, k, cubes, most_cost, &mut tally)?;
     Ok(places)
 }
 
-/// For each scenario the place of the one cube that it matches, if it matches one: a tree, seen as its items.
+/// A tree that leads each scenario to the place of the one cube that it matches, or to none. It is seen as its items.
 #[derive(Drop)]
 pub struct Places {
     items: Vec<TreeItem<Option<u32>>>,
@@ -734,7 +737,7 @@ impl Model for Places {
 }
 
 impl Places {
-    /// The tree that a list has grown to.
+    /// Returns the tree that a list has grown to.
     pub(crate) fn grown(growth: TreeGrowth) -> Places
         requires { IsFlat growth.items.items }
         ensures { result ≡ record { items = growth.items.items } }
@@ -744,45 +747,43 @@ impl Places {
         }
     }
 
-    /// The places of cubes in the scenarios of at most `k` faults. `None` says nothing: two cubes may match together, or the
-    /// tree would be too large.
+    /// Returns the tree of places for scenarios of at most `k` faults. `None` guarantees nothing; `OutOfMemory` is the one error.
     pub fn of(alloc: Global, k: u8, cubes: &[&Cube]) -> Result<Option<Places>, OutOfMemory>
         requires { length cubes.now ≤ MOST_LOAD }
         ensures { IfOk result (λ r. IfSome r (λ t. (s : Scenario) → HasAtMostFaults k s → IsPlaceOfMatch (map (λ b. b.now) cubes.now) (place_at t s) s)) }
     {
-        let items = cubes.len() as u32 * EACH + FEW;
+        let most_items = cubes.len() as u32 * ITEMS_EACH + ITEMS_BESIDES;
         // rows mostly stand as a tree lists them, and then this is faster
-        if let Some(places) = slice_tree(alloc, k, cubes, items)? {
+        if let Some(places) = slice_tree(alloc, k, cubes, most_items)? {
             return Ok(Some(places));
         }
-        let items = cubes.len() as u32 * EACH_SHARED + FEW_SHARED;
-        let places = place_tree(alloc, k, cubes, items)?;
+        let most_cost = cubes.len() as u32 * COST_EACH + COST_BESIDES;
+        let places = place_tree(alloc, k, cubes, most_cost)?;
         Ok(places)
     }
 
-    /// Whether each scenario is known to come to a place: no leaf is without one.
+    /// Whether each scenario comes to a place: no leaf is without one. True only if so.
     pub fn are_everywhere(&self) -> bool
         ensures { OnTrue result ((s : Scenario) → place_at self.now s ≡ None → ⊥) }
     {
         are_all_there(self.items.as_slice())
     }
 
-    /// Whether a test passes at each place that scenarios of a space come to.
+    /// Whether a test passes at each place that scenarios of a space come to, and at no place if some come to none.
     pub fn do_pass<J: Test>(&self, space: &Space, test: &J) -> bool
         ensures { OnTrue result ((s : Scenario) → IsInSpace space.now s → J.guarantees test.now (place_at self.now s) s) }
     {
         do_pass(self.items.as_slice(), space, test)
     }
 
-    /// Whether a test passes at each two places that scenarios of a space come to here and in another tree.
+    /// Whether a test passes at each pair of places to which a scenario of the space comes here and in another tree.
     pub fn do_pass_with<J: PairTest>(&self, other: &Places, space: &Space, test: &J) -> bool
         ensures { OnTrue result ((s : Scenario) → IsInSpace space.now s → J.guarantees test.now (place_at self.now s) (place_at other.now s) s) }
     {
         do_pass_with(self.items.as_slice(), other.items.as_slice(), space, test)
     }
 
-    /// Adds the places that scenarios of a space come to, as long as there is one and a test passes at each; false if it
-    /// stopped before the last.
+    /// Adds the places that scenarios of a space come to; stops with false at the first leaf that has none, or that fails a test.
     pub fn gather<J: Test>(
         &self,
         space: &Space,

@@ -1,5 +1,5 @@
-//! The tree of the places of cubes that stand as a tree lists them: each fork parts the cubes in two slices, so that no cube
-//! is visited except at its own leaf and when a border is looked for.
+//! The tree of the places of cubes that stand in the order in which the tree lists them: each fork parts the cubes in two
+//! slices, so that no cube is visited except at its own leaf and when a border is looked for.
 ghost use Rattle.std.specs.Prelude.{◌+◌, ◌≡◌, ◌≤◌, ◌<◌, IfOk, IfSome, Some, length, map, true};
 ghost use Rattle.std.specs.Bool.{OnTrue};
 ghost use Rattle.cpg_base.specs.Scenario.{Scenario};
@@ -19,61 +19,72 @@ use cpg_cube::{Cube, Literal};
 use cpg_tree::{Space, fork_of};
 use std::alloc::Global;
 
-/// How the variable is found at which a slice parts: a guess, that no clause speaks of.
+/// How to guess the variable by which a slice is parted. No clause speaks of it.
 #[derive(Clone, Copy)]
 enum GuessedWay {
-    /// By the first literal that doesn't hold in the whole space: in cubes that stand by the numbers of the variables.
+    /// By the first literal that doesn't hold in the whole space: right if the tree tests variables in the order of their
+    /// numbers.
     ByNumber,
-    /// By the first on which the last cube asks for more than the first cube does: in cubes that stand by another order.
+    /// By the first literal of the first cube that the last cube lies above: right if the tree tests them in another order.
     ByEnds,
 }
 
-/// Cubes that stand together, from a place up to another, in a space in which this many variables are narrower than in all
-/// scenarios. `held` is where to look first in the literals: a hint, that no clause speaks of.
+/// Cubes that stand together in the list, in the space of a place of the tree.
 #[derive(Clone, Copy)]
 struct Slice {
+    /// The place of the first cube.
     from: u32,
+    /// The place behind the last cube.
     to: u32,
+    /// How many variables of the space may be narrower than in all scenarios.
     narrow: u32,
+    /// Where in a cube's literals to look first for one that parts the space: a hint, of which no clause speaks.
     held: usize,
+    /// How the variable that parts the slice is guessed.
     way: GuessedWay,
 }
 
-/// Where a slice parts, and how many of its first cube's literals stand before the one on its variable.
+/// Where a slice is parted.
 #[derive(Clone, Copy)]
 struct SlicePart {
+    /// The cut.
     cut: PlaceCut,
+    /// How many literals of the slice's first cube come before the one on the cut's variable: a hint.
     held: usize,
 }
 
-/// What a fork says of its sides.
+/// What a fork says of its sides: the literals that hold there.
 #[derive(Clone, Copy)]
 struct ForkSides {
+    /// The variable is at most the cut.
     below: Literal,
+    /// The variable is above the cut.
     above: Literal,
 }
 
-/// What stands at the top of the tree of a slice.
+/// What stands at the top of the tree of a slice for the scenarios of a space.
 #[derive(Clone, Copy)]
 enum SliceTop {
+    /// A leaf: all scenarios of the space come to this place, or to none.
     Leaf(Option<u32>),
+    /// A fork.
     Fork(SlicePart),
-    /// The cubes don't stand as a tree lists them.
+    /// It isn't found: the cubes don't stand as a tree lists them.
     Unknown,
 }
 
-/// Whether a space leaves fewer numbers of a variable than all scenarios of at most `k` faults do.
+/// Whether a variable is narrow in a space: its range has fewer numbers than in all scenarios of at most `k` faults.
 fn is_narrow(k: u8, space: &Space, variable: u8) -> bool
     ensures { result ≡ is_narrow k space.now variable }
 {
-    // the space has lost low numbers
+    // low numbers are left out
     if space.low[variable as usize] > 0 {
         return true;
     }
     space.high[variable as usize] < top(k, variable)
 }
 
-/// Whether all of a literal's numbers are in range.
+/// Whether all numbers of a literal are in the space's range of its variable.
 fn is_inside(space: &Space, literal: &Literal) -> bool
     ensures { OnTrue result (IsInside space.now literal.now) }
 {
@@ -84,7 +95,7 @@ fn is_inside(space: &Space, literal: &Literal) -> bool
     literal.high <= space.high[literal.variable as usize]
 }
 
-/// Whether all numbers in range are a literal's.
+/// Whether a literal has all numbers of the space's range of its variable.
 fn is_filled(space: &Space, literal: &Literal) -> bool
     ensures { OnTrue result ((s : Scenario) → IsInSpace space.now s → holds s literal.now ≡ true) }
 {
@@ -95,7 +106,7 @@ fn is_filled(space: &Space, literal: &Literal) -> bool
     space.high[literal.variable as usize] <= literal.high
 }
 
-/// Whether a literal holds in the whole space and doesn't go beyond it.
+/// Whether a literal holds in the whole space and has no number outside its range; true only if so.
 fn is_bound(space: &Space, literal: &Literal) -> bool
     ensures hold { OnTrue result ((s : Scenario) → IsInSpace space.now s → holds s literal.now ≡ true) }
     ensures inside { OnTrue result (IsInside space.now literal.now) }
@@ -103,32 +114,33 @@ fn is_bound(space: &Space, literal: &Literal) -> bool
     if !is_inside(space, literal) {
         return false;
     }
-    // this is the usual case, and then the faults that are left don't matter
+    // usually it has all numbers of the range, and then the faults left don't matter
     if is_filled(space, literal) {
         return true;
     }
     space.implies(literal)
 }
 
-/// 1 for a variable that is narrow.
+/// Returns 1 if a variable is narrow in a space, and otherwise 0.
 fn narrowed(k: u8, space: &Space, variable: u8) -> u32
     ensures { result ≡ narrowed k space.now variable }
 {
     if is_narrow(k, space, variable) { 1 } else { 0 }
 }
 
-/// How many variables are narrow if this one is narrowed too, unless that is too great a number.
+/// Returns how many variables may be narrow once this one is narrowed too, if `narrow` may be now; `None` if that doesn't fit a
+/// `u32`.
 fn narrow_with(k: u8, space: &Space, variable: u8, narrow: u32) -> Option<u32>
     ensures { IfSome result (λ n. narrow + 1 ≤ n + narrowed k space.now variable) }
 {
     narrow.checked_add(1 - narrowed(k, space, variable))
 }
 
-/// How many of the literals are on narrow variables, if each of them holds in the whole space and none goes beyond it.
+/// Returns how many of the literals are on narrow variables; `None` if one doesn't hold in the whole space or has a number
+/// outside its range.
 fn bounds_of(k: u8, space: &Space, literals: &[Literal]) -> Option<u32>
     ensures { IfSome result (AreSpaceBounds k space.now literals.now) }
 {
-    // goes over the literals; the first that isn't a bound of the space ends it
     let mut found: u32 = 0;
     for literal in literals {
         if !is_bound(space, literal) {
@@ -139,7 +151,7 @@ fn bounds_of(k: u8, space: &Space, literals: &[Literal]) -> Option<u32>
     Some(found)
 }
 
-/// Whether the scenarios of a space are those of at most `k` faults that literals match.
+/// Whether the scenarios of at most `k` faults in a space are those that literals match; true only if they are.
 fn is_their_own(k: u8, space: &Space, narrow: u32, literals: &[Literal]) -> bool
     requires rising { IsRising literals.now }
     requires reached { IsForkSpace k space.now narrow }
@@ -152,7 +164,8 @@ fn is_their_own(k: u8, space: &Space, narrow: u32, literals: &[Literal]) -> bool
     }
 }
 
-/// What a fork says of its sides; and how long the lists of a space are, which the code that reads them knows.
+/// Returns what a fork says of its sides. Its contract also says how long the lists of a space are, which is known here,
+/// where they are read.
 fn sides_of(k: u8, space: &Space, cut: PlaceCut) -> ForkSides
     requires { is_open_above space.now cut.variable cut.most ≡ true }
     ensures sides { AreForkSides k cut.variable cut.most result }
@@ -176,7 +189,7 @@ fn sides_of(k: u8, space: &Space, cut: PlaceCut) -> ForkSides
     }
 }
 
-/// What two ranges of a variable have in common.
+/// Returns what two literals on a variable have in common.
 fn met_by(last: Literal, literal: Literal) -> Literal
     ensures { result ≡ met_by last literal }
 {
@@ -187,7 +200,7 @@ fn met_by(last: Literal, literal: Literal) -> Literal
     }
 }
 
-/// The last of some literals, if it is on this variable.
+/// Returns the last of some literals if it is on this variable; `None` otherwise.
 fn last_on(literals: &[Literal], variable: u8) -> Option<Literal>
     ensures { IfSome result (IsLastOn literals.now variable) }
 {
@@ -198,7 +211,7 @@ fn last_on(literals: &[Literal], variable: u8) -> Option<Literal>
     Some(last)
 }
 
-/// Puts a literal in place of the last.
+/// Replaces the last literal of a path.
 fn put_last(path: &mut Vec<Literal>, literal: Literal)
     requires { 0 < length path.old.items }
     ensures { path.new.items ≡ left_by (Some literal) path.old.items }
@@ -207,8 +220,8 @@ fn put_last(path: &mut Vec<Literal>, literal: Literal)
     path[last] = literal;
 }
 
-/// Adds to the literals of a path what a fork says of a side: to the last one, if that is on its variable. What that was is
-/// for `leave`.
+/// Adds to the literals of a path what a fork says of a side. If the last literal is on its variable, it is met with
+/// that, and the answer is what it was before; otherwise the answer is `None`. `leave` takes the answer to undo this.
 fn enter(path: &mut Vec<Literal>, literal: Literal) -> Result<Option<Literal>, OutOfMemory>
     ensures { IfOk result (IsEntered path.old.items literal path.new.items) }
 {
@@ -224,7 +237,7 @@ fn enter(path: &mut Vec<Literal>, literal: Literal) -> Result<Option<Literal>, O
     }
 }
 
-/// Takes back what `enter` added.
+/// Takes back what `enter` added, given its answer: the last literal becomes `was`, or goes if there was none on the variable.
 fn leave(path: &mut Vec<Literal>, was: Option<Literal>)
     requires { 0 < length path.old.items }
     ensures { path.new.items ≡ left_by was path.old.items }
@@ -235,14 +248,14 @@ fn leave(path: &mut Vec<Literal>, was: Option<Literal>)
     }
 }
 
-/// Whether two literals are the same.
+/// Whether two literals are equal.
 fn is_same(literal: Literal, other: Literal) -> bool
     ensures { OnTrue result (literal ≡ other) }
 {
     (literal.variable == other.variable) & (literal.low == other.low) & (literal.high == other.high)
 }
 
-/// Whether eight literals are the same. It never stops early, so that the compiler compares them at once.
+/// Whether eight literals are equal to eight others. It never stops early, so that the compiler compares them at once.
 fn are_eight_same(literals: &[Literal; 8], others: &[Literal; 8]) -> bool
     ensures { OnTrue result (literals.now ≡ others.now) }
 {
@@ -253,7 +266,7 @@ fn are_eight_same(literals: &[Literal; 8], others: &[Literal; 8]) -> bool
     are
 }
 
-/// Whether literals are the same, one after another.
+/// Whether two lists of literals are equal, compared one after another.
 fn are_each_same(literals: &[Literal], others: &[Literal]) -> bool
     ensures { OnTrue result (literals.now ≡ others.now) }
 {
@@ -269,7 +282,7 @@ fn are_each_same(literals: &[Literal], others: &[Literal]) -> bool
     true
 }
 
-/// Whether literals are the same.
+/// Whether two lists of literals are equal, compared eight at a time.
 pub fn are_same_literals(literals: &[Literal], others: &[Literal]) -> bool
     ensures { OnTrue result (literals.now ≡ others.now) }
 {
@@ -287,7 +300,8 @@ pub fn are_same_literals(literals: &[Literal], others: &[Literal]) -> bool
     are_same_literals(rest, behind)
 }
 
-/// The first literal from a place on that doesn't hold in the whole space, as a part of it.
+/// Returns where the first literal from the place `from` on that doesn't hold in the whole space parts it; `None` if all hold
+/// from there on, or if it doesn't part the space.
 fn part_from(space: &Space, literals: &[Literal], from: usize) -> Option<SlicePart>
     ensures { IfSome result (λ r. IsOpenCut space.now r.cut.variable r.cut.most) }
 {
@@ -300,7 +314,7 @@ fn part_from(space: &Space, literals: &[Literal], from: usize) -> Option<SlicePa
     None
 }
 
-/// The literal on a variable, if there is one, looked for from a place on to both sides.
+/// Returns the literal on a variable, looked for from a place on towards both sides; `None` if there is none.
 fn literal_near(literals: &[Literal], place: usize, variable: u8) -> Option<Literal> {
     let Some(here) = literals.get(place) else {
         return literal_up_to(literals, literals.len(), variable);
@@ -311,7 +325,7 @@ fn literal_near(literals: &[Literal], place: usize, variable: u8) -> Option<Lite
     literal_from(literals, place, variable)
 }
 
-/// Whether literals ask for more than a literal allows, looked for from a place on.
+/// Whether literals ask for a number of a literal's variable that is above its range. `place` is where to look first.
 fn asks_more(literals: &[Literal], place: usize, literal: Literal) -> bool {
     match literal_near(literals, place, literal.variable) {
         Some(other) => literal.high < other.low,
@@ -319,7 +333,7 @@ fn asks_more(literals: &[Literal], place: usize, literal: Literal) -> bool {
     }
 }
 
-/// The place of the first literal for which other literals ask for more, if there is one.
+/// Returns the place of the first literal above whose range others ask for a number; `None` if there is none.
 fn place_apart(literals: &[Literal], others: &[Literal]) -> Option<usize> {
     for at in 0..literals.len() {
         if asks_more(others, at, literals[at]) {
@@ -329,7 +343,8 @@ fn place_apart(literals: &[Literal], others: &[Literal]) -> Option<usize> {
     None
 }
 
-/// Where the first and the last cube of a slice part a space: where its part did, if they still do there.
+/// Returns where the first and the last cube of a slice part a space: at the literal `held`, if the last cube still asks for
+/// more there, or else at the first literal where it does. `None` if it does nowhere, or that doesn't part the space.
 fn part_by_ends(
     space: &Space,
     first: &[Literal],
@@ -346,7 +361,8 @@ fn part_by_ends(
     Some(SlicePart { cut, held: at })
 }
 
-/// Where a slice parts a space, by its first cube's literals and by the last cube, if these show it.
+/// Returns where a slice is parted by its first cube's literals and its last cube, if it is guessed by the ends; `None` if
+/// not, or if these don't show it.
 fn part_apart(
     space: &Space,
     cubes: &[&Cube],
@@ -364,7 +380,8 @@ fn part_apart(
     }
 }
 
-/// Where a slice parts a space: by a value of its first cube if one doesn't hold in the whole space, or else by a count.
+/// Returns where a slice is parted: by a value of its first cube if one doesn't hold in the whole space, or else by a count.
+/// `None` if nothing is found that parts the space.
 fn part_of(space: &Space, cubes: &[&Cube], literals: &[Literal], slice: Slice) -> Option<SlicePart>
     ensures { IfSome result (λ r. IsOpenCut space.now r.cut.variable r.cut.most) }
 {
@@ -381,28 +398,31 @@ fn part_of(space: &Space, cubes: &[&Cube], literals: &[Literal], slice: Slice) -
     if let Some(part) = part_from(space, literals, slice.held) {
         return Some(part);
     }
-    // the hint may be wrong
+    // the hint may be wrong, so all literals are looked at
     part_from(space, literals, 0)
 }
 
-/// The top of the tree of a slice for the scenarios of a space, which are those that the literals of a path match.
+/// Returns the top of the tree of a slice for the scenarios of a space, which are those that the literals of a path match.
 fn slice_top(k: u8, space: &Space, path: &[Literal], cubes: &[&Cube], slice: Slice) -> SliceTop
     requires reached { IsForkSpace k space.now slice.narrow }
     requires own { IsOwn k space.now path.now }
     ensures { IsSliceTop (map (λ b. b.now) cubes.now) k space.now slice.from slice.to result }
 {
+    // the slice is empty, so no scenario of the space matches a cube of it
     if slice.to <= slice.from {
         return SliceTop::Leaf(None);
     }
+    // the slice is within the list; no clause says so
     let Some(cube) = cubes.get(slice.from as usize) else {
         return SliceTop::Unknown;
     };
     let literals = cube.literals();
     if slice.to - slice.from == 1 {
-        // this is the usual case if the cubes stand by the numbers of the variables
+        // the cube has just the path's literals: the usual case if the tree tests variables in the order of their numbers
         if are_same_literals(path, literals) {
             return SliceTop::Leaf(Some(slice.from));
         }
+        // the cube says the same in another way
         if is_their_own(k, space, slice.narrow, literals) {
             return SliceTop::Leaf(Some(slice.from));
         }
@@ -413,7 +433,7 @@ fn slice_top(k: u8, space: &Space, path: &[Literal], cubes: &[&Cube], slice: Sli
     }
 }
 
-/// Whether the cube at a place asks for a number above a cut.
+/// Whether the cube at a place asks for a number above a cut; true if there is no cube.
 fn is_above(cubes: &[&Cube], place: u32, part: SlicePart) -> bool {
     let Some(cube) = cubes.get(place as usize) else {
         return true;
@@ -424,16 +444,15 @@ fn is_above(cubes: &[&Cube], place: u32, part: SlicePart) -> bool {
     }
 }
 
-/// Where in a slice the first place has to be from which on all cubes ask for a number above a cut, if those that do are the
-/// last: from a place up to another. It is looked for from the end in steps that double: most often few cubes do, and those
-/// near by were looked at before.
+/// Returns between which two places of a slice its border lies, which is the first place from which on all cubes ask for a
+/// number above a cut. It takes those that do to be the last ones. It looks from the end in steps that double, as most often
+/// few cubes do.
 fn around_border(cubes: &[&Cube], slice: Slice, part: SlicePart) -> (u32, u32) {
     let mut end = slice.to;
-    // from the end back, in steps that double: the upper side is often short
     let mut step: u32 = 1;
     while end > slice.from {
         let place = end - step.min(end - slice.from);
-        // this cube is not above the cut, so the border lies between it and `end`
+        // this cube isn't above the cut, so the border lies behind it, and at `end` at the latest
         if !is_above(cubes, place, part) {
             return (place + 1, end);
         }
@@ -443,10 +462,11 @@ fn around_border(cubes: &[&Cube], slice: Slice, part: SlicePart) -> (u32, u32) {
     (end, end)
 }
 
-/// The first place of a slice from which on all cubes ask for a number above a cut, if those that do are the last.
+/// Returns the border of a slice: the first place from which on all cubes ask for a number above a cut, if those that do
+/// are the last ones. If they aren't, it is just a guess.
 fn border_of(cubes: &[&Cube], slice: Slice, part: SlicePart) -> u32 {
-    // then the part between is halved until it is empty
     let (mut first, mut end) = around_border(cubes, slice, part);
+    // what lies between is halved until it is empty
     while first < end {
         let middle = first + (end - first) / 2;
         if is_above(cubes, middle, part) {
@@ -458,7 +478,8 @@ fn border_of(cubes: &[&Cube], slice: Slice, part: SlicePart) -> u32 {
     first
 }
 
-/// Adds the tree of a slice that a fork parts. The space and the path are as before if there is a tree.
+/// Adds the tree of a slice that a fork parts, for the scenarios of a space. The answer, the space and the path are as for
+/// `build_slice_tree`.
 #[cycle(build_slice_tree)]
 fn build_forked_slice(
     k: u8,
@@ -472,16 +493,18 @@ fn build_forked_slice(
     requires open { IsOpenCut space.old part.cut.variable part.cut.most }
     requires reached { IsForkSpace k space.old slice.narrow }
     requires own { IsOwn k space.old path.old.items }
-    // if the answer is yes, the tree of these cubes has been added, for all scenarios of the space
+    // on true, the tree of these cubes has been added, for all scenarios of the space
     ensures added { IfOk result (λ is. OnTrue is (AddsSliceTree (map (λ b. b.now) cubes.now) k space.old slice.from slice.to growth.old growth.new)) }
     ensures same { IfOk result (λ is. OnTrue is (space.new ≡ space.old)) }
     ensures path { IfOk result (λ is. OnTrue is (path.new.items ≡ path.old.items)) }
 {
     let cut = part.cut;
     let sides = sides_of(k, space, cut);
+    // there are at most 256 variables, so there always is a number
     let Some(narrow) = narrow_with(k, space, cut.variable, slice.narrow) else {
         return Ok(false);
     };
+    // the cubes before the border go below the cut, and the others above it
     let border = border_of(cubes, slice, part);
     let low = Slice {
         from: slice.from,
@@ -497,31 +520,32 @@ fn build_forked_slice(
         held: part.held,
         way: slice.way,
     };
+    // the trees of both sides are added, each for its part of the space, and then a fork of the two
     let start = growth.items.len();
-    let most = space.close_above(cut.variable, cut.most);
+    let old_high = space.close_above(cut.variable, cut.most);
     let under = enter(path, sides.below)?;
     let has_below = build_slice_tree(k, space, path, cubes, low, growth)?;
     if !has_below {
         return Ok(false);
     }
     leave(path, under);
-    space.reopen_above(cut.variable, most);
+    space.reopen_above(cut.variable, old_high);
     let middle = growth.items.len();
-    let was = space.close_below(cut.variable, cut.most);
+    let old_low = space.close_below(cut.variable, cut.most);
     let over = enter(path, sides.above)?;
     let has_above = build_slice_tree(k, space, path, cubes, high, growth)?;
     if !has_above {
         return Ok(false);
     }
     leave(path, over);
-    space.reopen_below(cut.variable, was);
+    space.reopen_below(cut.variable, old_low);
     fork_of(&mut growth.items, start, middle, cut.variable, cut.most)?;
     Ok(true)
 }
 
-/// Adds the tree of a slice for the scenarios of a space, which are those that the literals of a path match, unless there would be
-/// too many items; false if there is none: then the cubes don't stand as a tree lists them, or there would be more items. The
-/// space and the path are as before if there is a tree.
+/// Adds the tree of a slice for the scenarios of a space, which are those that the literals of a path match, and leaves
+/// the space and the path as they were. It returns false if there is no tree, as the cubes don't stand as a tree lists
+/// them, or if it would have too many items; then nothing is said of the list, the space and the path.
 #[cycle(build_slice_tree)]
 fn build_slice_tree(
     k: u8,
@@ -533,11 +557,12 @@ fn build_slice_tree(
 ) -> Result<bool, OutOfMemory>
     requires reached { IsForkSpace k space.old slice.narrow }
     requires own { IsOwn k space.old path.old.items }
-    // if the answer is yes, the tree of these cubes has been added, for all scenarios of the space
+    // on true, the tree of these cubes has been added, for all scenarios of the space
     ensures added { IfOk result (λ is. OnTrue is (AddsSliceTree (map (λ b. b.now) cubes.now) k space.old slice.from slice.to growth.old growth.new)) }
     ensures same { IfOk result (λ is. OnTrue is (space.new ≡ space.old)) }
     ensures path { IfOk result (λ is. OnTrue is (path.new.items ≡ path.old.items)) }
 {
+    // the tree has as many items as it may have
     if !growth.may_grow() {
         return Ok(false);
     }
@@ -551,8 +576,8 @@ fn build_slice_tree(
     }
 }
 
-/// The tree of the places of cubes that stand as a tree lists them, in the scenarios of at most `k` faults and with at most
-/// this many items, if the slices are found in one way.
+/// Returns the tree of the places of cubes that stand as it lists them, for all scenarios of at most `k` faults. `None`
+/// if they don't, as far as the guesses made in this way find, or if it would have more than `items` items.
 fn slice_tree_by(
     alloc: Global,
     k: u8,
@@ -581,8 +606,8 @@ fn slice_tree_by(
     Ok(Some(Places::grown(growth)))
 }
 
-/// The tree of the places of cubes that stand as a tree lists them, in the scenarios of at most `k` faults and with at most
-/// this many items; `None` if they don't, or if there would be more items.
+/// Returns the tree of the places of cubes that stand as it lists them, for all scenarios of at most `k` faults. `None`
+/// if they don't, as far as three ways to build it find, or if it would have more than `items` items.
 pub(crate) fn slice_tree(
     alloc: Global,
     k: u8,
@@ -593,6 +618,7 @@ pub(crate) fn slice_tree(
     // a tree has for each scenario of at most k faults the place of the one cube that it matches, or none
     ensures { IfOk result (λ r. IfSome r (λ t. (s : Scenario) → HasAtMostFaults k s → IsPlaceOfMatch (map (λ b. b.now) cubes.now) (place_at t s) s)) }
 {
+    // the quickest way first; the other two guess which variable parts the cubes, in different ways
     if let Some(places) = listed_tree(alloc, k, cubes, items)? {
         return Ok(Some(places));
     }

@@ -1,4 +1,4 @@
-//! Whether a test passes at each place that scenarios of a space come to.
+//! Walks down trees of places that ask whether a test passes at each place that scenarios of a space come to.
 ghost use Rattle.std.specs.Prelude.{◌≡◌, ℕ, All, Option};
 ghost use Rattle.std.specs.Bool.{OnTrue};
 ghost use Rattle.cpg_base.specs.Scenario.{Scenario};
@@ -10,32 +10,37 @@ ghost use Rattle.cpg_row_trees.specs.Places.{IsThere};
 
 use cpg_tree::{Space, Top, TreeItem, part_in, top_of};
 
-/// A test of the places that scenarios come to: what it guarantees if it passes.
+/// A test of a place that scenarios come to in a tree, and what it guarantees of a place and a scenario if it passes.
 pub trait Test {
+    // what the test guarantees of a place and a scenario that comes to it
     ghost guarantees: { Self → Option ℕ → Scenario → Type 0 };
 
-    /// Whether a place passes, as far as scenarios of a space come to it.
+    /// Whether the test passes for a place, or for none, and the scenarios of a space: true guarantees it for each of them.
     fn passes(&self, place: Option<u32>, space: &Space) -> bool
         ensures { OnTrue result ((s : Scenario) → IsInSpace space.now s → guarantees self.now place s) };
 }
 
-/// A test of the places that scenarios come to in two trees: what it guarantees if it passes.
+/// A test of the places that scenarios come to in two trees, and what it guarantees of both and a scenario if it passes.
 pub trait PairTest {
+    // what the test guarantees of the places in both trees and a scenario that comes to them
     ghost guarantees: { Self → Option ℕ → Option ℕ → Scenario → Type 0 };
 
-    /// Whether a place of the first tree passes with any of the second.
+    /// Whether the test passes for a place of the first tree, whatever the second tree has: true guarantees it for every
+    /// scenario. This saves a walk down the second tree.
     fn passes_with_any(&self, first: Option<u32>) -> bool
         ensures { OnTrue result ((second : Option ℕ) (s : Scenario) → guarantees self.now first second s) };
 
-    /// Whether a place of each passes, as far as scenarios of a space come to both.
+    /// Whether the test passes for a place of each tree and the scenarios of a space: true guarantees it for each of them.
     fn passes(&self, first: Option<u32>, second: Option<u32>, space: &Space) -> bool
         ensures { OnTrue result ((s : Scenario) → IsInSpace space.now s → guarantees self.now first second s) };
 }
 
-/// A test of the second tree's places, beside one of the first.
+/// A test of the second tree's places alone: that of a pair, with the first tree's place fixed.
 #[derive(Drop)]
 struct Beside<'a, J> {
+    /// The test of a pair.
     test: &'a J,
+    /// The place of the first tree.
     first: Option<u32>,
 }
 
@@ -47,7 +52,7 @@ impl<'a, J: PairTest> Test for Beside<'a, J> {
     }
 }
 
-/// Whether an item is no leaf without a place.
+/// Whether an item isn't a leaf without a place.
 fn is_there(item: TreeItem<Option<u32>>) -> bool
     ensures { OnTrue result (IsThere item) }
 {
@@ -69,8 +74,8 @@ pub(crate) fn are_all_there(items: &[TreeItem<Option<u32>>]) -> bool
     true
 }
 
-/// Whether a test passes at each place that scenarios of a space come to. The space is changed on the way, and is as
-/// before if the test passes at each.
+/// Whether a test passes at each place that scenarios of a space come to. The space is narrowed on the way, and is as before
+/// if the test passes at each.
 #[cycle(do_pass_each)]
 #[inline(never)]
 fn do_pass_each<J: Test>(items: &[TreeItem<Option<u32>>], space: &mut Space, test: &J) -> bool
@@ -95,17 +100,17 @@ fn do_pass_each<J: Test>(items: &[TreeItem<Option<u32>>], space: &mut Space, tes
             if !space.is_open_above(variable, cut) {
                 return do_pass_each(below, space, test);
             }
-            // both sides are open: the space is made narrower for each of them, and then as before
-            let most = space.close_above(variable, cut);
+            // both sides are open: the space is narrowed to each of them in turn, and reopened after it
+            let old_high = space.close_above(variable, cut);
             if !do_pass_side(below, space, test) {
                 return false;
             }
-            space.reopen_above(variable, most);
-            let was = space.close_below(variable, cut);
+            space.reopen_above(variable, old_high);
+            let old_low = space.close_below(variable, cut);
             if !do_pass_side(above, space, test) {
                 return false;
             }
-            space.reopen_below(variable, was);
+            space.reopen_below(variable, old_low);
             true
         }
     }
@@ -166,8 +171,8 @@ pub(crate) fn do_pass<J: Test>(items: &[TreeItem<Option<u32>>], space: &Space, t
     }
 }
 
-/// Whether a test passes at a place of the first tree with each place of a second that scenarios of a space come to.
-/// The space is changed on the way, and is as before if the test passes with each.
+/// Whether a test passes at a place of the first tree with each place of the second that scenarios of a space come to. The
+/// space is narrowed on the way, and is as before if the test passes with each.
 fn do_pass_at<J: PairTest>(
     first: Option<u32>,
     second: &[TreeItem<Option<u32>>],
@@ -179,6 +184,7 @@ fn do_pass_at<J: PairTest>(
     ensures passed { OnTrue result ((n : TreeNode (Option ℕ)) → second.now ≡ flat n → (s : Scenario) → IsInSpace space.old s → J.guarantees test.now first (value_at n s) s) }
     ensures same { OnTrue result (space.new ≡ space.old) }
 {
+    // the second tree needn't be walked
     if test.passes_with_any(first) {
         return true;
     }
@@ -186,8 +192,8 @@ fn do_pass_at<J: PairTest>(
     do_pass_each(second, space, &beside)
 }
 
-/// Whether a test passes at each two places that scenarios of a space come to in two trees. The second is walked down
-/// with the first. The space is changed on the way, and is as before if the test passes at each two.
+/// Whether a test passes at each pair of places to which a scenario of a space comes in two trees. The second tree is walked
+/// down with the first. The space is narrowed on the way, and is as before if the test passes at each pair.
 #[cycle(do_pass_both)]
 #[inline(never)]
 fn do_pass_both<J: PairTest>(
@@ -211,25 +217,27 @@ fn do_pass_both<J: PairTest>(
             below,
             above,
         } => {
-            // the part of the second tree that the space leads to: it is looked at from there on
+            // of the second tree only the part that the space leads to is walked from here on
             let part = part_in(second, space);
+            // no scenario of the space goes to the lower side
             if !space.is_open_below(variable, cut) {
                 return do_pass_both(above, part, space, test);
             }
+            // no scenario of the space goes to the upper side
             if !space.is_open_above(variable, cut) {
                 return do_pass_both(below, part, space, test);
             }
-            // both sides of the first tree are open: the space is made narrower for each of them, and then as before
-            let most = space.close_above(variable, cut);
+            // both sides of the first tree are open: the space is narrowed to each of them in turn, and reopened after it
+            let old_high = space.close_above(variable, cut);
             if !do_pass_beside(below, part, space, test) {
                 return false;
             }
-            space.reopen_above(variable, most);
-            let was = space.close_below(variable, cut);
+            space.reopen_above(variable, old_high);
+            let old_low = space.close_below(variable, cut);
             if !do_pass_beside(above, part, space, test) {
                 return false;
             }
-            space.reopen_below(variable, was);
+            space.reopen_below(variable, old_low);
             true
         }
     }
@@ -257,7 +265,7 @@ fn do_pass_beside<J: PairTest>(
     }
 }
 
-/// Whether a test passes at each two places that scenarios of a space come to in two trees.
+/// Whether a test passes at each pair of places to which a scenario of a space comes in two trees.
 pub(crate) fn do_pass_with<J: PairTest>(
     first: &[TreeItem<Option<u32>>],
     second: &[TreeItem<Option<u32>>],

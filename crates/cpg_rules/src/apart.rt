@@ -1,4 +1,4 @@
-//! Joins of which no outcome makes two inputs live, by the trees of the inputs.
+//! Whether some outcome makes two inputs of a join live, by the shared parts of the inputs' trees.
 ghost use Rattle.std.specs.Prelude.{◌≡◌, ◌<◌, IfOk, true, All};
 ghost use Rattle.cpg_base.specs.Graph.{process_count};
 ghost use Rattle.cpg_rules.specs.Alternatives.{IsSingleJoin};
@@ -11,7 +11,8 @@ use crate::steps::{Input, inputs_of};
 use cpg_base::{Activation, OutOfMemory, Problem};
 use std::alloc::Global;
 
-/// The part of a join with these inputs, if no two of them are live at once.
+/// Returns the part of a join with these inputs, and `None` exactly if two of them are live at once in some outcome. The
+/// tree of process p is in the part `roots[p]`.
 fn union(
     alloc: Global,
     problem: &Problem,
@@ -19,25 +20,27 @@ fn union(
     roots: &[usize],
     inputs: &[Input],
 ) -> Result<Option<usize>, OutOfMemory>
+    // each process has a root among the parts, and the inputs come from processes of the graph
     requires roots { AreRoots parts.old.parts (process_count problem.now) roots.now }
     requires inputs { All (λ input. input.source < process_count problem.now) inputs.now }
     // the part made has the union of the trees of these inputs; there is none if two are live at once
     ensures { IfOk result (MakesUnion parts.old parts.new (union problem.now parts.old.ranks (trees_of parts.old.parts roots.now) inputs.now)) }
 {
-    // no inputs: nothing is live
-    let Some((input, left)) = inputs.split_first() else {
+    // without inputs a join is inactive
+    let Some((input, rest)) = inputs.split_first() else {
         let leaf = parts.leaf(alloc, Activation::Inactive)?;
         return Ok(Some(leaf));
     };
     let first = input_part(alloc, problem, true, parts, roots, *input)?;
-    // one input alone is live with no other
-    if left.is_empty() {
+    // a last input has none to be live with
+    if rest.is_empty() {
         return Ok(Some(first));
     }
-    let Some(later) = union(alloc, problem, parts, roots, left)? else {
+    // two of the later ones are live at once
+    let Some(later) = union(alloc, problem, parts, roots, rest)? else {
         return Ok(None);
     };
-    // the first is live together with a later one
+    // the later ones are apart from each other, but the first isn't from one of them
     if parts.are_both_live(first, later) {
         return Ok(None);
     }
@@ -45,7 +48,7 @@ fn union(
     Ok(Some(made))
 }
 
-/// Whether no two of these inputs of a join are live at once.
+/// Whether no outcome makes two of these inputs of a join live. The tree of process p is in the part `roots[p]`.
 fn are_apart(
     alloc: Global,
     problem: &Problem,
@@ -53,23 +56,28 @@ fn are_apart(
     roots: &[usize],
     inputs: &[Input],
 ) -> Result<bool, OutOfMemory>
+    // each process has a root among the parts, and the inputs come from processes of the graph
     requires roots { AreRoots parts.old.parts (process_count problem.now) roots.now }
     requires inputs { All (λ input. input.source < process_count problem.now) inputs.now }
+    // parts are only added
     ensures more { IfOk result (λ apart. Extends parts.old parts.new) }
     // the answer is whether no two of these inputs are live at once, by the trees of their sources
     ensures apart { IfOk result (λ apart. apart ≡ are_apart problem.now parts.old.ranks (trees_of parts.old.parts roots.now) inputs.now) }
 {
-    let Some((input, left)) = inputs.split_first() else {
+    // without inputs no two are live
+    let Some((input, rest)) = inputs.split_first() else {
         return Ok(true);
     };
-    let Some(later) = union(alloc, problem, parts, roots, left)? else {
+    // two of the later ones are live at once
+    let Some(later) = union(alloc, problem, parts, roots, rest)? else {
         return Ok(false);
     };
     let first = input_part(alloc, problem, true, parts, roots, *input)?;
     Ok(!parts.are_both_live(first, later))
 }
 
-/// Whether the parts show that no outcome makes two inputs of a process live, if it is a join.
+/// Whether the parts show that no outcome makes two inputs of this process live, if it is a join. Of any other process it
+/// is true, since nothing is asked of it. The contract says nothing of the answer false.
 pub fn is_single_join(
     alloc: Global,
     problem: &Problem,
@@ -77,10 +85,12 @@ pub fn is_single_join(
     roots: &[usize],
     process: u32,
 ) -> Result<bool, OutOfMemory>
+    // the roots are parts, and have the trees of the guards of the graph
     requires roots { AreRoots parts.old.parts (process_count problem.now) roots.now }
     requires guards { AreTreesOf problem.now (trees_of parts.old.parts roots.now) }
     requires process { process < process_count problem.now }
     ensures more { IfOk result (λ single. Extends parts.old parts.new) }
+    // the answer true means that no outcome makes two inputs of the process live, if it is a join
     ensures single { IfOk result (λ single. single ≡ true → IsSingleJoin problem.now process) }
 {
     if !problem.processes()[process as usize].join {

@@ -6,7 +6,7 @@ ghost use Rattle.cpg_rules.specs.Steps.{IsStepBelow};
 use crate::steps::{ActivationStep, Standings};
 use cpg_base::Activation;
 
-/// The standing of a process that is active in this way, whose condition has the value.
+/// Returns the standing of a process that is active in this way, if its condition has the value: `None` if it is inactive.
 fn standing(activation: Activation, value: bool) -> Option<bool>
     ensures { result ≡ standing activation value }
 {
@@ -17,7 +17,8 @@ fn standing(activation: Activation, value: bool) -> Option<bool>
     }
 }
 
-/// The condition that goes both ways, if there is one.
+/// Returns the condition whose two values both have to be tried: that of an active process. It is `None` if the process
+/// is inactive or has no condition.
 pub fn choice(activation: Activation, condition: Option<u32>) -> Option<u32>
     ensures { result ≡ choice activation condition }
 {
@@ -28,7 +29,7 @@ pub fn choice(activation: Activation, condition: Option<u32>) -> Option<u32>
     }
 }
 
-/// The standings after a step, if the condition of its process has the value.
+/// Returns the standings after a step, if its process is active in this way and its condition has the value.
 pub fn settled(
     standings: Standings,
     step: &ActivationStep,
@@ -44,28 +45,30 @@ pub fn settled(
     standings
 }
 
-/// How many tracks go this way, or `most` if there are no fewer.
+/// Counts the tracks that begin with these standings, up to `most`: returns how many there are, and `most` if there are
+/// no fewer. `steps` are those that are left.
 pub fn tracks(steps: &[ActivationStep], standings: Standings, most: u32) -> u32
     requires { All (IsStepBelow 128) steps.now }
     ensures { result ≡ min most (tracks_from steps.now standings) }
 {
-    // behind the last step one track is complete
-    let Some((step, left)) = steps.split_first() else {
+    // no step is left: this is one track, which counts unless `most` is 0
+    let Some((step, rest)) = steps.split_first() else {
         return most.min(1);
     };
     let activation = step.activation(&standings);
-    let first = tracks(left, settled(standings, step, activation, false), most);
-    // the most is reached: the other way needs no count
+    let first = tracks(rest, settled(standings, step, activation, false), most);
+    // as many as are asked for are found: the other way needs no count
     if first == most {
         return first;
     }
-    // the process is inactive or has no condition: both values are one way
+    // the process is inactive or has no condition: there is no other way
     if choice(activation, step.condition()).is_none() {
         return first;
     }
+    // the other way counts up to what is left of `most`
     first
         + tracks(
-            left,
+            rest,
             settled(standings, step, activation, true),
             most - first,
         )

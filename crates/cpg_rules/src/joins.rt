@@ -24,21 +24,22 @@ pub struct Alternatives {
     pub least: Scenario,
 }
 
-/// The first standings on the way to a process at which two of its inputs are live.
+/// Returns the first standings at a process with which two of its inputs are live, and `None` exactly if no way along the
+/// steps leads to such standings. Ways with a false condition come before those with a true one.
 fn found_from(process: u32, steps: &[ActivationStep], standings: Standings) -> Option<Standings>
     requires { All (IsStepBelow 128) steps.now }
     ensures { result ≡ found_from process steps.now standings }
 {
-    // the process isn't on the way
-    let Some((step, left)) = steps.split_first() else {
+    // no step is left, so the process isn't among the steps
+    let Some((step, rest)) = steps.split_first() else {
         return None;
     };
-    // here is the process: nothing behind it matters
+    // here is the process: no later step matters to its inputs
     if step.process() == process {
         return step.two_live(standings);
     }
     let activation = step.activation(&standings);
-    let first = found_from(process, left, settled(standings, step, activation, false));
+    let first = found_from(process, rest, settled(standings, step, activation, false));
     // false comes before true, so what is found with false is the least
     if first.is_some() {
         return first;
@@ -47,10 +48,11 @@ fn found_from(process: u32, steps: &[ActivationStep], standings: Standings) -> O
     if choice(activation, step.condition()).is_none() {
         return None;
     }
-    found_from(process, left, settled(standings, step, activation, true))
+    // nothing was found with false, so what is found with true is the least
+    found_from(process, rest, settled(standings, step, activation, true))
 }
 
-/// Whether a process stands as active with a true condition.
+/// Whether a process is active and its condition true, by its standing.
 fn is_set(standing: Option<bool>) -> bool
     ensures { result ≡ is_set standing }
 {
@@ -60,7 +62,7 @@ fn is_set(standing: Option<bool>) -> bool
     }
 }
 
-/// The scenario without faults in which the processes stand so.
+/// Returns the scenario without faults in which a condition is true exactly if the standing of its process says so.
 fn scenario_of(
     alloc: Global,
     problem: &Problem,
@@ -77,8 +79,8 @@ fn scenario_of(
     Ok(scenario)
 }
 
-/// The least scenario in which two inputs of a process are live, if it is a join and there is one. The contract alone names
-/// `order`.
+/// Returns the least scenario in which two inputs of a process are live, and `None` exactly if the process isn't a join
+/// or there is no such scenario. Only the contract uses `order`.
 fn least_of(
     alloc: Global,
     problem: &Problem,
@@ -87,18 +89,22 @@ fn least_of(
     process: u32,
 ) -> Result<Option<Scenario>, OutOfMemory>
     requires topological { IsTopological problem.now order.now }
+    // the steps are those of all processes along the order
     requires steps { steps.now ≡ map (step_of problem.now) order.now }
     requires process { process < process_count problem.now }
+    // if none is found, no outcome makes two inputs of the process live, or it isn't a join
     ensures none { IfOk result (λ found. IfNone found (IsSingleJoin problem.now process)) }
     ensures join { IfOk result (λ found. IfSome found (λ _. IsTrue (process_at problem.now process).join)) }
     // a scenario that is found is the least in which two inputs of the process are live
     ensures some { IfOk result (λ found. IfSome found (IsLeast problem.now order.now (λ s. has_two_live problem.now s.values process ≡ true))) }
 {
-    // only a join may have at most one live input
+    // any other process may have two live inputs
     if !problem.processes()[process as usize].join {
         return Ok(None);
     }
+    // only the steps that the inputs of the process rest on matter to them
     let steps = rested(alloc, Aim::Process(process), steps)?;
+    // before the first step no process has a standing
     match found_from(process, steps.as_slice(), [None; 128]) {
         None => Ok(None),
         Some(standings) => {
@@ -108,8 +114,9 @@ fn least_of(
     }
 }
 
-/// The same result as `least_of`, by the parts of the guards. They are looked at first. The search is made only if they
-/// don't show that no two inputs are live.
+/// Returns the least scenario in which two inputs of a process are live, and `None` exactly if the process isn't a join or
+/// there is no such scenario. The parts of the guards are looked at first. Only if they don't show that no two inputs are
+/// live at once does `least_of` search, which takes far longer.
 fn least_by(
     alloc: Global,
     problem: &Problem,
@@ -120,11 +127,13 @@ fn least_by(
     process: u32,
 ) -> Result<Option<Scenario>, OutOfMemory>
     requires topological { IsTopological problem.now order.now }
+    // the roots are parts, and have the trees of the guards of the graph
     requires roots { AreRoots parts.old.parts (process_count problem.now) roots.now }
     requires guards { AreTreesOf problem.now (trees_of parts.old.parts roots.now) }
     requires steps { steps.now ≡ map (step_of problem.now) order.now }
     requires process { process < process_count problem.now }
     ensures more { IfOk result (λ found. Extends parts.old parts.new) }
+    // if none is found, no outcome makes two inputs of the process live, or it isn't a join
     ensures none { IfOk result (λ found. IfNone found (IsSingleJoin problem.now process)) }
     ensures join { IfOk result (λ found. IfSome found (λ _. IsTrue (process_at problem.now process).join)) }
     // a scenario that is found is the least in which two inputs of the process are live
@@ -137,8 +146,9 @@ fn least_by(
     least_of(alloc, problem, order, steps, process)
 }
 
-/// The least join that some outcome gives two live inputs, with its least scenario; `None` exactly if no outcome gives
-/// a join two. These are the parts of the guards.
+/// Returns the least join that some outcome gives two live inputs, with the least scenario that does, and `None` exactly
+/// if no outcome gives a join two. `parts` are the shared parts, and `roots` the numbers of those with the trees of the
+/// processes.
 pub fn least_alternatives(
     alloc: Global,
     problem: &Problem,
@@ -147,6 +157,7 @@ pub fn least_alternatives(
     roots: &[usize],
 ) -> Result<Option<Alternatives>, OutOfMemory>
     requires topological { IsTopological problem.now order.now }
+    // the roots are parts, and have the trees of the guards of the graph
     requires roots { AreRoots parts.old.parts (process_count problem.now) roots.now }
     requires guards { AreTreesOf problem.now (trees_of parts.old.parts roots.now) }
     ensures none { IfOk result (λ found. IfNone found (HasSingleJoins problem.now)) }

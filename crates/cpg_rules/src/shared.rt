@@ -1,4 +1,5 @@
-//! The parts of trees, each made once, and the answers that were found for them, so that each is found once.
+//! Shared parts: the trees below guards and all trees on the way to them. Equal trees are mostly kept once, and answers
+//! that were found for parts are kept too.
 ghost use Rattle.std.specs.Prelude.{◌≡◌, ◌<◌, ◌||◌, IfOk, IfSome, true, length};
 ghost use Rattle.cpg_base.specs.declared.activation.Activation.TheVariants.{Inactive};
 ghost use Rattle.cpg_order.specs.Guard.{Leaf, Test};
@@ -15,60 +16,81 @@ use cpg_base::{Activation, OutOfMemory};
 use std::alloc::Global;
 use std::marker::Model;
 
-/// The top of a part: an activation, or a test's condition with the numbers of the parts for its values.
+/// The top of a part: a leaf's activation, or a test's condition with the numbers of the parts for false and for true.
 #[derive(Clone, Copy, Debug, PartialEq, Eq)]
 pub enum PartTop {
+    /// A leaf with this activation.
     Leaf(Activation),
+    /// A test.
     Test {
+        /// The number of the condition.
         condition: u32,
+        /// The part if it is false.
         no: usize,
+        /// The part if it is true.
         yes: usize,
     },
 }
 
-/// A tree with its top.
+/// A part: a tree with its top, by which its sides are found among the parts.
 #[derive(Drop)]
 pub struct SharedPart {
+    /// What it begins with.
     top: PartTop,
+    /// The whole tree.
     tree: GuardTree,
 }
 
 /// A question on parts, by their numbers.
 #[derive(Clone, Copy, Debug, PartialEq, Eq)]
 pub enum Ask {
-    /// The tree that has the activation where a source is active and a test passes.
+    /// The part that has the activation in the outcomes in which a source is active and a test passes.
     Live {
+        /// How the answer is active in those outcomes.
         activation: Activation,
+        /// The test to pass, if there is one.
         test: Option<ValueTest>,
+        /// The part of the source.
         source: usize,
     },
-    /// The tree of two that are walked down together.
+    /// The part in which two meet: the first in the outcomes in which it settles the matter, and the second in all others.
     Met {
+        /// Whether it is for a join, which an active leaf settles; other processes are settled by an inactive one.
         join: bool,
+        /// The part that may settle the matter.
         first: usize,
+        /// The other part.
         second: usize,
     },
-    /// Whether two are never active at once.
+    /// Whether two parts are never active at once. It is kept only if they aren't.
     Apart {
+        /// One part.
         first: usize,
+        /// The other part.
         second: usize,
     },
 }
 
-/// A question, and the number of the part that is the answer, if a part is.
+/// A question, and the number of the part that is the answer. For `Apart` the number means nothing.
 #[derive(Clone, Copy, Debug, PartialEq, Eq)]
 pub struct KnownPart {
+    /// The question.
     ask: Ask,
+    /// The number of the part.
     answer: usize,
 }
 
-/// All parts, with the ranks of the conditions. What is known has places by what is asked; something else may take the
-/// place, and then it is found again.
+/// All parts by number, the ranks of the conditions, and what is known. Known answers, and the numbers of parts by their
+/// tops, have places by a hash. Another may take a place; then the answer, or the part, is made again.
 #[derive(Drop)]
 pub struct SharedParts {
+    /// The rank of each condition: the place of its process in the urgency order.
     ranks: Vec<u32>,
+    /// All parts, by number.
     parts: Vec<SharedPart>,
+    /// Under the hash of a question an answer, maybe to another question.
     known: Vec<Option<KnownPart>>,
+    /// Under the hash of a top the number of a part, maybe with another top.
     places: Vec<usize>,
 }
 
@@ -86,7 +108,8 @@ impl Model for SharedParts {
     ghost invariant = { λ p. IsSharing (record { ranks = p.ranks.items; parts = p.parts.items; known = p.known.items }) };
 }
 
-/// Whether two tests are equal.
+/// Whether two tests are equal, also if both are missing. The contract says only that true is right, which is enough: after
+/// a wrong false a part would just be made again. The same goes for tops and questions.
 fn are_same_tests(a: Option<ValueTest>, b: Option<ValueTest>) -> bool
     ensures { result ≡ true → a ≡ b }
 {
@@ -111,10 +134,10 @@ fn are_same_tops(a: PartTop, b: PartTop) -> bool
         PartTop::Test { condition, no, yes } => match b {
             PartTop::Leaf(_) => false,
             PartTop::Test {
-                condition: tested,
-                no: low,
-                yes: high,
-            } => condition == tested && no == low && yes == high,
+                condition: other_condition,
+                no: other_no,
+                yes: other_yes,
+            } => condition == other_condition && no == other_no && yes == other_yes,
         },
     }
 }
@@ -130,10 +153,12 @@ fn are_same_asks(a: Ask, b: Ask) -> bool
             source,
         } => match b {
             Ask::Live {
-                activation: other,
-                test: wanted,
-                source: from,
-            } => are_same(activation, other) && are_same_tests(test, wanted) && source == from,
+                activation: other_activation,
+                test: other_test,
+                source: other_source,
+            } => are_same(activation, other_activation)
+                && are_same_tests(test, other_test)
+                && source == other_source,
             _ => false,
         },
         Ask::Met {
@@ -142,24 +167,24 @@ fn are_same_asks(a: Ask, b: Ask) -> bool
             second,
         } => match b {
             Ask::Met {
-                join: other,
-                first: low,
-                second: high,
-            } => join == other && first == low && second == high,
+                join: other_join,
+                first: other_first,
+                second: other_second,
+            } => join == other_join && first == other_first && second == other_second,
             _ => false,
         },
         Ask::Apart { first, second } => match b {
             Ask::Apart {
-                first: low,
-                second: high,
-            } => first == low && second == high,
+                first: other_first,
+                second: other_second,
+            } => first == other_first && second == other_second,
             _ => false,
         },
     }
 }
 
-/// A place for three numbers, among as many as there are: each number is spread over all bits (by 2^64 over the
-/// golden ratio), and the high bits count.
+/// Returns a place below `count` for three numbers, and 0 if `count` is 0. Each number is spread over all bits by a factor
+/// (2^64 divided by the golden ratio), and the high bits count, since they depend on all three.
 fn hashed_place(first: usize, second: usize, third: usize, count: usize) -> usize {
     let mixed = first
         .wrapping_mul(0x9E37_79B9_7F4A_7C15)
@@ -170,7 +195,7 @@ fn hashed_place(first: usize, second: usize, third: usize, count: usize) -> usiz
     if count == 0 { 0 } else { (mixed >> 32) % count }
 }
 
-/// A number for an activation.
+/// Returns a number for an activation, to be hashed. Two may have the same one, so `found` and `answer` compare again.
 fn number_of(activation: Activation) -> usize {
     match activation {
         Activation::Inactive => 0,
@@ -180,11 +205,11 @@ fn number_of(activation: Activation) -> usize {
 }
 
 impl SharedParts {
-    /// No parts yet.
+    /// Returns an empty collection of shared parts. `ranks` are the ranks of the conditions, by number.
     pub fn new(alloc: Global, ranks: Vec<u32>) -> Result<SharedParts, OutOfMemory>
         ensures ranks { IfOk result (λ parts. parts.ranks ≡ ranks.items) }
     {
-        // 64 places, doubled for each condition up to six: at most 4,096
+        // few conditions make few parts: 64 places, doubled for each condition up to the sixth, so at most 4,096
         let count = 64usize << ranks.len().min(6);
         let known = vec![in alloc; None; count]?;
         let places = vec![in alloc; 0usize; count]?;
@@ -196,7 +221,7 @@ impl SharedParts {
         })
     }
 
-    /// The top of a part.
+    /// Returns the top of a part.
     fn top(&self, part: usize) -> PartTop
         requires { part < length self.now.parts }
         ensures { IsTop self.now.parts result (tree_at self.now.parts part) }
@@ -204,7 +229,7 @@ impl SharedParts {
         self.parts[part].top
     }
 
-    /// The tree of a part.
+    /// Returns a copy of the tree of a part.
     pub fn tree(&self, part: usize) -> Result<GuardTree, OutOfMemory>
         requires { part < length self.now.parts }
         ensures { IfOk result (λ tree. tree ≡ tree_at self.now.parts part) }
@@ -230,21 +255,24 @@ impl SharedParts {
             PartTop::Test { condition, no, yes } => match self.top(second) {
                 PartTop::Leaf(_) => false,
                 PartTop::Test {
-                    condition: tested,
-                    no: low,
-                    yes: high,
-                } => condition == tested && self.are_equal(no, low) && self.are_equal(yes, high),
+                    condition: other_condition,
+                    no: other_no,
+                    yes: other_yes,
+                } => condition == other_condition
+                    && self.are_equal(no, other_no)
+                    && self.are_equal(yes, other_yes),
             },
         }
     }
 
-    /// The part at a place, if its top is this one.
+    /// Returns the part whose number is at a place if its top is this one, and otherwise `None`.
     fn found(&self, place: usize, top: PartTop) -> Option<usize>
         ensures within { IfSome result (λ n. n < length self.now.parts) }
+        // a part that is found has this top
         ensures top { IfSome result (λ n. IsTop self.now.parts top (tree_at self.now.parts n)) }
     {
         let number = *self.places.get(place)?;
-        // no part has this number: the place hasn't been set yet
+        // a place that hasn't been set has 0, which is no part before the first is made; later, part 0 is compared like others
         if number >= self.parts.len() {
             return None;
         }
@@ -255,21 +283,21 @@ impl SharedParts {
         }
     }
 
-    /// Adds a part, whose number has the place.
+    /// Adds a part with this top and tree, puts its number at the place, and returns the number.
     fn push(&mut self, place: usize, top: PartTop, tree: GuardTree) -> Result<usize, OutOfMemory>
         requires { IsTop self.old.parts top tree }
         ensures { IfOk result (Makes self.old self.new tree) }
     {
         let number = self.parts.len();
         self.parts.push(SharedPart { top, tree })?;
-        // a part without a place works too: it is made again when it is asked for
+        // a part without a place is right too: it is only made again when it is asked for
         if place < self.places.len() {
             self.places[place] = number;
         }
         Ok(number)
     }
 
-    /// The answer that is known at a place.
+    /// Returns the answer that is known at a place, and `None` if there is none.
     fn known_at(&self, place: usize) -> Option<KnownPart>
         ensures { IsKnown self.now.ranks self.now.parts result }
     {
@@ -279,7 +307,7 @@ impl SharedParts {
         }
     }
 
-    /// The answer to a question at a place, if it is there.
+    /// Returns the answer to a question that is known at a place, and `None` if none is or it answers another question.
     fn answer(&self, place: usize, ask: Ask) -> Option<usize>
         ensures { IfSome result (IsAnswer self.now.ranks self.now.parts ask) }
     {
@@ -297,13 +325,13 @@ impl SharedParts {
         ensures parts { self.new.parts ≡ self.old.parts }
         ensures ranks { self.new.ranks ≡ self.old.ranks }
     {
-        // an answer without a place is found again when it is asked for
+        // an answer without a place is right too: it is only found again when it is asked for
         if place < self.known.len() {
             self.known[place] = Some(KnownPart { ask, answer });
         }
     }
 
-    /// The part that is a leaf.
+    /// Returns the part that is a leaf with this activation.
     pub fn leaf(&mut self, alloc: Global, activation: Activation) -> Result<usize, OutOfMemory>
         ensures { IfOk result (Makes self.old self.new (Leaf activation)) }
     {
@@ -318,7 +346,7 @@ impl SharedParts {
         Ok(made)
     }
 
-    /// The part that is a test.
+    /// Returns the part that tests a condition, with these parts as its sides for false and for true.
     fn test(
         &mut self,
         alloc: Global,
@@ -343,7 +371,7 @@ impl SharedParts {
         Ok(made)
     }
 
-    /// The part that is a test, or the one part if both have equal trees.
+    /// Returns the part that tests a condition, with these parts as its sides; if both have equal trees, the first of them.
     fn tested(
         &mut self,
         alloc: Global,
@@ -363,7 +391,7 @@ impl SharedParts {
         Ok(made)
     }
 
-    /// The part that has the activation where a test passes.
+    /// Returns the part that has the activation in the outcomes in which a test passes, and is inactive in all others.
     fn passing(
         &mut self,
         alloc: Global,
@@ -379,7 +407,7 @@ impl SharedParts {
         };
         let live = self.leaf(alloc, activation)?;
         let other = self.leaf(alloc, Activation::Inactive)?;
-        // the activation stands on the side of the value that the test asks for
+        // the activation is on the side of the value that the test asks for
         if test.value {
             let made = self.tested(alloc, test.condition, other, live)?;
             return Ok(made);
@@ -388,7 +416,8 @@ impl SharedParts {
         Ok(made)
     }
 
-    /// The part that has the activation where the source is active and the test passes.
+    /// Returns the part that has the activation in the outcomes in which the source is active and the test passes, and is
+    /// inactive in all others.
     pub fn live(
         &mut self,
         alloc: Global,
@@ -397,16 +426,17 @@ impl SharedParts {
         source: usize,
     ) -> Result<usize, OutOfMemory>
         requires { source < length self.old.parts }
+        // the part that is made has the tree of an input, by that of its source
         ensures { IfOk result (Makes self.old self.new (live_tree activation test (tree_at self.old.parts source))) }
     {
         match self.top(source) {
             PartTop::Leaf(found) => {
-                // an active source: the input is live as soon as the test passes
+                // the source is active: only the test decides
                 if found.is_active() {
                     let made = self.passing(alloc, activation, test)?;
                     return Ok(made);
                 }
-                // an inactive source: no input
+                // the source is inactive, and so the input isn't live
                 let leaf = self.leaf(alloc, Activation::Inactive)?;
                 Ok(leaf)
             }
@@ -416,12 +446,13 @@ impl SharedParts {
                     test,
                     source,
                 };
+                // the last number tells the kind of question: 0 and 1 are `Met`, 2 is `Apart`, and 3 is this one
                 let place = hashed_place(source, number_of(activation), 3, self.known.len());
                 // the same question was asked before, and its answer hasn't been overwritten
                 if let Some(answer) = self.answer(place, ask) {
                     return Ok(answer);
                 }
-                // the source is a fork: its sides are taken one by one
+                // the source tests a condition: both its sides are taken
                 let low = self.live(alloc, activation, test, no)?;
                 let high = self.live(alloc, activation, test, yes)?;
                 let made = self.tested(alloc, condition, low, high)?;
@@ -431,7 +462,8 @@ impl SharedParts {
         }
     }
 
-    /// The test of both ways at a condition.
+    /// Returns the part that tests a condition and goes on with what each pair of parts meets in: `no` is the pair for false,
+    /// `yes` that for true.
     #[cycle(meeting)]
     fn both(
         &mut self,
@@ -446,14 +478,13 @@ impl SharedParts {
         // the part that is made has a test of the condition over what the two pairs meet in
         ensures { IfOk result (Makes self.old self.new (tested condition (met_of join self.old no.0 no.1) (met_of join self.old yes.0 yes.1))) }
     {
-        // `no` and `yes` are the two parts to meet if the condition is false, and if it is true
         let low = self.met(alloc, join, no.0, no.1)?;
         let high = self.met(alloc, join, yes.0, yes.1)?;
         let made = self.tested(alloc, condition, low, high)?;
         Ok(made)
     }
 
-    /// The same part as `met`, if it isn't known yet.
+    /// Returns the same part as `met`, without looking whether it is known.
     #[cycle(meeting)]
     fn walked(
         &mut self,
@@ -467,7 +498,7 @@ impl SharedParts {
     {
         match self.top(first) {
             PartTop::Leaf(found) => {
-                // the first is a leaf: either it decides, or the second does
+                // a leaf of the first part either settles the matter, or leaves it to the second
                 if settles(join, found) {
                     Ok(first)
                 } else {
@@ -475,29 +506,38 @@ impl SharedParts {
                 }
             }
             PartTop::Test { condition, no, yes } => match self.top(second) {
-                // only the first is a fork: the second goes with each of its sides
+                // only the first tests a condition: the second meets both its sides
                 PartTop::Leaf(_) => self.both(alloc, join, condition, (no, second), (yes, second)),
                 PartTop::Test {
-                    condition: other,
-                    no: low,
-                    yes: high,
+                    condition: other_condition,
+                    no: other_no,
+                    yes: other_yes,
                 } => {
                     // both test the same condition: their sides meet
-                    if condition == other {
-                        return self.both(alloc, join, condition, (no, low), (yes, high));
+                    if condition == other_condition {
+                        return self.both(alloc, join, condition, (no, other_no), (yes, other_yes));
                     }
-                    // the second tests an earlier condition: its test comes first, and the first goes with both sides
-                    if rank(self.ranks.as_slice(), other) < rank(self.ranks.as_slice(), condition) {
-                        return self.both(alloc, join, other, (first, low), (first, high));
+                    // the second tests an earlier condition: its test comes first, and the first meets both its sides
+                    if rank(self.ranks.as_slice(), other_condition)
+                        < rank(self.ranks.as_slice(), condition)
+                    {
+                        return self.both(
+                            alloc,
+                            join,
+                            other_condition,
+                            (first, other_no),
+                            (first, other_yes),
+                        );
                     }
-                    // the first tests an earlier condition: its test comes first, and the second goes with both sides
+                    // the first tests an earlier condition: its test comes first, and the second meets both its sides
                     self.both(alloc, join, condition, (no, second), (yes, second))
                 }
             },
         }
     }
 
-    /// The first part if it settles the matter, or else the second. Both are walked down together, by rank.
+    /// Returns the part that has the leaf of the first in the outcomes in which this settles the matter, and otherwise the
+    /// leaf of the second. Both are walked down together, tests of lower ranks first.
     #[cycle(meeting)]
     pub fn met(
         &mut self,
@@ -515,6 +555,7 @@ impl SharedParts {
             second,
         };
         let place = hashed_place(first, second, usize::from(join), self.known.len());
+        // the same question was asked before, and its answer hasn't been overwritten
         if let Some(answer) = self.answer(place, ask) {
             return Ok(answer);
         }
@@ -539,7 +580,7 @@ impl SharedParts {
         }
     }
 
-    /// Whether one of two pairs is active at once in some outcome.
+    /// Whether the two parts of `no`, or the two parts of `yes`, are active at once in some outcome.
     #[cycle(living)]
     fn is_either_live(&mut self, no: (usize, usize), yes: (usize, usize)) -> bool
         requires no { ArePairWithin self.old.parts no.0 no.1 }
@@ -554,7 +595,7 @@ impl SharedParts {
         self.are_both_live(yes.0, yes.1)
     }
 
-    /// The same answer as `are_both_live`, if it isn't known yet.
+    /// Returns the same as `are_both_live`, without looking whether it is known.
     #[cycle(living)]
     fn are_found_live(&mut self, first: usize, second: usize) -> bool
         requires { ArePairWithin self.old.parts first second }
@@ -564,7 +605,7 @@ impl SharedParts {
     {
         match self.top(first) {
             PartTop::Leaf(found) => {
-                // the first is active in every outcome, so the second decides
+                // an active leaf is so in every outcome, and then the second decides; an inactive one never is
                 if found.is_active() {
                     return self.is_live_somewhere(second);
                 }
@@ -572,32 +613,36 @@ impl SharedParts {
             }
             PartTop::Test { condition, no, yes } => match self.top(second) {
                 PartTop::Leaf(found) => {
-                    // the second is active in every outcome, so the sides of the first decide: each is asked with it
+                    // the second is active in every outcome: each side of the first is asked with it
                     if found.is_active() {
                         return self.is_either_live((no, second), (yes, second));
                     }
+                    // the second is active in no outcome
                     false
                 }
                 PartTop::Test {
-                    condition: other,
-                    no: low,
-                    yes: high,
+                    condition: other_condition,
+                    no: other_no,
+                    yes: other_yes,
                 } => {
                     // both test the same condition: their sides are asked in pairs
-                    if condition == other {
-                        return self.is_either_live((no, low), (yes, high));
+                    if condition == other_condition {
+                        return self.is_either_live((no, other_no), (yes, other_yes));
                     }
-                    // the second tests an earlier condition, so its sides come first
-                    if rank(self.ranks.as_slice(), other) < rank(self.ranks.as_slice(), condition) {
-                        return self.is_either_live((first, low), (first, high));
+                    // the second tests an earlier condition: both its sides are asked with the first
+                    if rank(self.ranks.as_slice(), other_condition)
+                        < rank(self.ranks.as_slice(), condition)
+                    {
+                        return self.is_either_live((first, other_no), (first, other_yes));
                     }
+                    // the first tests an earlier condition: both its sides are asked with the second
                     self.is_either_live((no, second), (yes, second))
                 }
             },
         }
     }
 
-    /// Whether two parts are active at once in some outcome: both are walked down together, by rank.
+    /// Whether two parts are active at once in some outcome. Both are walked down together, tests of lower ranks first.
     #[cycle(living)]
     pub fn are_both_live(&mut self, first: usize, second: usize) -> bool
         requires { ArePairWithin self.old.parts first second }
@@ -607,12 +652,12 @@ impl SharedParts {
     {
         let ask = Ask::Apart { first, second };
         let place = hashed_place(first, second, 2, self.known.len());
-        // only the answer no is kept: an answer that is there says that they are never active at once
+        // only "never at once" is kept, so an answer that is there says that
         if self.answer(place, ask).is_some() {
             return false;
         }
         let live = self.are_found_live(first, second);
-        // the place of the answer has no number to hold, so it holds that of the first part
+        // the answer needs no part: the number of the first fills its field
         if !live {
             self.keep(place, ask, first);
         }

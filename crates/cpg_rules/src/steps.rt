@@ -12,24 +12,31 @@ use cpg_base::{Activation, Order, OutOfMemory, Problem};
 use std::alloc::Global;
 use std::marker::Model;
 
-/// How the processes so far stand, by process number: `None` if one is inactive, and else the value of its condition,
-/// false if it has none.
+/// How the processes so far stand, by process number, of which there are at most 128: `None` if a process is inactive or
+/// comes later, and otherwise the value of its condition, false if it has none.
 pub type Standings = [Option<bool>; 128];
 
 /// An input of a process.
 #[derive(Clone, Copy, Debug, PartialEq, Eq)]
 pub struct Input {
+    /// The number of the edge.
     pub edge: u32,
+    /// The process that it leads away from.
     pub source: u32,
+    /// The value of the source's condition for which it is live; `None` if it is live whenever its source is active.
     pub when: Option<bool>,
 }
 
-/// A process and the inputs that its activation rests on.
+/// A process with what says how it is active: whether it is a join, its inputs, and its condition, if it has one.
 #[derive(Drop)]
 pub struct ActivationStep {
+    /// The number of the process.
     process: u32,
+    /// Whether it is a join.
     join: bool,
+    /// Its inputs, by edge number.
     inputs: Vec<Input>,
+    /// The number of its condition, if it has one.
     condition: Option<u32>,
 }
 
@@ -42,7 +49,7 @@ impl Model for ActivationStep {
 }
 
 impl Input {
-    /// Whether the input is live.
+    /// Whether the input is live, by the standing of its source.
     fn is_live(&self, standings: &[Option<bool>]) -> bool
         requires { self.now.source < length standings.now }
         ensures { result ≡ is_live_in standings.now self.now }
@@ -60,7 +67,7 @@ impl Input {
     }
 }
 
-/// The activation of a join with these inputs.
+/// Returns how a join with these inputs is active: by the first that is live, or not at all.
 fn first_live(inputs: &[Input], standings: &[Option<bool>]) -> Activation
     requires { All (λ input. input.source < length standings.now) inputs.now }
     ensures { result ≡ first_live standings.now inputs.now }
@@ -73,7 +80,7 @@ fn first_live(inputs: &[Input], standings: &[Option<bool>]) -> Activation
     Activation::Inactive
 }
 
-/// Whether all inputs are live.
+/// Whether all these inputs are live, by the standings of their sources.
 fn are_live(inputs: &[Input], standings: &[Option<bool>]) -> bool
     requires { All (λ input. input.source < length standings.now) inputs.now }
     ensures { result ≡ list_all (is_live_in standings.now) inputs.now }
@@ -87,14 +94,14 @@ fn are_live(inputs: &[Input], standings: &[Option<bool>]) -> bool
 }
 
 impl ActivationStep {
-    /// The number of the process.
+    /// Returns the number of the process.
     pub fn process(&self) -> u32
         ensures { result ≡ self.now.process }
     {
         self.process
     }
 
-    /// The number of its condition, if it has one.
+    /// Returns the number of the process's condition, and `None` if it has none.
     pub fn condition(&self) -> Option<u32>
         ensures { result ≡ self.now.condition }
     {
@@ -108,7 +115,7 @@ impl ActivationStep {
         self.join
     }
 
-    /// Its inputs, by edge number.
+    /// Returns the inputs of the process, by edge number.
     pub fn inputs(&self) -> &[Input]
         ensures { result.now ≡ self.now.inputs }
     {
@@ -122,7 +129,7 @@ impl ActivationStep {
         self.inputs.iter().any(|input| input.source == process)
     }
 
-    /// A copy of the step.
+    /// Returns a copy of the step.
     fn copy(&self) -> Result<ActivationStep, OutOfMemory>
         ensures { IfOk result (λ step. step ≡ self.now) }
     {
@@ -134,7 +141,7 @@ impl ActivationStep {
         })
     }
 
-    /// The standings, if two of the inputs are live by them.
+    /// Returns the standings if at least two of the inputs are live by them, and otherwise `None`.
     pub fn two_live(&self, standings: Standings) -> Option<Standings>
         requires { All (λ input. input.source < 128) self.now.inputs }
         ensures { result ≡ (if are_two_live standings self.now.inputs then Some standings else None) }
@@ -146,7 +153,7 @@ impl ActivationStep {
         }
     }
 
-    /// How the process is active.
+    /// Returns how the process is active, by the standings of its sources.
     pub fn activation(&self, standings: &[Option<bool>]) -> Activation
         requires { All (λ input. input.source < length standings.now) self.now.inputs }
         ensures { result ≡ activation_in standings.now self.now }
@@ -169,7 +176,7 @@ impl ActivationStep {
     }
 }
 
-/// Whether two inputs or more are live.
+/// Whether at least two of these inputs are live, by the standings of their sources.
 fn are_two_live(inputs: &[Input], standings: &[Option<bool>]) -> bool
     requires { All (λ input. input.source < length standings.now) inputs.now }
     ensures { result ≡ are_two_live standings.now inputs.now }
@@ -181,7 +188,7 @@ fn are_two_live(inputs: &[Input], standings: &[Option<bool>]) -> bool
         > 1
 }
 
-/// The inputs of a process, by edge number.
+/// Returns the inputs of a process, by edge number.
 pub fn inputs_of(alloc: Global, problem: &Problem, process: u32) -> Result<Vec<Input>, OutOfMemory>
     ensures { IfOk result (λ found. found.items ≡ map (input_of problem.now) (inputs problem.now process)) }
 {
@@ -199,7 +206,7 @@ pub fn inputs_of(alloc: Global, problem: &Problem, process: u32) -> Result<Vec<I
     Ok(found)
 }
 
-/// The step of a process.
+/// Returns the step of a process of the graph.
 fn step_of(alloc: Global, problem: &Problem, process: u32) -> Result<ActivationStep, OutOfMemory>
     requires { process < process_count problem.now }
     ensures { IfOk result (λ step. step ≡ step_of problem.now process) }
@@ -212,7 +219,7 @@ fn step_of(alloc: Global, problem: &Problem, process: u32) -> Result<ActivationS
     })
 }
 
-/// The steps of all processes, in the order.
+/// Returns the steps of all processes, in this order.
 pub fn steps_of(
     alloc: Global,
     problem: &Problem,
@@ -230,12 +237,12 @@ pub fn steps_of(
     Ok(steps)
 }
 
-/// The aim of a walk along steps.
+/// What a walk along steps is for.
 #[derive(Clone, Copy, Debug, PartialEq, Eq)]
 pub enum Aim {
-    /// How the inputs of a process are live.
+    /// How the inputs of this process are live.
     Process(u32),
-    /// Which conditions are chosen.
+    /// Which conditions have a choice.
     Conditions,
 }
 
@@ -266,11 +273,11 @@ fn is_rested(aim: Aim, step: &ActivationStep, later: &[ActivationStep]) -> bool
     if is_aim(aim, step) {
         return true;
     }
-    // else the walk rests on it only if a later step takes an input from it
+    // otherwise only if a later step, on which the walk rests, has an input from it
     are_reading(later, step.process)
 }
 
-/// The steps among these that a walk rests on.
+/// Returns the steps among these that a walk rests on, in the same order.
 pub fn rested(
     alloc: Global,
     aim: Aim,
@@ -278,12 +285,11 @@ pub fn rested(
 ) -> Result<Vec<ActivationStep>, OutOfMemory>
     ensures { IfOk result (λ kept. kept.items ≡ rested aim steps.now) }
 {
-    // behind the last step there is nothing
-    let Some((step, left)) = steps.split_first() else {
+    let Some((step, rest)) = steps.split_first() else {
         return Ok(Vec::new(alloc));
     };
     // later steps first: whether this one is kept depends on those kept behind it
-    let mut kept = rested(alloc, aim, left)?;
+    let mut kept = rested(alloc, aim, rest)?;
     if is_rested(aim, step, kept.as_slice()) {
         kept.insert(0, step.copy()?)?;
     }

@@ -1,4 +1,4 @@
-//! Trees of tests.
+//! Guard trees: tests of conditions, down to how a process is active.
 ghost use Rattle.std.specs.Prelude.{◌≡◌, ◌++◌, IfOk, OnOk, length};
 ghost use Rattle.cpg_order.specs.Guard.{Leaf, Test, outcome_at, way};
 ghost use Rattle.cpg_base.specs.Activity.{same_activation};
@@ -10,22 +10,28 @@ use std::alloc::Global;
 use std::marker::Model;
 use std::rc::Rc;
 
-/// How a process is active, by tests of conditions in urgency order: seen as a leaf with an activation, or as a test of
-/// a condition with the trees for false and for true.
+/// How a process is active, by tests of conditions: seen as a leaf with an activation, or as a test of a condition with
+/// the trees for false and for true.
 #[cycle(guard)]
 #[derive(Drop)]
 pub struct GuardTree {
+    /// The top, with all below it.
     node: Rc<GuardNode>,
 }
 
-// A node is shared by all trees that have it, so that a copy of a tree takes no time.
+// The top of a tree. It is shared by all trees that have it, so a copy of a tree copies one pointer.
 #[cycle(guard)]
 #[derive(Drop)]
 enum GuardNode {
+    /// How the process is active.
     Leaf(Activation),
+    /// A test of a condition.
     Test {
+        /// The number of the condition.
         condition: u32,
+        /// The tree if it is false.
         no: GuardTree,
+        /// The tree if it is true.
         yes: GuardTree,
     },
 }
@@ -50,9 +56,9 @@ impl Model for GuardTree {
     ghost size_decreases = { λ a h. deep_le-size a.node.value };
 }
 
-/// The top of a tree.
+/// The top of a tree, lent.
 pub enum GuardTop<'a> {
-    /// The process is active in this way.
+    /// A leaf: the process is active in this way.
     Leaf(Activation),
     /// A test of a condition, with the trees for its values.
     Test {
@@ -72,15 +78,15 @@ pub fn are_same(a: Activation, b: Activation) -> bool
     match a {
         Activation::Inactive => matches!(b, Activation::Inactive),
         Activation::Plain => matches!(b, Activation::Plain),
-        Activation::By(e) => match b {
-            Activation::By(f) => e == f,
+        Activation::By(edge) => match b {
+            Activation::By(other) => edge == other,
             _ => false,
         },
     }
 }
 
 impl GuardTree {
-    /// No test: the process is active in this way.
+    /// Returns the tree without tests: the process is active in this way in every outcome.
     pub(crate) fn leaf(alloc: Global, activation: Activation) -> Result<GuardTree, OutOfMemory>
         ensures { IfOk result (λ tree. tree ≡ Leaf activation) }
     {
@@ -88,7 +94,7 @@ impl GuardTree {
         Ok(GuardTree { node })
     }
 
-    /// A copy of the tree.
+    /// Returns a copy of the tree.
     pub(crate) fn copy(&self) -> Result<GuardTree, OutOfMemory>
         ensures { IfOk result (λ tree. tree ≡ self.now) }
     {
@@ -96,7 +102,7 @@ impl GuardTree {
         Ok(GuardTree { node })
     }
 
-    /// A test of a condition.
+    /// Returns the tree that tests a condition and goes on with `no` if it is false, and with `yes` if it is true.
     pub(crate) fn test(
         alloc: Global,
         condition: u32,
@@ -109,7 +115,7 @@ impl GuardTree {
         Ok(GuardTree { node })
     }
 
-    /// How the process is active in a scenario.
+    /// Returns how the process is active in a scenario.
     pub fn at(&self, scenario: &Scenario) -> Activation
         requires { TestsBelow (length scenario.now.values) self.now }
         ensures { result ≡ outcome_at self.now scenario.now.values }
@@ -126,7 +132,7 @@ impl GuardTree {
         }
     }
 
-    /// The activation of a leaf, or a test's condition and its trees.
+    /// Returns the activation of a leaf, or a test's condition and its two trees.
     pub fn top(&self) -> GuardTop<'_>
         ensures { ShowsTop result self.now }
     {
@@ -140,7 +146,7 @@ impl GuardTree {
         }
     }
 
-    /// Adds the conditions that are tested on a scenario's way, in their order.
+    /// Adds the conditions that are tested on a scenario's way down the tree to the end of `tests`, the first first.
     pub(crate) fn push_way(
         &self,
         scenario: &Scenario,
@@ -150,6 +156,7 @@ impl GuardTree {
         ensures { OnOk result (tests.new.items ≡ tests.old.items ++ way self.now scenario.now.values) }
     {
         match self.node.as_ref() {
+            // a leaf tests nothing more
             GuardNode::Leaf(_) => Ok(()),
             GuardNode::Test { condition, no, yes } => {
                 tests.push(*condition)?;

@@ -9,10 +9,10 @@ use cpg_base::{MOST_COLUMNS, Variable};
 use cpg_cube::{Column, Literal};
 use cpg_head::{Head, TIME_END, condition_count};
 
-/// The variables that there are under a head.
+/// The variables that there are under a head: a fault count for each process, and a value for each condition.
 #[derive(Clone, Copy, Debug)]
 pub struct VariableSpace {
-    /// The greatest fault count.
+    /// The most faults, and so the greatest number of a fault count.
     pub faults: u8,
     /// How many processes there are.
     pub processes: u32,
@@ -20,7 +20,7 @@ pub struct VariableSpace {
     pub conditions: u32,
 }
 
-/// The variables that there are under a head.
+/// Returns the variables that there are under a head.
 pub fn space_of(head: &Head) -> VariableSpace
     ensures { result ≡ space_of head.now }
 {
@@ -31,28 +31,30 @@ pub fn space_of(head: &Head) -> VariableSpace
     }
 }
 
-/// Whether a literal is a part of the fault counts of a process, and not all of them.
+/// Returns whether a literal is on a fault count, with a range that has some of its numbers, but not all.
 fn is_count(space: VariableSpace, literal: Literal) -> bool
     ensures { IsTrue result ↔ IsCountLiteral space literal }
 {
+    // `&` and `|`, unlike `&&` and `||`, don't branch
     let known = u32::from(literal.variable) < space.processes;
     let within = (literal.low <= literal.high) & (literal.high <= space.faults);
     let part = (literal.high < space.faults) | (literal.low > 0);
     known & within & part
 }
 
-/// Whether each literal is such a part. The loop never ends early, as the compiler makes fast code of such loops.
+/// Returns whether each literal is a lawful one on a fault count; `true` guarantees it. The loop never ends early, so that
+/// the compiler can test several at once.
 fn are_counts(space: VariableSpace, literals: &[Literal]) -> bool
     ensures { OnTrue result (All (IsCountLiteral space) literals.now) }
 {
-    let mut are = true;
+    let mut all_counts = true;
     for literal in literals {
-        are &= is_count(space, *literal);
+        all_counts &= is_count(space, *literal);
     }
-    are
+    all_counts
 }
 
-/// Whether a literal is one value of a condition.
+/// Returns whether a literal is on the value of a condition, with a range of one value.
 fn is_value(space: VariableSpace, literal: Literal) -> bool
     ensures { IsTrue result ↔ IsValueLiteral space literal }
 {
@@ -65,14 +67,14 @@ fn is_value(space: VariableSpace, literal: Literal) -> bool
     literal.low == literal.high && literal.high <= 1
 }
 
-/// Whether a literal is lawful.
+/// Returns whether a literal is lawful.
 fn is_literal(space: VariableSpace, literal: Literal) -> bool
     ensures { IsTrue result ↔ IsLawfulLiteral space literal }
 {
     is_count(space, literal) || is_value(space, literal)
 }
 
-/// Whether literals are lawful.
+/// Returns whether all literals are lawful.
 fn are_literals(space: VariableSpace, literals: &[Literal]) -> bool
     ensures { IsTrue result ↔ All (IsLawfulLiteral space) literals.now }
 {
@@ -83,21 +85,22 @@ fn are_literals(space: VariableSpace, literals: &[Literal]) -> bool
     literals.iter().all(|literal| is_literal(space, *literal))
 }
 
-/// Whether a column is lawful.
+/// Returns whether a column is lawful: its time is below 2^60, and its literals are lawful. Its variables rise, as those of
+/// every cube do.
 fn is_column(space: VariableSpace, column: &Column) -> bool
     ensures { IsTrue result ↔ IsLawfulColumn space column.now }
 {
     column.time < TIME_END && are_literals(space, column.cube.literals())
 }
 
-/// Whether columns are lawful.
+/// Returns whether all columns are lawful.
 fn are_columns(space: VariableSpace, columns: &[Column]) -> bool
     ensures { IsTrue result ↔ All (IsLawfulColumn space) columns.now }
 {
     columns.iter().all(|column| is_column(space, column))
 }
 
-/// Whether a row is lawful.
+/// Returns whether a row is lawful: it has at most `MOST_COLUMNS` columns, and each is lawful.
 pub fn is_row(space: VariableSpace, row: &Row) -> bool
     ensures { IsTrue result ↔ IsLawfulRow space row.now }
 {
@@ -105,7 +108,7 @@ pub fn is_row(space: VariableSpace, row: &Row) -> bool
     columns.len() as u64 <= MOST_COLUMNS && are_columns(space, columns)
 }
 
-/// Whether rows are lawful.
+/// Returns whether all rows are lawful.
 pub fn are_rows(space: VariableSpace, rows: &[Row]) -> bool
     ensures { IsTrue result ↔ All (IsLawfulRow space) rows.now }
 {

@@ -19,9 +19,10 @@ use cpg_rules::{Admitted, GuardTrees};
 use std::alloc::Global;
 use std::marker::Model;
 
-/// When the processes of a track start, in time units, seen as a start or `None` for each process.
+/// When the processes of a track start, in time units, seen as a start or `None` for each process, by number.
 #[derive(Drop)]
 pub struct Starts {
+    /// By process number, the start, or `None` if the process has none.
     starts: Vec<Option<u64>>,
 }
 
@@ -34,7 +35,8 @@ impl Model for Starts {
 }
 
 impl Starts {
-    /// The start of a process, in time units; `None` exactly if it is inactive in the track, or there is no such process.
+    /// Returns the start of a process, in time units; `None` exactly if it is inactive in the track, or there is no such
+    /// process.
     pub fn start_of(&self, process: u32) -> Option<u64>
         ensures { result ≡ get_or self.now process None }
     {
@@ -45,21 +47,25 @@ impl Starts {
     }
 }
 
-/// A process that can be placed, and when it is ready, in time units.
+/// A process that can be placed next: it is active and unplaced, and the sources of its live inputs are placed.
 #[derive(Clone, Copy, Debug, PartialEq, Eq)]
 pub(crate) struct FedProcess {
+    /// The number of the process.
     pub(crate) process: u32,
+    /// When it is ready, in time units: after its release, and when its live inputs are there.
     pub(crate) ready: u64,
 }
 
-/// A process that can be placed, and when it would start, in time units.
+/// A process that can be placed next, and when it would start.
 #[derive(Clone, Copy, Debug, PartialEq, Eq)]
 pub(crate) struct Candidate {
+    /// The number of the process.
     pub(crate) process: u32,
+    /// When it would start, in time units: once it is ready and its node is free.
     pub(crate) start: u64,
 }
 
-/// When an input is there; `None` exactly if its source isn't placed.
+/// Returns when an input is there if all k faults strike its source, and `None` exactly if its source isn't placed.
 fn input_time(
     problem: &Problem,
     timing: &Timing<'_>,
@@ -84,7 +90,7 @@ fn input_time(
     Some(end)
 }
 
-/// When an active process is ready; `None` exactly if it is placed, or the source of a live input isn't.
+/// Returns when an active process is ready; `None` exactly if it is placed already, or the source of a live input isn't.
 fn ready_time(
     problem: &Problem,
     timing: &Timing<'_>,
@@ -95,6 +101,7 @@ fn ready_time(
     requires starts { IsOnTheWay problem.now starts.now }
     requires process { process < process_count problem.now }
     requires active { active problem.now (outcome_of timing.now) process ≡ true }
+    // a process without a time can't be placed, and one with a time can
     ensures none { IfNone result (IsFed problem.now (outcome_of timing.now) starts.now process → ⊥) }
     ensures fed { IfSome result (λ _. IsFed problem.now (outcome_of timing.now) starts.now process) }
     ensures ready { IfSome result (λ time. time ≡ ready_at problem.now (outcome_of timing.now) starts.now process) }
@@ -106,8 +113,10 @@ fn ready_time(
     // ready at the latest of the release and of the times of the live inputs
     let mut ready = problem.release(process);
     for edge in timing.links.inputs(process) {
+        // an input that isn't live isn't waited for
         if timing.live[*edge as usize] {
             let Some(time) = input_time(problem, timing, starts, *edge) else {
+                // its source isn't placed yet
                 return None;
             };
             ready = ready.max(time);
@@ -116,7 +125,7 @@ fn ready_time(
     Some(ready)
 }
 
-/// Adds a process to those that can be placed, if it can be.
+/// Adds a process to those that can be placed, if it can be. It is then in the list twice if it was there already.
 fn feed(
     problem: &Problem,
     timing: &Timing<'_>,
@@ -133,13 +142,14 @@ fn feed(
     if !timing.active[process as usize] {
         return Ok(());
     }
+    // `None`: it is placed already, or waits for another source
     if let Some(ready) = ready_time(problem, timing, starts, process) {
         fed.push(FedProcess { process, ready })?;
     }
     Ok(())
 }
 
-/// The processes that can be placed.
+/// Returns the processes that can be placed, the lowest first.
 fn all_fed(
     alloc: Global,
     problem: &Problem,
@@ -170,10 +180,13 @@ fn feed_targets(
     requires timing { IsTiming problem.now timing.now }
     requires starts { IsOnTheWay problem.now starts.now }
     requires process { process < process_count problem.now }
+    // the list has what can be placed but, maybe, targets of this process
     requires fed { AreFedBut problem.now (outcome_of timing.now) starts.now process fed.old.items }
+    // then it has all that can be placed
     ensures { OnOk result (AreFed problem.now (outcome_of timing.now) starts.now fed.new.items) }
 {
     for edge in timing.links.outputs(process) {
+        // only over live outputs did a process wait for this one
         if timing.live[*edge as usize] {
             feed(problem, timing, starts, problem.target(*edge), fed)?;
         }
@@ -181,14 +194,15 @@ fn feed_targets(
     Ok(())
 }
 
-/// Leaves out a process.
+/// Takes every entry of a process out of the list of those that can be placed.
 fn drop_placed(fed: &mut Vec<FedProcess>, process: u32)
     ensures { fed.new.items ≡ filter (λ f. not (f.process == process)) fed.old.items }
 {
     fed.retain(|it| it.process != process);
 }
 
-/// The candidate for a process that can be placed.
+/// Returns the candidate of a process that can be placed. `free` says for each node when it has ended all that is placed on
+/// it.
 fn candidate_of(problem: &Problem, free: &[u64], fed: FedProcess) -> Candidate
     requires free { length free.now ≡ length problem.now.nodes }
     requires process { fed.process < process_count problem.now }
@@ -196,6 +210,7 @@ fn candidate_of(problem: &Problem, free: &[u64], fed: FedProcess) -> Candidate
     ensures start { result.start ≡ max fed.ready (get_or free.now (node_of problem.now fed.process) 0) }
     ensures node { node_of problem.now fed.process < length problem.now.nodes }
 {
+    // it starts once it is ready and its node is free
     let start = fed.ready.max(free[problem.node_of(fed.process) as usize]);
     Candidate {
         process: fed.process,
@@ -203,12 +218,13 @@ fn candidate_of(problem: &Problem, free: &[u64], fed: FedProcess) -> Candidate
     }
 }
 
-/// The one of two candidates that starts sooner, and the more urgent if they start together.
+/// Returns the one of two candidates that starts sooner or, if they start together, is more urgent.
 fn sooner(order: &Order, best: Candidate, other: Candidate) -> Candidate
     requires best { best.process < length order.now }
     requires other { other.process < length order.now }
     ensures { ((result ≡ best) × ComesFirst order.now best other) ⊎ ((result ≡ other) × ComesFirst order.now other best) }
 {
+    // the earlier start comes first
     if best.start < other.start {
         return best;
     }
@@ -222,7 +238,7 @@ fn sooner(order: &Order, best: Candidate, other: Candidate) -> Candidate
     other
 }
 
-/// The best candidate after one more.
+/// Returns the sooner of the best candidate so far, if there is one, and another.
 fn better(order: &Order, best: Option<Candidate>, other: Candidate) -> Candidate
     requires best { IfSome best (λ c. c.process < length order.now) }
     requires other { other.process < length order.now }
@@ -234,24 +250,26 @@ fn better(order: &Order, best: Option<Candidate>, other: Candidate) -> Candidate
     sooner(order, best, other)
 }
 
-/// The process to place next: of those that can be placed the one that would start first, and of several the most urgent.
-/// `None` exactly if none can be placed.
+/// Returns the process to place next: of those that can be placed, the one that would start first, and of several the most
+/// urgent. It is `None` exactly if `fed` is empty.
 fn next(problem: &Problem, order: &Order, free: &[u64], fed: &[FedProcess]) -> Option<Candidate>
     requires order { IsUrgencyOrder problem.now order.now }
     requires free { length free.now ≡ length problem.now.nodes }
     requires within { All (λ f. f.process < process_count problem.now) fed.now }
+    // for each schedule with these free times and these processes to place, this is the process to place next
     ensures { (o : List Bool) (starts : List (Option ℕ)) → AreFree problem.now starts free.now → AreFed problem.now o starts fed.now →
         IsChosen problem.now o starts result }
 {
     let mut best = None;
-    for one in fed {
-        let other = candidate_of(problem, free, *one);
+    for fed_process in fed {
+        let other = candidate_of(problem, free, *fed_process);
         best = Some(better(order, best, other));
     }
     best
 }
 
-/// The starts of a track's processes, placed one after another.
+/// Returns the start of each process of a track, by number, and `None` for each inactive one. They are placed one after
+/// another.
 fn place_all(
     alloc: Global,
     problem: &Problem,
@@ -264,22 +282,26 @@ fn place_all(
     requires links { links.now ≡ links_of problem.now }
     requires track { IsTrackOf problem.now track.now }
     ensures greedy { IfOk result (λ starts. IsGreedy problem.now track.now.outcome starts.items) }
+    // no start is so late that what is added to it would overflow
     ensures early { IfOk result (λ starts. AreBy (2 ^ 60) starts.items) }
 {
     let timing = Timing::of(alloc, problem, guards, links, track)?;
     let count = problem.processes().len();
     let mut starts: Vec<Option<u64>> = vec![in alloc; None; count]?;
+    // by node, when it has ended all that is placed on it
     let mut free = vec![in alloc; 0u64; problem.nodes().len()]?;
     let mut fed = all_fed(alloc, problem, &timing, starts.as_slice())?;
-    // each turn places one process, until none can be placed
+    // each turn places one process, so there are no more turns than processes
     for _placed in 0..count {
-        // all active processes are placed
+        // none can be placed any more: all active processes are
         let Some(chosen) = next(problem, order, free.as_slice(), fed.as_slice()) else {
             return Ok(starts);
         };
+        // the node is taken up to the end with all k faults
         let end = chosen.start + timing.durations[chosen.process as usize];
         starts[chosen.process as usize] = Some(chosen.start);
         free[problem.node_of(chosen.process) as usize] = end;
+        // it is placed, so it leaves the list, and what waited for it may join
         drop_placed(&mut fed, chosen.process);
         feed_targets(
             problem,
@@ -292,7 +314,7 @@ fn place_all(
     Ok(starts)
 }
 
-/// The greedy schedule of a track of a graph with these links.
+/// Returns the greedy schedule of a track. `links` are the links of the graph.
 fn greedy_by(
     alloc: Global,
     admitted: &Admitted,
@@ -302,6 +324,7 @@ fn greedy_by(
     requires links { links.now ≡ links_of admitted.now.graph }
     requires track { IsTrackOf admitted.now.graph track.now }
     ensures greedy { IfOk result (λ starts. IsGreedy admitted.now.graph track.now.outcome starts) }
+    // no start is so late that what is added to it would overflow
     ensures early { IfOk result (AreBy (2 ^ 60)) }
 {
     let starts = place_all(
@@ -315,11 +338,12 @@ fn greedy_by(
     Ok(Starts { starts })
 }
 
-/// The greedy schedule of a track: an execution is as long as with all the faults and a message takes a round, no node
-/// idles while a process on it is ready, and no ready process is passed over by one that is less urgent.
+/// Returns the greedy schedule of a track: each execution lasts as long as with all faults and a message takes a round. No
+/// node idles while a process on it is ready, and no ready process is passed over by one that is less urgent.
 pub fn greedy(alloc: Global, admitted: &Admitted, track: &Track) -> Result<Starts, OutOfMemory>
     requires { IsTrackOf admitted.now.graph track.now }
     ensures greedy { IfOk result (λ starts. IsGreedy admitted.now.graph track.now.outcome starts) }
+    // no start is so late that what is added to it would overflow
     ensures early { IfOk result (AreBy (2 ^ 60)) }
 {
     let links = Links::of(alloc, admitted.problem())?;
@@ -327,7 +351,7 @@ pub fn greedy(alloc: Global, admitted: &Admitted, track: &Track) -> Result<Start
     Ok(starts)
 }
 
-/// The schedule of each track of a graph with these links.
+/// Returns the greedy schedule of each of these tracks, in the same order. `links` are the links of the graph.
 pub(crate) fn schedules(
     alloc: Global,
     admitted: &Admitted,
@@ -336,6 +360,7 @@ pub(crate) fn schedules(
 ) -> Result<Vec<Starts>, OutOfMemory>
     requires links { links.now ≡ links_of admitted.now.graph }
     requires tracks { All (IsTrackOf admitted.now.graph) tracks.now }
+    // there is a greedy schedule for each of these tracks
     ensures greedy { IfOk result (λ schedules. AreSchedules admitted.now.graph (map (λ t. t.outcome) tracks.now) schedules.items) }
     ensures early { IfOk result (λ schedules. All (AreBy (2 ^ 60)) schedules.items) }
 {

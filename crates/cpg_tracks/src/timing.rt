@@ -1,4 +1,4 @@
-//! The facts that placing the processes of a track needs.
+//! What is looked up while the processes of a track are placed.
 ghost use Rattle.std.specs.Prelude.{◌≡◌, ◌<◌, ◌≤◌, IfOk, map};
 ghost use Rattle.cpg_base.specs.Numbers.{numbers_below};
 ghost use Rattle.cpg_base.specs.Graph.{process_count, edge_count};
@@ -15,24 +15,24 @@ use cpg_order::Links;
 use cpg_rules::GuardTrees;
 use std::alloc::Global;
 
-/// The facts that placing the processes of a track needs, found once.
+/// What is looked up while the processes of a track are placed, found once for the track.
 #[derive(Drop)]
 pub(crate) struct Timing<'a> {
     /// The track.
     pub(crate) track: &'a Track,
     /// The edges of each process.
     pub(crate) links: &'a Links,
-    /// By process, whether it is active.
+    /// By process, whether it is active in the track.
     pub(crate) active: Vec<bool>,
-    /// By edge, whether it is live.
+    /// By edge, whether it is live in the track.
     pub(crate) live: Vec<bool>,
-    /// By process, how long an execution with all the faults takes, in time units.
+    /// By process, how long an execution with all faults lasts, in time units.
     pub(crate) durations: Vec<u64>,
-    /// How long a message takes: one round of the bus, in time units.
+    /// How long a message takes here: one round of the bus, in time units.
     pub(crate) round: u64,
 }
 
-/// By process, whether it is active.
+/// Returns for each process, by number, whether it is active in the track.
 fn active_marks(alloc: Global, problem: &Problem, track: &Track) -> Result<Vec<bool>, OutOfMemory>
     requires { IsTrackOf problem.now track.now }
     ensures { IfOk result (λ marks. marks.items ≡ map (active problem.now track.now.outcome) (numbers_below (process_count problem.now))) }
@@ -44,7 +44,7 @@ fn active_marks(alloc: Global, problem: &Problem, track: &Track) -> Result<Vec<b
     Ok(marks)
 }
 
-/// By edge, whether it is live.
+/// Returns for each edge, by number, whether it is live in the scenario.
 fn live_edges(
     alloc: Global,
     problem: &Problem,
@@ -56,30 +56,30 @@ fn live_edges(
     ensures { IfOk result (λ found. found.items ≡ map (live problem.now scenario.now.values) (numbers_below (edge_count problem.now))) }
 {
     let count = problem.edges().len();
-    let mut found = Vec::new(alloc);
-    found.reserve(count)?;
+    let mut marks = Vec::new(alloc);
+    marks.reserve(count)?;
     for edge in 0..count as u32 {
-        found.push(guards.live(edge, scenario))?;
+        marks.push(guards.live(edge, scenario))?;
     }
-    Ok(found)
+    Ok(marks)
 }
 
-/// By process, how long an execution with all the faults takes.
+/// Returns for each process, by number, how long an execution with all k faults lasts, in time units.
 fn durations(alloc: Global, problem: &Problem) -> Result<Vec<u64>, OutOfMemory>
     ensures { IfOk result (λ found. found.items ≡ map (λ p. duration problem.now p problem.now.faults) (numbers_below (process_count problem.now))) }
 {
     let faults = problem.faults();
     let count = problem.processes().len();
-    let mut found = Vec::new(alloc);
-    found.reserve(count)?;
+    let mut durations = Vec::new(alloc);
+    durations.reserve(count)?;
     for process in 0..count as u32 {
-        found.push(problem.duration(process, faults))?;
+        durations.push(problem.duration(process, faults))?;
     }
-    Ok(found)
+    Ok(durations)
 }
 
 impl<'a> Timing<'a> {
-    /// Finds the facts that placing the processes of a track needs.
+    /// Returns what is looked up while the processes of this track are placed.
     pub(crate) fn of(
         alloc: Global,
         problem: &Problem,

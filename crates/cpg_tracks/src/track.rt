@@ -1,4 +1,4 @@
-//! The ways through the conditions.
+//! The tracks of a graph.
 ghost use Rattle.std.specs.Prelude.{◌≡◌, ◌<◌, ◌≤◌, ◌++◌, IfOk, IfSome, IfNone, OnOk, All, length, filter};
 ghost use Rattle.std.specs.List.{flat_map};
 ghost use Rattle.cpg_base.specs.Numbers.{numbers_below};
@@ -16,14 +16,14 @@ use cpg_rules::{Admitted, GuardTrees};
 use std::alloc::Global;
 use std::marker::Model;
 
-/// How many tracks are scheduled at most.
-const MOST_TRACKS: usize = 256;
+/// The most tracks that are scheduled. A graph that is admitted may have more, 16,384.
+const MOST_SCHEDULED_TRACKS: usize = 256;
 
-/// An outcome in which the conditions of inactive processes are false, seen as its values and the list of the active
-/// processes.
+/// A track: an outcome in which the conditions of inactive processes are false, seen as its values and the list of the
+/// active processes.
 #[derive(Drop)]
 pub struct Track {
-    /// The values, without faults.
+    /// The outcome, as the scenario without faults that has these values.
     scenario: Scenario,
     /// The numbers of the active processes, rising.
     active: Vec<u32>,
@@ -38,14 +38,14 @@ impl Model for Track {
 }
 
 impl Track {
-    /// The outcome, without faults.
+    /// Returns the outcome, as a scenario without faults.
     pub(crate) fn scenario(&self) -> &Scenario
         ensures { result.now.values ≡ self.now.outcome }
     {
         &self.scenario
     }
 
-    /// The numbers of the active processes, rising.
+    /// Returns the numbers of the active processes, rising.
     pub(crate) fn active(&self) -> &[u32]
         ensures { result.now ≡ self.now.active }
     {
@@ -53,32 +53,34 @@ impl Track {
     }
 }
 
-/// Adds an outcome and, if the process of the condition is active, also the outcome with that condition true.
+/// Adds an outcome, in which the condition is false, and, if the condition's process is active, also the outcome with the
+/// condition true.
 fn push_ways(
     problem: &Problem,
     guards: &GuardTrees,
     condition: u32,
     scenario: &Scenario,
-    found: &mut Vec<Scenario>,
+    ways: &mut Vec<Scenario>,
 ) -> Result<(), OutOfMemory>
     requires admitted { AreAdmitted problem.now guards.now }
     requires condition { condition < condition_count problem.now }
     requires values { HasValues problem.now scenario.now }
-    ensures ways { OnOk result (outcomes_of found.new.items ≡ outcomes_of found.old.items ++ both_ways_at problem.now condition scenario.now.values) }
-    ensures values { OnOk result (All (HasValues problem.now) found.old.items → All (HasValues problem.now) found.new.items) }
+    // what is added is the outcome, and maybe the one with the condition true
+    ensures ways { OnOk result (outcomes_of ways.new.items ≡ outcomes_of ways.old.items ++ both_ways_at problem.now condition scenario.now.values) }
+    ensures values { OnOk result (All (HasValues problem.now) ways.old.items → All (HasValues problem.now) ways.new.items) }
 {
-    found.push(scenario.copy()?)?;
+    ways.push(scenario.copy()?)?;
     // the condition of an inactive process stays false
     if !guards.active(problem.process_of(condition), scenario) {
         return Ok(());
     }
-    let mut other = scenario.copy()?;
-    other.set_value(condition, true);
-    found.push(other)?;
+    let mut with_true = scenario.copy()?;
+    with_true.set_value(condition, true);
+    ways.push(with_true)?;
     Ok(())
 }
 
-/// The outcomes in which the condition is chosen too.
+/// Returns the outcomes that come of these if the condition is chosen too: of each one or two, false before true.
 fn both_ways(
     alloc: Global,
     problem: &Problem,
@@ -92,15 +94,15 @@ fn both_ways(
     ensures ways { IfOk result (λ found. outcomes_of found.items ≡ flat_map (both_ways_at problem.now condition) (outcomes_of scenarios.now)) }
     ensures values { IfOk result (λ found. All (HasValues problem.now) found.items) }
 {
-    let mut found = Vec::new(alloc);
+    let mut ways = Vec::new(alloc);
     for scenario in scenarios {
-        push_ways(problem, guards, condition, scenario, &mut found)?;
+        push_ways(problem, guards, condition, scenario, &mut ways)?;
     }
-    Ok(found)
+    Ok(ways)
 }
 
-/// The outcomes of the tracks, in order: each condition is chosen if its process is active, in urgency order. `None`
-/// exactly if there are more than 256.
+/// Returns the outcomes of the tracks, in order, and `None` exactly if there are more than 256. The conditions are chosen
+/// one after another, in urgency order, each in the outcomes in which its process is active.
 fn outcomes(
     alloc: Global,
     problem: &Problem,
@@ -108,18 +110,21 @@ fn outcomes(
     order: &Order,
 ) -> Result<Option<Vec<Scenario>>, OutOfMemory>
     requires { IsAdmitted problem.now order.now guards.now }
+    // the outcomes are those of the tracks, few enough, each with a value for each condition
     ensures tracks { IfOk result (λ found. IfSome found (λ scenarios. AreTracks problem.now (outcomes_of scenarios.items))) }
     ensures few { IfOk result (λ found. IfSome found (λ scenarios. length scenarios.items ≤ most_scheduled_tracks)) }
     ensures values { IfOk result (λ found. IfSome found (λ scenarios. All (HasValues problem.now) scenarios.items)) }
     ensures many { IfOk result (λ found. IfNone found (HasManyTracks problem.now)) }
 {
     let mut scenarios = Vec::new(alloc);
+    // before the first choice all conditions are false
     scenarios.push(Scenario::zero(alloc, problem)?)?;
     for process in order.processes() {
+        // a process without a condition leaves nothing to choose
         if let Some(condition) = problem.condition_of(*process) {
             scenarios = both_ways(alloc, problem, guards, condition, scenarios.as_slice())?;
-            // too many tracks to schedule
-            if scenarios.len() > MOST_TRACKS {
+            // a choice never makes fewer of them, so there are too many tracks
+            if scenarios.len() > MOST_SCHEDULED_TRACKS {
                 return Ok(None);
             }
         }
@@ -127,7 +132,7 @@ fn outcomes(
     Ok(Some(scenarios))
 }
 
-/// The processes that are active in a scenario, by number.
+/// Returns the processes that are active in a scenario, the lowest first.
 fn active_processes(
     alloc: Global,
     problem: &Problem,
@@ -138,16 +143,16 @@ fn active_processes(
     requires values { HasValues problem.now scenario.now }
     ensures { IfOk result (λ found. found.items ≡ filter (active problem.now scenario.now.values) (numbers_below (process_count problem.now))) }
 {
-    let mut found = Vec::new(alloc);
+    let mut processes = Vec::new(alloc);
     for process in 0..problem.processes().len() as u32 {
         if guards.active(process, scenario) {
-            found.push(process)?;
+            processes.push(process)?;
         }
     }
-    Ok(found)
+    Ok(processes)
 }
 
-/// The track of an outcome.
+/// Returns the track of an outcome.
 fn track_of(
     alloc: Global,
     problem: &Problem,
@@ -165,7 +170,7 @@ fn track_of(
     })
 }
 
-/// The tracks of these outcomes.
+/// Returns the tracks of these outcomes, in the same order.
 fn tracks_of(
     alloc: Global,
     problem: &Problem,
@@ -186,7 +191,8 @@ fn tracks_of(
     Ok(tracks)
 }
 
-/// The outcomes of the tracks of a graph, in order, without faults. `None` exactly if there are more than 256.
+/// Returns the outcomes of the tracks of a graph, in order, as scenarios without faults, and `None` exactly if there are
+/// more than 256.
 pub fn track_outcomes(
     alloc: Global,
     admitted: &Admitted,
@@ -199,8 +205,8 @@ pub fn track_outcomes(
     Ok(found)
 }
 
-/// The tracks of a graph, in the order of outcomes: at the first condition in urgency order at which two differ, the first
-/// is false. `None` exactly if there are more than 256.
+/// Returns the tracks of a graph, in the order of outcomes: at the first condition in urgency order at which two differ,
+/// the earlier one is false. It is `None` exactly if there are more than 256 tracks.
 pub fn tracks(alloc: Global, admitted: &Admitted) -> Result<Option<Vec<Track>>, OutOfMemory>
     ensures tracks { IfOk result (λ found. IfSome found (λ tracks. AreAllTracks admitted.now.graph tracks.items)) }
     ensures many { IfOk result (λ found. IfNone found (HasManyTracks admitted.now.graph)) }

@@ -1,4 +1,5 @@
--- How much is asked on from a cube that is narrowed at a fork.
+-- The demands by the way down are those of the columns. Along the order the low of the last variable and the sum of
+-- all lows tell what a narrowed cube asks.
 use Rattle.std.proofs.Common.{ℕ, ◌+◌, ◌-◌, ◌*◌, ◌%◌, ◌^◌, ◌<◌, ◌≤◌, ◌≡◌, ◌≢◌, ◌==◌, max, List, [], ◌∷◌, ◌++◌, Option}
 use Rattle.std.proofs.Common.{Some, None, map, reverse, get_or, sum_by, Contains, arith, refl, sym, ap, ap₂, subst, ◌∙◌}
 use Rattle.std.proofs.Common.{inl, inr, eq-eqb, ne_eqb}
@@ -17,7 +18,7 @@ use Rattle.cpg_cube.proofs.Ranges.{rising_rest, rising_first, low_in-here}
 use Rattle.cpg_merging.specs.Demands.{demand_of, low_of}
 use Rattle.cpg_tree.specs.Paths.{up_to, above, paths_from}
 use Rattle.cpg_tree.specs.TreeNode.{TreeNode, Leaf, Fork}
-use Rattle.cpg_tree_columns.specs.declared.demanding.Side.{Side}
+use Rattle.cpg_tree_columns.specs.declared.demanding.ForkSide.{ForkSide}
 use Rattle.cpg_tree_columns.specs.Along.{AreForksAlong}
 use Rattle.cpg_tree_columns.specs.Columns.{columns_of_paths}
 use Rattle.cpg_tree_columns.specs.Demanded.{demands_by, first_side, low_above, low_at, side_above, side_below}
@@ -31,11 +32,12 @@ above_first v m ms r h x c e = elim (Contains-cases m ms x c) [
   | inr d ↦ absurd (omega (arith, rising_first m x ms r d, h, e))
 ]
 
--- how much a narrowed cube asks: what the cube asks, with the literal's low in place of that of its variable if it is
--- more
+-- The sum of the lows of a narrowed cube: that of the cube, with the greater of the two lows in place of the
+-- variable's own.
 sum_narrowed : (l : Literal) (cube : List Literal) → IsRising cube →
     sum_by low_of (narrowed_by l cube) + low_in cube l.variable
     ≡ sum_by low_of cube + max l.low (low_in cube l.variable)
+-- By induction on the cube: the literal comes before the first one, is on its variable, or goes on to the others.
 sum_narrowed l [] r = omega (arith, sum_by-cons low_of l [])
 sum_narrowed l (m ∷ ms) r = elim (cases_order l.variable m.variable) [
   | inl e ↦ omega (
@@ -63,8 +65,9 @@ sum_narrowed l (m ∷ ms) r = elim (cases_order l.variable m.variable) [
 
 -- ---- places
 
--- no more places are left at any variable than at the first
+-- no variable has more places left than the first one of the order
 few_left : (left : ℕ) (us : List ℕ) (v : ℕ) → left_at left us v ≤ left
+-- by induction on the list
 few_left left [] v = omega arith
 few_left left (u ∷ us) v = elim (cases_eq u v) [
   | inl e ↦ omega (arith, cond-true (u == v) left (left_at (left - 1) us v) (eq-eqb u v e))
@@ -75,8 +78,9 @@ few_left left (u ∷ us) v = elim (cases_eq u v) [
   )
 ]
 
--- two variables at which as many places are left, but not none, are the same
+-- two variables at which equally many places are left, and not none, are the same
 left_apart : (left : ℕ) (us : List ℕ) (v w : ℕ) → left_at left us v ≡ left_at left us w → left_at left us w ≢ 0 → v ≡ w
+-- by induction on the order: each is the first variable or among the others, at which fewer places are left
 left_apart left [] v w e n = absurd (n refl)
 left_apart left (u ∷ us) v w e n = elim (cases_eq u v) [
   | inl a ↦ elim (cases_eq u w) [
@@ -106,30 +110,34 @@ left_apart left (u ∷ us) v w e n = elim (cases_eq u v) [
 
 -- ---- what is known on a way down is so of its cube
 
--- the demands of a tree's columns on from a cube
+-- the demands of the columns of a tree that is entered with a cube
 abbrev pub demands_from : ℕ → List Literal → TreeNode (Option ℕ) → List ℕ
 demands_from k cube n = map demand_of (columns_of_paths (paths_from k cube n))
 
--- a cube has nothing above 0 at variables that stand behind the last fork's, it has the low of that one, and a byte has
--- the sum
-pub record IsKnownOf (places : List ℕ) (side : Side) (cube : List Literal) : Type 0 where
+-- What is known of the way down, `side`, is right for the cube of that way.
+pub record IsKnownOf (places : List ℕ) (side : ForkSide) (cube : List Literal) : Type 0 where
+  -- variables behind the last fork's, at which fewer places are left, have no low above 0
   pub behind : (v : ℕ) → get_or places v 0 < side.left → low_in cube v ≡ 0
+  -- the last fork's variable has the low that is known
   pub here : (v : ℕ) → get_or places v 0 ≡ side.left → low_in cube v ≡ side.low
+  -- what is asked is the sum of all lows, as a byte
   pub all : side.asked ≡ sum_by low_of cube % 256
 
--- what is known where a tree is entered is so of the whole cube
+-- where a tree is entered, what is known is right for the cube without literals
 pub known_first : (places : List ℕ) → IsKnownOf places first_side []
 known_first places = record { behind = λ v l. refl; here = λ v e. refl; all = refl }
 
--- given: places of variables, which are apart
+-- given: how many places are left at each variable of an order
 module _ (variables places : List ℕ) (are : ArePlaces variables places) (k : ℕ) where
   -- two variables with as many places left are the same
   same_place : (v w : ℕ) → get_or places v 0 ≡ get_or places w 0 → get_or places w 0 ≢ 0 → v ≡ w
   same_place v w e n = left_apart 256 variables v w (sym (are.left v) ∙ e ∙ are.left w) (λ z. n (are.left w ∙ z))
 
-  -- given: a fork behind the last one, at a rising cube that the way down is known of
-  module _ (v cut : ℕ) (side : Side) (cube : List Literal) (rising : IsRising cube) (known : IsKnownOf places side cube)
+  -- given: a fork at variable v that stands along the order, and a cube of which `side` is known
+  module _ (v cut : ℕ) (side : ForkSide) (cube : List Literal) (rising : IsRising cube) (known : IsKnownOf places side cube)
       (less : get_or places v 0 ≤ side.left) (some : get_or places v 0 ≢ 0) where
+    -- the low that is known of the fork's variable is that of the cube: it is the last fork's variable, or one behind
+    -- it
     low_known : low_at side (get_or places v 0) ≡ low_in cube v
     low_known = elim (cases_eq (get_or places v 0) side.left) [
       | inl e ↦ cond-true (get_or places v 0 == side.left) side.low 0 (eq-eqb (get_or places v 0) side.left e)
@@ -164,11 +172,13 @@ module _ (variables places : List ℕ) (are : ArePlaces variables places) (k : �
       all = omega (arith, known.all, low_known, sum_narrowed (above k v cut) cube rising);
     }
 
-  -- if the forks of a tree stand along the order, the demands by the way down are those of the columns, from the last
-  -- to the first
-  pub demands_known : (n : TreeNode (Option ℕ)) (side : Side) (cube : List Literal) → IsRising cube →
+  -- If the forks of a tree stand along the order, the demands by the way down are those of its columns, from right to
+  -- left.
+  pub demands_known : (n : TreeNode (Option ℕ)) (side : ForkSide) (cube : List Literal) → IsRising cube →
       IsKnownOf places side cube → AreForksAlong places side.left n →
       demands_by places side n ≡ reverse (demands_from k cube n)
+  -- By induction on the tree. What is known at a fork is right for the narrowed cubes of both sides, and the list of
+  -- the fork is that of the side above, then that of the side below.
   demands_known (Leaf None) side cube rising known along = refl
   demands_known (Leaf (Some time)) side cube rising known along =
       ap (λ asked. ((time * 256 % 2 ^ 64 + asked) % 2 ^ 64) ∷ []) known.all

@@ -1,4 +1,5 @@
--- Reading a tree's items from the last to the first, if its forks stand along an order.
+-- Reading a tree's items from last to first: if that comes to an end, the forks stand along the order, and the demands
+-- are found.
 use Rattle.std.proofs.Common.{ℕ, ◌≤◌, ◌≡◌, ◌≢◌, ◌==◌, List, [], ◌∷◌, ◌++◌, Option, Some, None, length, reverse, refl}
 use Rattle.std.proofs.Common.{sym, ap, ap₂, ◌∙◌, append_assoc, unwrap_or, get_or, if◌then◌else◌, inl, inr, eq-eqb}
 use Rattle.std.proofs.Common.{ne_eqb}
@@ -11,65 +12,67 @@ use Rattle.cpg_tree.specs.TreeNode.{TreeNode, Leaf, Fork}
 use Rattle.cpg_tree.specs.declared.item.TreeItem.{TreeItem}
 use Rattle.cpg_tree.specs.declared.item.TreeItem.TheVariants.{Value, Cut}
 use Rattle.cpg_tree.specs.Flat.{flat}
-use Rattle.cpg_tree_columns.specs.declared.demanding.Side.{Side}
-use Rattle.cpg_tree_columns.specs.declared.demanding.Sides.{Sides}
+use Rattle.cpg_tree_columns.specs.declared.demanding.ForkSide.{ForkSide}
+use Rattle.cpg_tree_columns.specs.declared.demanding.BothSides.{BothSides}
 use Rattle.cpg_tree_columns.specs.Along.{AreForksAlong}
 use Rattle.cpg_tree_columns.specs.Demanded.{both_sides, demands_at, demands_by, first_side, side_above, side_below}
 use Rattle.cpg_tree_columns.specs.Demanded.{sides_of}
 
--- the demands that items from the last to the first lead to, with those found before them; `later` are the sides put
--- off, and the items end with the last one's
-abbrev pub walked : List ℕ → List (TreeItem (Option ℕ)) → Side → List Side → List ℕ → Option (List ℕ)
+-- The demands that a walk over these items finds, after those already `found`. `side` is what the way to the first
+-- item says, `later` what those to the sides put off say. None if a fork doesn't stand along the order, or if items
+-- run out; the walk ends at a value when no side is put off.
+abbrev pub walked : List ℕ → List (TreeItem (Option ℕ)) → ForkSide → List ForkSide → List ℕ → Option (List ℕ)
 walked places [] side later found = None
 walked places (Value x ∷ items) side [] found = Some (found ++ demands_at x side.asked)
 walked places (Value x ∷ items) side (next ∷ later) found =
     walked places items next later (found ++ demands_at x side.asked)
 walked places (Cut v cut below ∷ items) side later found =
-    option_map_or (λ (sides : Sides). walked places items sides.above (sides.below ∷ later) found)
+    option_map_or (λ (sides : BothSides). walked places items sides.above (sides.below ∷ later) found)
     (sides_of side (get_or places v 0) cut) None
 
--- what is walked after a tree: the next of the sides put off
-abbrev after : List ℕ → List (TreeItem (Option ℕ)) → List Side → List ℕ → Option (List ℕ)
+-- what the walk finds once a tree is over: it goes on with the next side put off, or ends if there is none
+abbrev after : List ℕ → List (TreeItem (Option ℕ)) → List ForkSide → List ℕ → Option (List ℕ)
 after places items [] found = Some found
 after places items (next ∷ later) found = walked places items next later found
 
--- after a value comes the next of the sides put off
-after_value : (places : List ℕ) (x : Option ℕ) (items : List (TreeItem (Option ℕ))) (side : Side) (later : List Side)
+-- after a value the walk goes on as after any tree
+after_value : (places : List ℕ) (x : Option ℕ) (items : List (TreeItem (Option ℕ))) (side : ForkSide) (later : List ForkSide)
     (found : List ℕ) →
     walked places (Value x ∷ items) side later found ≡ after places items later (found ++ demands_at x side.asked)
 after_value places x items side [] found = refl
 after_value places x items side (next ∷ later) found = refl
 
--- what is known on both sides of a fork, if no more places are left at its variable than at that of the last one
-abbrev bound : Side → ℕ → ℕ → Option Sides
+-- what is known on both sides of a fork at whose variable some places are left, if no more than at the last fork
+abbrev bound : ForkSide → ℕ → ℕ → Option BothSides
 bound side left cut = if nat_lt side.left left then None else Some (both_sides side left cut)
 
--- if a fork's sides are known, it stands along the order, and the sides are those of the fork
-sides_known : {A : Type 0} (side : Side) (left cut : ℕ) (f : Sides → Option A) (x : A) →
+-- if what a fork's sides lead to comes to an end, the fork stands along the order
+sides_known : {A : Type 0} (side : ForkSide) (left cut : ℕ) (f : BothSides → Option A) (x : A) →
     option_map_or f (sides_of side left cut) None ≡ Some x →
     (left ≤ side.left) × (left ≢ 0) × (f (both_sides side left cut) ≡ Some x)
+-- if no places are left, or more than at the last fork, the sides are none, and nothing would come of them
 sides_known {A} side left cut f x e = elim (cases_eq left 0) [
-  | inl none ↦ absurd (none-some x (sym (ap (λ (o : Option Sides). option_map_or f o None)
+  | inl none ↦ absurd (none-some x (sym (ap (λ (o : Option BothSides). option_map_or f o None)
       (cond-true (left == 0) None (bound side left cut) (eq-eqb left 0 none))) ∙ e))
   | inr some ↦
       let inner : option_map_or f (bound side left cut) None ≡ Some x =
-      sym (ap (λ (o : Option Sides). option_map_or f o None)
+      sym (ap (λ (o : Option BothSides). option_map_or f o None)
       (cond-false (left == 0) None (bound side left cut) (ne_eqb left 0 some))) ∙ e in
       elim (cases_lt side.left left) [
-        | inl past ↦ absurd (none-some x (sym (ap (λ (o : Option Sides). option_map_or f o None)
+        | inl past ↦ absurd (none-some x (sym (ap (λ (o : Option BothSides). option_map_or f o None)
             (cond-true (nat_lt side.left left) None (Some (both_sides side left cut)) (lt-ltb side.left left past)))
             ∙ inner))
         | inr within ↦ (
           within,
           some,
-          sym (ap (λ (o : Option Sides). option_map_or f o None)
+          sym (ap (λ (o : Option BothSides). option_map_or f o None)
               (cond-false (nat_lt side.left left) None (Some (both_sides side left cut)) (le-ltb side.left left within)))
               ∙ inner,
         )
       ]
 ]
 
--- the items of a fork from the last to the first
+-- from last to first a fork's items are its cut, those of the side above and those of the side below
 turned : (v cut : ℕ) (x y : TreeNode (Option ℕ)) (rest : List (TreeItem (Option ℕ))) →
     reverse (flat (Fork v cut x y)) ++ rest
     ≡ Cut v cut (length (flat x)) ∷ (reverse (flat y) ++ (reverse (flat x) ++ rest))
@@ -79,17 +82,20 @@ turned v cut x y rest =
     (reverse-append (flat x ++ flat y) (last ∷ []) ∙ ap (λ items. last ∷ items) (reverse-append (flat x) (flat y)))
     ∙ ap (λ items. last ∷ items) (append_assoc (reverse (flat y)) (reverse (flat x)) rest)
 
--- if a walk over a tree's items comes to an end, its forks stand along the order, and its demands are found
-walked_tree : (places : List ℕ) (n : TreeNode (Option ℕ)) (rest : List (TreeItem (Option ℕ))) (side : Side)
-    (later : List Side) (found all : List ℕ) →
+-- if a walk over a tree's items comes to an end, its forks stand along the order, and the walk goes on behind the tree
+-- with its demands found
+walked_tree : (places : List ℕ) (n : TreeNode (Option ℕ)) (rest : List (TreeItem (Option ℕ))) (side : ForkSide)
+    (later : List ForkSide) (found all : List ℕ) →
     walked places (reverse (flat n) ++ rest) side later found ≡ Some all →
     AreForksAlong places side.left n × (after places rest later (found ++ demands_by places side n) ≡ Some all)
+-- by induction on the tree: a fork's cut is read first, then the side above it is walked over, and then the side
+-- below, which was put off
 walked_tree places (Leaf x) rest side later found all e = (tt, sym (after_value places x rest side later found) ∙ e)
 walked_tree places (Fork v cut x y) rest side later found all e =
     let left = get_or places v 0 in
     let items = reverse (flat y) ++ (reverse (flat x) ++ rest) in
     let known = sides_known side left cut
-    (λ (sides : Sides). walked places items sides.above (sides.below ∷ later) found) all
+    (λ (sides : BothSides). walked places items sides.above (sides.below ∷ later) found) all
     (sym (ap (λ xs. walked places xs side later found) (turned v cut x y rest)) ∙ e) in
     let of_above = walked_tree places y (reverse (flat x) ++ rest) (side_above side left cut)
     (side_below side left ∷ later) found all known.2 in
@@ -100,14 +106,16 @@ walked_tree places (Fork v cut x y) rest side later found all e =
           (demands_by places (side_below side left) x))) ∙ of_below.1,
     )
 
--- if the last item that is left is a value, and no side is put off, the walk over all items ends with the value's
--- demand; so the forks of the items' tree stand along the order, and its demands are found
-pub walked_all : (places : List ℕ) (items left others : List (TreeItem (Option ℕ))) (time : Option ℕ) (side : Side)
-    (later : List Side) (old found all : List ℕ) →
+-- If the last item left is a value and no side is put off, the walk over all items ends with its demand. So the forks
+-- of the tree stand along the order, and its demands are found.
+pub walked_all : (places : List ℕ) (items left others : List (TreeItem (Option ℕ))) (time : Option ℕ) (side : ForkSide)
+    (later : List ForkSide) (old found all : List ℕ) →
     walked places (reverse left) side (reverse later) found ≡ walked places (reverse items) first_side [] old →
     left ≡ others ++ Value time ∷ [] → later ≡ [] → all ≡ found ++ demands_at time side.asked →
     (n : TreeNode (Option ℕ)) → items ≡ flat n →
     AreForksAlong places 256 n × (all ≡ old ++ demands_by places first_side n)
+-- the walk from here takes the last item and ends; the walk over all items ends as it does, and `walked_tree` says
+-- what that is for a tree
 walked_all places items left others time side later old found all same is none added n are =
     let end : walked places (reverse left) side (reverse later) found ≡ Some all =
     ap₂ (λ xs sides. walked places xs side sides found) (ap reverse is ∙ reverse-append others (Value time ∷ []))

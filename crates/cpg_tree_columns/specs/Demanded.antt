@@ -1,28 +1,32 @@
--- How much the columns of a tree ask above 0 in all, by the way down to each, if the forks stand along an order.
+-- The demands of a tree's columns without a list of them: the time of each, with how much it asks, which is the sum of
+-- the lows of its literals as a byte. If forks stand along an order, those on one variable follow each other, so the
+-- low of the last variable alone has to be kept on the way down.
 use Rattle.std.specs.Prelude.{ℕ, ◌+◌, ◌-◌, ◌*◌, ◌^◌, ◌%◌, ◌==◌, nat_lt, max, if◌then◌else◌, List, [], ◌∷◌, ◌++◌}
 use Rattle.std.specs.Prelude.{Option, Some, None, get_or}
 use Rattle.cpg_tree.specs.TreeNode.{TreeNode, Leaf, Fork}
-use Rattle.cpg_tree_columns.specs.declared.demanding.Side.{Side}
-use Rattle.cpg_tree_columns.specs.declared.demanding.Sides.{Sides}
+use Rattle.cpg_tree_columns.specs.declared.demanding.ForkSide.{ForkSide}
+use Rattle.cpg_tree_columns.specs.declared.demanding.BothSides.{BothSides}
 
--- what is known where a tree is entered: no fork has come, and nothing is asked
-abbrev pub first_side : Side
+-- what is known where the tree is entered: all 256 places of the order are left, and nothing is asked
+abbrev pub first_side : ForkSide
 first_side = record { left = 256; low = 0; asked = 0 }
 
--- the least number of a fork's variable: that which the last fork has left of it, if it is on that variable too
-abbrev pub low_at : Side → ℕ → ℕ
+-- the low of a fork's variable before the fork: what earlier forks left of it if the last one is on the same variable,
+-- so has as many places left, and 0 otherwise
+abbrev pub low_at : ForkSide → ℕ → ℕ
 low_at side left = if left == side.left then side.low else 0
 
--- what is known on the side below a fork
-abbrev pub side_below : Side → ℕ → Side
+-- what is known below a fork at which `left` places are left: the low of its variable and what is asked stay
+abbrev pub side_below : ForkSide → ℕ → ForkSide
 side_below side left = record { left = left; low = low_at side left; asked = side.asked }
 
--- the least number of a fork's variable on the side above it
-abbrev pub low_above : Side → ℕ → ℕ → ℕ
+-- the low of a fork's variable above the fork
+abbrev pub low_above : ForkSide → ℕ → ℕ → ℕ
 low_above side left cut = max (low_at side left) (cut + 1)
 
--- what is known on the side above a fork
-abbrev pub side_above : Side → ℕ → ℕ → Side
+-- What is known above a fork: the low is past the cut, and the column asks for as much more. What is asked counts
+-- modulo 256.
+abbrev pub side_above : ForkSide → ℕ → ℕ → ForkSide
 side_above side left cut = record {
   left = left;
   low = low_above side left cut;
@@ -30,21 +34,23 @@ side_above side left cut = record {
 }
 
 -- what is known on both sides of a fork
-abbrev pub both_sides : Side → ℕ → ℕ → Sides
+abbrev pub both_sides : ForkSide → ℕ → ℕ → BothSides
 both_sides side left cut = record { below = side_below side left; above = side_above side left cut }
 
--- what is known on both sides of a fork, if places are left at its variable, and no more than at that of the last one
-abbrev pub sides_of : Side → ℕ → ℕ → Option Sides
+-- that, if the fork stands along the order: `left`, the places that are left at its variable, is neither 0 nor more
+-- than at the last fork
+abbrev pub sides_of : ForkSide → ℕ → ℕ → Option BothSides
 sides_of side left cut = if left == 0 then None else
     if nat_lt side.left left then None else Some (both_sides side left cut)
 
--- the demand of a leaf, if it has a time
+-- the demand of a leaf: none if it has no time, else the time times 256 plus what is asked, in 64 bits
 abbrev pub demands_at : Option ℕ → ℕ → List ℕ
 demands_at None asked = []
 demands_at (Some time) asked = ((time * 256 % 2 ^ 64 + asked) % 2 ^ 64) ∷ []
 
--- the demands of a tree's leaves, from the right to the left, by what is known where it is entered
-abbrev pub demands_by : List ℕ → Side → TreeNode (Option ℕ) → List ℕ
+-- The demands of a tree's leaves from right to left. `places` has how many places are left at each variable, and
+-- `side` what is known where the tree is entered.
+abbrev pub demands_by : List ℕ → ForkSide → TreeNode (Option ℕ) → List ℕ
 demands_by places side (Leaf x) = demands_at x side.asked
 demands_by places side (Fork v cut below above) =
     demands_by places (side_above side (get_or places v 0) cut) above

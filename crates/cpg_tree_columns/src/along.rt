@@ -13,11 +13,12 @@ use cpg_base::{Order, OutOfMemory, Problem};
 use cpg_cube::{VARIABLES, places_along};
 use cpg_tree::{Top, Tree, TreeItem, top_of};
 
-/// How many places are left at the first variable along an order.
-const FIRST: u16 = 256;
+/// How many places of the order are left at its first variable: it has a place for each of 256 numbers.
+const ALL_PLACES: u16 = 256;
 
-/// Whether the variables of the forks on each way down stand along an order, by how many places are left at each: none
-/// at more than `left`, and none at 0.
+/// Whether the forks stand along the order on each way down. `places` has how many places of the order are left at
+/// each variable, 0 for none of the graph's; `left` is how many are left at the fork before. Callers rely only on the
+/// answer yes.
 fn are_along<T: Copy>(items: &[TreeItem<T>], places: &[u16; VARIABLES], left: u16) -> bool
     requires { IsFlat items.now }
     ensures { OnTrue result ((n : TreeNode T) → items.now ≡ flat n → AreForksAlong places.now left n) }
@@ -31,9 +32,11 @@ fn are_along<T: Copy>(items: &[TreeItem<T>], places: &[u16; VARIABLES], left: u1
             ..
         } => {
             let own = places[variable as usize];
+            // the variable isn't one of the graph's
             if own == 0 {
                 return false;
             }
+            // the variable comes earlier in the order than that of the fork before
             if own > left {
                 return false;
             }
@@ -48,8 +51,8 @@ fn are_along<T: Copy>(items: &[TreeItem<T>], places: &[u16; VARIABLES], left: u1
     }
 }
 
-/// Whether the paths with a number are known to stand by the least scenario along the order that they match. The one error is
-/// `OutOfMemory`.
+/// Whether the columns of a tree are known to stand by their least scenarios along the order, as they are found from
+/// left to right. False says nothing. The one error is `OutOfMemory`.
 pub fn stand_along(
     tree: &Tree<Option<u64>>,
     problem: &Problem,
@@ -59,5 +62,5 @@ pub fn stand_along(
     ensures { IfOk result (λ r. OnTrue r (AreByLows (λ c. c.cube) problem.now order.now (columns_of_paths tree.now.paths))) }
 {
     let places = places_along(tree.alloc(), problem, order)?;
-    Ok(are_along(tree.items(), &places, FIRST))
+    Ok(are_along(tree.items(), &places, ALL_PLACES))
 }

@@ -1,4 +1,5 @@
-//! How many columns a tree has and how much they ask above 0 in all, without a list of them.
+//! How many columns a tree has, and their demands, without a list of the columns. A demand is a column's time with how
+//! much it asks: the sum of the lows of its literals, as a byte.
 ghost use Rattle.std.specs.Prelude.{◌≡◌, ◌++◌, [], ℕ, Option, IfOk, IfSome, IsPermutation, OnOk, filter, length, map, reverse};
 ghost use Rattle.std.specs.Bool.{OnTrue};
 ghost use Rattle.cpg_base.specs.Graph.{process_count};
@@ -17,7 +18,7 @@ use cpg_cube::{VARIABLES, places_along};
 use cpg_merging::demand;
 use cpg_tree::{Tree, TreeItem};
 
-/// Whether an item is a time.
+/// Whether an item of a tree's list is a value that is a time.
 fn is_time(item: &TreeItem<Option<u64>>) -> bool
     ensures { result ≡ is_time item.now }
 {
@@ -27,64 +28,70 @@ fn is_time(item: &TreeItem<Option<u64>>) -> bool
     }
 }
 
-/// How many items are times.
+/// Returns how many items are values that are times.
 fn time_count(items: &[TreeItem<Option<u64>>]) -> usize
     ensures { result ≡ length (filter is_time items.now) }
 {
     items.iter().filter(|item| is_time(item)).count()
 }
 
-/// How many columns there are: those of the values that are times.
+/// Returns how many columns the tree has: one for each leaf with a time.
 pub fn column_count(tree: &Tree<Option<u64>>) -> usize
     ensures { result ≡ length (columns_of_paths tree.now.paths) }
 {
     time_count(tree.items())
 }
 
-/// What is known at a side of a fork of the way down to it, if the forks stand along an order.
+/// What the way down to a place of the tree says, if the forks stand along an order.
 #[derive(Clone, Copy)]
-struct Side {
-    /// How many places are left at the variable of the last fork.
+struct ForkSide {
+    /// How many places of the order are left at the variable of the last fork; it tells the variable.
     left: u16,
-    /// The least number of that variable.
+    /// The least number that the way leaves to that variable.
     low: u16,
-    /// How much is asked above 0 in all, in a byte.
+    /// The sum of the lows that the way leaves to all variables, as a byte.
     asked: u8,
 }
 
-/// What is known at both sides of a fork.
+/// What the way to each side of a fork says.
 #[derive(Clone, Copy)]
-struct Sides {
-    below: Side,
-    above: Side,
+struct BothSides {
+    /// The way to the numbers up to the cut.
+    below: ForkSide,
+    /// The way to the numbers behind the cut.
+    above: ForkSide,
 }
 
-/// What is known at the sides of a fork, by how many places are left at its variable, if it stands along the order.
-fn sides_of(side: Side, left: u16, cut: u8) -> Option<Sides>
+/// Returns what the ways to the sides of a fork say, given the way to the fork: `left` places of the order are left at
+/// its variable, and the side above begins behind `cut`. `None` exactly if the fork doesn't stand along the order.
+fn sides_of(side: ForkSide, left: u16, cut: u8) -> Option<BothSides>
     ensures { result ≡ sides_of side left cut }
 {
+    // the variable isn't one of the graph's
     if left == 0 {
         return None;
     }
+    // the variable comes earlier in the order than that of the last fork
     if left > side.left {
         return None;
     }
+    // another variable than the last one is new, since forks on one variable follow each other, so its low is 0 so far
     let low = if left == side.left { side.low } else { 0 };
     let next = low.max(u16::from(cut) + 1);
-    let below = Side {
+    let below = ForkSide {
         left,
         low,
         asked: side.asked,
     };
-    let above = Side {
+    let above = ForkSide {
         left,
         low: next,
         asked: side.asked.wrapping_add(((next - low) % 256) as u8),
     };
-    Some(Sides { below, above })
+    Some(BothSides { below, above })
 }
 
-/// Adds the demand of a leaf, if it has a time.
+/// Adds the demand of a leaf if it has a time.
 fn push_demand(time: Option<u64>, asked: u8, demands: &mut Vec<u64>) -> Result<(), OutOfMemory>
     ensures { OnOk result (demands.new.items ≡ demands.old.items ++ demands_at time asked) }
 {
@@ -94,13 +101,14 @@ fn push_demand(time: Option<u64>, asked: u8, demands: &mut Vec<u64>) -> Result<(
     Ok(())
 }
 
-/// Adds the demands of the leaves from the right to the left, if the forks are known to stand along an order, by how
-/// many places are left at each variable. The items are read from the last to the first, so the side above a fork comes
-/// before the side below it, which waits in `later`.
+/// Adds the demands of the leaves from right to left and returns true if the forks stand along the order; `places` has
+/// how many places are left at each variable. False says nothing of the forks, and `demands` may then have some of the
+/// demands. A fork is behind its sides in the list, so items are read from last to first; what the way to the side
+/// below says waits in `later`.
 fn push_along(
     items: &[TreeItem<Option<u64>>],
     places: &[u16; VARIABLES],
-    later: &mut Vec<Side>,
+    later: &mut Vec<ForkSide>,
     demands: &mut Vec<u64>,
 ) -> Result<bool, OutOfMemory>
     requires { later.old.items ≡ [] }
@@ -108,23 +116,26 @@ fn push_along(
     ensures demands { IfOk result (λ r. OnTrue r ((n : TreeNode (Option ℕ)) → items.now ≡ flat n →
         demands.new.items ≡ demands.old.items ++ demands_by places.now first_side n)) }
 {
-    let mut left = items;
-    let mut side = Side {
+    let mut unread = items;
+    // no fork has come yet, so all places are left
+    let mut side = ForkSide {
         left: 256,
         low: 0,
         asked: 0,
     };
-    while let Some((last, others)) = left.split_last() {
-        left = others;
+    while let Some((last, others)) = unread.split_last() {
+        unread = others;
         match *last {
             TreeItem::Value(time) => {
                 push_demand(time, side.asked, demands)?;
                 let Some(next) = later.pop() else {
+                    // nothing waits, so this was the leftmost leaf
                     return Ok(true);
                 };
                 side = next;
             }
             TreeItem::Cut { variable, cut, .. } => {
+                // this fork doesn't stand along the order
                 let Some(sides) = sides_of(side, places[variable as usize], cut) else {
                     return Ok(false);
                 };
@@ -136,8 +147,8 @@ fn push_along(
     Ok(false)
 }
 
-/// The demands of the columns, from the right to the left, if the columns are known to stand by their least scenarios
-/// along an order. The one error is `OutOfMemory`.
+/// Returns the demands of the columns from right to left, if the columns are known to stand by their least scenarios
+/// along the order. `None` guarantees nothing. The one error is `OutOfMemory`.
 pub fn demands_along(
     tree: &Tree<Option<u64>>,
     problem: &Problem,

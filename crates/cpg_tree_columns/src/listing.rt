@@ -1,4 +1,4 @@
-//! The columns of trees of times.
+//! The columns of trees of times: one for each leaf with a time.
 ghost use Rattle.std.specs.Prelude.{◌≡◌, ◌++◌, ℕ, Option, All, IfOk, IsPermutation, OnOk};
 ghost use Rattle.std.specs.Bool.{OnTrue};
 ghost use Rattle.cpg_base.specs.Graph.{process_count};
@@ -15,7 +15,8 @@ use cpg_base::{Order, OutOfMemory, Problem, top};
 use cpg_cube::{Column, Cube, Listing, Literal};
 use cpg_tree::{Top, Tree, TreeItem, top_of};
 
-/// Adds the columns on from a cube, which is narrowed on the way down and restored on the way up.
+/// Adds the columns of a tree that is entered with a cube, from left to right. The cube is narrowed on the way down
+/// and restored on the way up; at an error it may be any.
 fn push_columns(
     items: &[TreeItem<Option<u64>>],
     k: u8,
@@ -48,26 +49,27 @@ fn push_columns(
                 low: cut + 1,
                 high: top(k, variable),
             };
-            let low = cube.narrow(Literal {
+            let step = cube.narrow(Literal {
                 variable,
                 low: 0,
                 high: cut,
             })?;
-            match low {
+            match step {
                 // the cube has numbers up to the cut
-                Some(low) => {
+                Some(step) => {
                     push_columns(below, k, cube, columns)?;
-                    // it is narrowed in place, which is less work than going back and down again
-                    if cube.exchange(low, upper) {
+                    // the same literal is narrowed anew, for the other side, which is less work than to restore it and
+                    // narrow again
+                    if cube.exchange(step, upper) {
                         push_columns(above, k, cube, columns)?;
-                        cube.restore(low);
+                        cube.restore(step);
                     }
                 }
                 None => {
-                    let high = cube.narrow(upper)?;
-                    if let Some(high) = high {
+                    let upper_step = cube.narrow(upper)?;
+                    if let Some(upper_step) = upper_step {
                         push_columns(above, k, cube, columns)?;
-                        cube.restore(high);
+                        cube.restore(upper_step);
                     }
                 }
             }
@@ -76,7 +78,7 @@ fn push_columns(
     }
 }
 
-/// The paths with a number, each with its own cube, from the left to the right.
+/// Returns the columns of a tree from left to right; they are tidy. The one error is `OutOfMemory`.
 pub(crate) fn listed(
     tree: &Tree<Option<u64>>,
     problem: &Problem,
@@ -86,14 +88,14 @@ pub(crate) fn listed(
     ensures tidy { IfOk result (λ r. All (IsTidyColumn problem.now) r.items) }
     ensures all { IfOk result (λ r. r.items ≡ columns_of_paths tree.now.paths) }
 {
-    // called for its contract
+    // called for its contract: the columns are of the graph, and tidy
     columns_are_tidy(tree, problem);
     // a tree has no more columns than leaves
     let columns = columns_as_found(tree, tree.leaves() as usize)?;
     Ok(columns)
 }
 
-/// Its contract says that the columns of a tree of a graph are tidy.
+/// Does nothing: its contract says that the columns of a tree over a graph's scenarios are tidy.
 pub fn columns_are_tidy(tree: &Tree<Option<u64>>, problem: &Problem)
     requires faults { tree.now.faults ≡ problem.now.faults }
     requires known { All (λ p. IsKnown problem.now p.0) tree.now.paths }
@@ -104,7 +106,7 @@ pub fn columns_are_tidy(tree: &Tree<Option<u64>>, problem: &Problem)
     let _items = tree.items();
 }
 
-/// The paths with a number, each with its own cube, from the left to the right. Room is taken for `room` of them at once. The one
+/// Returns the columns of a tree from left to right. `room` is for how many of them memory is taken at first. The one
 /// error is `OutOfMemory`.
 pub fn columns_as_found(tree: &Tree<Option<u64>>, room: usize) -> Result<Vec<Column>, OutOfMemory>
     ensures { IfOk result (λ r. r.items ≡ columns_of_paths tree.now.paths) }
@@ -116,8 +118,8 @@ pub fn columns_as_found(tree: &Tree<Option<u64>>, room: usize) -> Result<Vec<Col
     Ok(columns)
 }
 
-/// The paths with a number, each with its own cube, from the left to the right, and whether they are known to stand by the least
-/// scenario along the order that they match. The one error is `OutOfMemory`.
+/// Returns the columns of a tree from left to right, and whether they are known to stand by their least scenarios
+/// along the order. The one error is `OutOfMemory`.
 pub fn listing_along(
     tree: &Tree<Option<u64>>,
     problem: &Problem,
@@ -135,7 +137,8 @@ pub fn listing_along(
     Ok(Listing { columns, is_sorted })
 }
 
-/// The paths with a number, each with its own cube, by the least scenario that it matches. The one error is `OutOfMemory`.
+/// Returns the columns of a tree, sorted by the least scenario that each matches along the order. The one error is
+/// `OutOfMemory`.
 pub fn columns(
     tree: &Tree<Option<u64>>,
     problem: &Problem,

@@ -1,4 +1,4 @@
-//! The greatest number of a tree where another one is true, without a tree of both.
+//! The greatest number that a tree has where another tree is true, found without a tree of both.
 ghost use Rattle.std.specs.Prelude.{◌≡◌, ℕ, Bool, Option, Some, false, true, IfNone, IfSome};
 ghost use Rattle.std.specs.Bool.{OnFalse, OnTrue};
 ghost use Rattle.cpg_base.specs.Scenario.{Scenario};
@@ -10,7 +10,8 @@ ghost use Rattle.cpg_tree_columns.specs.Meeting.{IsMetIn, IsMostInSpace, IsUpTo,
 
 use cpg_tree::{Space, Top, Tree, TreeItem, top_of};
 
-/// Whether a tree is true in some scenario of a space.
+/// Whether the tree is true in some scenario of the space. The space is narrowed on the way down and is as before in
+/// the end.
 fn holds_in(items: &[TreeItem<bool>], space: &mut Space) -> bool
     requires { IsFlat items.now }
     ensures back { space.new ≡ space.old }
@@ -25,30 +26,30 @@ fn holds_in(items: &[TreeItem<bool>], space: &mut Space) -> bool
             below,
             above,
         } => {
-            // all scenarios of the space go above the cut
+            // no scenario of the space goes below the cut
             if !space.is_open_below(variable, cut) {
                 return holds_in(above, space);
             }
-            // all scenarios of the space go below the cut
+            // none goes above it
             if !space.is_open_above(variable, cut) {
                 return holds_in(below, space);
             }
             let most = space.close_above(variable, cut);
-            let low = holds_in(below, space);
+            let holds_below = holds_in(below, space);
             space.reopen_above(variable, most);
-            // the side below is enough
-            if low {
+            // true on the side below is enough
+            if holds_below {
                 return true;
             }
             let least = space.close_below(variable, cut);
-            let high = holds_in(above, space);
+            let holds_above = holds_in(above, space);
             space.reopen_below(variable, least);
-            high
+            holds_above
         }
     }
 }
 
-/// Whether a number is greater than the greatest so far.
+/// Whether there is a number and it is greater than the best one so far, if there is one.
 fn is_greater(number: Option<u64>, best: Option<u64>) -> bool
     ensures none { OnFalse result ((n : ℕ) → number ≡ Some n → IsUpTo best n) }
     ensures some { OnTrue result ((n : ℕ) → IsUpTo best n → IsUpTo number n) }
@@ -62,7 +63,9 @@ fn is_greater(number: Option<u64>, best: Option<u64>) -> bool
     }
 }
 
-/// The greatest of a number and of a tree's numbers in a space where another tree is true.
+/// Returns the greater of `best` and of the greatest number that the tree has in a scenario of the space in which
+/// `wanted` is true; `None` exactly if there is neither. The space is narrowed on the way down and is as before in the
+/// end.
 fn most_in_space(
     items: &[TreeItem<Option<u64>>],
     space: &mut Space,
@@ -92,26 +95,27 @@ fn most_in_space(
             below,
             above,
         } => {
-            // all scenarios of the space go above the cut
+            // no scenario of the space goes below the cut
             if !space.is_open_below(variable, cut) {
                 return most_in_space(above, space, wanted, best);
             }
-            // all scenarios of the space go below the cut
+            // none goes above it
             if !space.is_open_above(variable, cut) {
                 return most_in_space(below, space, wanted, best);
             }
             let most = space.close_above(variable, cut);
-            let low = most_in_space(below, space, wanted, best);
+            let with_below = most_in_space(below, space, wanted, best);
             space.reopen_above(variable, most);
             let least = space.close_below(variable, cut);
-            let high = most_in_space(above, space, wanted, low);
+            let with_both = most_in_space(above, space, wanted, with_below);
             space.reopen_below(variable, least);
-            high
+            with_both
         }
     }
 }
 
-/// The greatest number in a scenario in which another tree is true; `None` exactly if there is none.
+/// Returns the greatest number that `tree` has in a scenario in which `wanted` is true; `None` exactly if there is
+/// none.
 pub fn most_where(tree: &Tree<Option<u64>>, wanted: &Tree<bool>) -> Option<u64>
     requires same { tree.now.faults ≡ wanted.now.faults }
     ensures none { IfNone result (IsNowhere tree.now wanted.now) }

@@ -1,4 +1,4 @@
-//! The cube of a path, in place.
+//! The cube of a path down a tree, narrowed and restored in place.
 ghost use Rattle.std.specs.Prelude.{◌≡◌, ◌<◌, ◌≤◌, [], All, IfOk, insert, length, remove, vec_len, vec_capacity};
 ghost use Rattle.cpg_cube.specs.Narrow.{narrowed_by};
 ghost use Rattle.cpg_cube.specs.Undo.{IsOn, IsUndo, restored};
@@ -9,13 +9,14 @@ use cpg_cube::{Literal, Narrowing, first_literal_from, is_above};
 use std::alloc::Global;
 use std::marker::Model;
 
-/// How many literals a cube has at most: one for each variable.
-const MOST: usize = 256;
+/// The most literals that a cube has: one for each variable, which is a byte.
+const MOST_LITERALS: usize = 256;
 
-/// A cube that is narrowed on the way down and restored on the way up, seen as the list of its literals, the variables rising. It
-/// needs no more memory.
+/// A cube that is narrowed on the way down and restored on the way up. A contract sees it as the list of its literals,
+/// by rising variable. It takes all its memory at first, so that no step can fail.
 #[derive(Drop)]
 pub struct PathCube {
+    /// The literals of the path, by rising variable; at most one of each.
     literals: Vec<Literal>,
 }
 
@@ -31,7 +32,7 @@ impl Model for PathCube {
     ghost invariant = { λ c. IsPath c.literals.items × (256 ≤ vec_capacity c.literals) };
 }
 
-/// Adds a literal behind all others.
+/// Adds a literal behind all others, whose variables are less, and returns that step.
 fn put_last(literals: &mut Vec<Literal>, literal: Literal) -> Narrowing
     requires room { vec_len literals.old < vec_capacity literals.old }
     requires above { All (λ l. l.variable < literal.variable) literals.old.items }
@@ -45,7 +46,7 @@ fn put_last(literals: &mut Vec<Literal>, literal: Literal) -> Narrowing
     Narrowing { place, was: None }
 }
 
-/// Adds a literal at a place.
+/// Inserts a literal at a place. There is room, so this can't fail.
 fn put_at(literals: &mut Vec<Literal>, place: usize, literal: Literal)
     requires room { vec_len literals.old < vec_capacity literals.old }
     requires place { place ≤ vec_len literals.old }
@@ -57,7 +58,8 @@ fn put_at(literals: &mut Vec<Literal>, place: usize, literal: Literal)
     }
 }
 
-/// Puts a literal in its place, or meets the one on its variable with it.
+/// Narrows the cube by a literal, and returns that step: the literal is put in its place, or met with the one on its
+/// variable.
 fn narrow_between(literals: &mut Vec<Literal>, literal: Literal) -> Narrowing
     requires path { IsPath literals.old.items }
     requires room { 256 ≤ vec_capacity literals.old }
@@ -66,6 +68,7 @@ fn narrow_between(literals: &mut Vec<Literal>, literal: Literal) -> Narrowing
     ensures on { IsOn literal.variable result literals.new.items }
     ensures capacity { 256 ≤ vec_capacity literals.new }
 {
+    // no literal is on its variable or a later one, so it goes to the end
     let Some(place) = first_literal_from(literals.as_slice(), literal.variable) else {
         let place = literals.len();
         literals.push_reserved(literal);
@@ -83,7 +86,7 @@ fn narrow_between(literals: &mut Vec<Literal>, literal: Literal) -> Narrowing
     Narrowing { place, was: None }
 }
 
-/// Loses a literal, which mostly is the last one.
+/// Takes out the literal at a place. It is mostly the last one, for which nothing has to move.
 fn take_off(literals: &mut Vec<Literal>, place: usize)
     requires { place < length literals.old.items }
     ensures items { literals.new.items ≡ remove literals.old.items place }
@@ -97,15 +100,15 @@ fn take_off(literals: &mut Vec<Literal>, place: usize)
 }
 
 impl PathCube {
-    /// The cube without literals, with all the memory that it ever needs. The one error is `OutOfMemory`.
+    /// Returns the cube without literals, with room for all that it may get. The one error is `OutOfMemory`.
     pub fn whole(alloc: Global) -> Result<PathCube, OutOfMemory>
         ensures { IfOk result (λ path. path ≡ []) }
     {
-        let literals = Vec::with_capacity(alloc, MOST)?;
+        let literals = Vec::with_capacity(alloc, MOST_LITERALS)?;
         Ok(PathCube { literals })
     }
 
-    /// The literals, by rising variable.
+    /// Returns the literals, by rising variable.
     pub fn literals(&self) -> &[Literal]
         ensures literals { result.now ≡ self.now }
         ensures path { IsPath self.now }
@@ -113,7 +116,7 @@ impl PathCube {
         self.literals.as_slice()
     }
 
-    /// Becomes the cube with a literal more, met with the one on its variable.
+    /// Narrows the cube by a literal, and returns that step, with which `exchange` and `restore` undo it.
     #[inline]
     pub fn narrow(&mut self, literal: Literal) -> Narrowing
         ensures narrowed { self.new ≡ narrowed_by literal self.old }
@@ -121,14 +124,15 @@ impl PathCube {
         ensures on { IsOn literal.variable result self.new }
         ensures path { IsPath self.old }
     {
-        // along a path a variable is mostly above all others
+        // on the way down a variable is mostly above all others
         if is_above(self.literals.as_slice(), literal.variable) {
             return put_last(&mut self.literals, literal);
         }
         narrow_between(&mut self.literals, literal)
     }
 
-    /// Becomes what it was before a step, narrowed by another literal on the variable.
+    /// Undoes a step and narrows the cube by another literal on the same variable instead. The step then undoes that
+    /// one.
     #[inline]
     pub fn exchange(&mut self, step: Narrowing, literal: Literal)
         requires within { step.place < length self.old }
@@ -141,7 +145,7 @@ impl PathCube {
         self.literals[step.place] = left;
     }
 
-    /// Becomes what it was before a step.
+    /// Undoes a step, which has to be the last one that isn't undone.
     #[inline]
     pub fn restore(&mut self, step: Narrowing)
         requires within { step.place < length self.old }

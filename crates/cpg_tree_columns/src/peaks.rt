@@ -1,4 +1,4 @@
-//! The greatest number of a tree of times.
+//! The greatest time of a tree, and the first scenario that has it.
 ghost use Rattle.std.specs.Prelude.{◌≡◌, ◌≢◌, ℕ, Bool, Option, None, Some, All, IfNone, IfOk, IfSome, IsPermutation};
 ghost use Rattle.std.specs.Bool.{OnFalse, OnTrue};
 ghost use Rattle.std.specs.Option.{option_map};
@@ -20,7 +20,7 @@ use cpg_base::{Order, OutOfMemory, Problem, Scenario, top};
 use cpg_cube::{Cube, Literal, first_by_least_scenario};
 use cpg_tree::{Top, Tree, TreeItem, top_of};
 
-/// The greater of two numbers, or the only one if there is one; `None` if there is none.
+/// Returns the greater of two numbers, the only one if the other is missing, and `None` if both are.
 fn greater(first: Option<u64>, second: Option<u64>) -> Option<u64>
     ensures { result ≡ greater first second }
 {
@@ -33,7 +33,7 @@ fn greater(first: Option<u64>, second: Option<u64>) -> Option<u64>
     Some(first.max(second))
 }
 
-/// A time, if it is this one.
+/// Returns the time if it is the wanted one, and `None` otherwise.
 fn if_wanted(wanted: u64, time: Option<u64>) -> Option<u64>
     ensures { result ≡ if_wanted wanted time }
 {
@@ -41,7 +41,7 @@ fn if_wanted(wanted: u64, time: Option<u64>) -> Option<u64>
     if time == wanted { Some(time) } else { None }
 }
 
-/// The time of an item; a fork has none.
+/// Returns the time of an item of a tree's list; `None` if it is a fork or a leaf without a time.
 fn time_of(item: TreeItem<Option<u64>>) -> Option<u64>
     ensures { result ≡ time_of item }
 {
@@ -51,7 +51,8 @@ fn time_of(item: TreeItem<Option<u64>>) -> Option<u64>
     }
 }
 
-/// The greatest number of a leaf. The forks do not matter, so one pass over the items finds it.
+/// Returns the greatest number of the leaves; `None` if no leaf has one. Forks don't matter, so one pass over the list
+/// finds it.
 fn most_of(items: &[TreeItem<Option<u64>>]) -> Option<u64>
     requires { IsFlat items.now }
     ensures { (n : TreeNode (Option ℕ)) → items.now ≡ flat n → result ≡ most_of n }
@@ -63,7 +64,7 @@ fn most_of(items: &[TreeItem<Option<u64>>]) -> Option<u64>
     most
 }
 
-/// The tree of one number alone.
+/// Returns the tree that has `wanted` where `tree` has it, and no number elsewhere.
 fn only_wanted(tree: &Tree<Option<u64>>, wanted: u64) -> Result<Tree<Option<u64>>, OutOfMemory>
     ensures is { IfOk result (IsMap (λ x z. z ≡ if_wanted wanted x) tree.now) }
     ensures each { IfOk result (λ t. HasOnePathEach t.faults t.paths) }
@@ -72,7 +73,8 @@ fn only_wanted(tree: &Tree<Option<u64>>, wanted: u64) -> Result<Tree<Option<u64>
     tree.map(&|time: Option<u64>| if_wanted(wanted, time))
 }
 
-/// The least scenario that has a number; `None` exactly if no scenario has one.
+/// Returns the least scenario along the order that has some number; `None` exactly if none has one. The one error is
+/// `OutOfMemory`.
 fn first_with_number(
     tree: &Tree<Option<u64>>,
     problem: &Problem,
@@ -93,11 +95,13 @@ fn first_with_number(
     };
     match columns[place].cube.least(tree.alloc(), problem)? {
         Some(least) => Ok(Some(least)),
+        // each column of a tree matches some scenario
         None => unreachable!(),
     }
 }
 
-/// The least scenario that has the number; `None` exactly if no path has it.
+/// Returns the least scenario along the order that has the number, by a list of the columns that have it; `None`
+/// exactly if no path has it. The one error is `OutOfMemory`.
 fn least_listed(
     tree: &Tree<Option<u64>>,
     problem: &Problem,
@@ -119,8 +123,8 @@ fn least_listed(
     first_with_number(&alone, problem, order)
 }
 
-/// Narrows a cube by the way to the first leaf from the left with a number. Returns false exactly if no leaf has it,
-/// and then the cube is what it was.
+/// Narrows the cube to that of the first leaf from the left that has the number, and returns true. If no leaf has it,
+/// returns false and leaves the cube as it was.
 fn narrow_to_first(
     items: &[TreeItem<Option<u64>>],
     k: u8,
@@ -146,33 +150,34 @@ fn narrow_to_first(
                 low: cut + 1,
                 high: top(k, variable),
             };
-            let low = cube.narrow(Literal {
+            let step = cube.narrow(Literal {
                 variable,
                 low: 0,
                 high: cut,
             })?;
-            match low {
+            match step {
                 // the cube has numbers up to the cut
-                Some(low) => {
+                Some(step) => {
                     if narrow_to_first(below, k, cube, wanted)? {
                         return Ok(true);
                     }
-                    // it is narrowed in place, which is less work than going back and down again
-                    if cube.exchange(low, upper) {
+                    // the same literal is narrowed anew, for the other side, which is less work than to restore it and
+                    // narrow again
+                    if cube.exchange(step, upper) {
                         if narrow_to_first(above, k, cube, wanted)? {
                             return Ok(true);
                         }
-                        cube.restore(low);
+                        cube.restore(step);
                     }
                 }
                 // the cube has only numbers above the cut
                 None => {
-                    let high = cube.narrow(upper)?;
-                    if let Some(high) = high {
+                    let upper_step = cube.narrow(upper)?;
+                    if let Some(upper_step) = upper_step {
                         if narrow_to_first(above, k, cube, wanted)? {
                             return Ok(true);
                         }
-                        cube.restore(high);
+                        cube.restore(upper_step);
                     }
                 }
             }
@@ -181,7 +186,8 @@ fn narrow_to_first(
     }
 }
 
-/// The least scenario of the first column from the left with a time; `None` exactly if no column has it.
+/// Returns the least scenario of the first column from the left that has the time; `None` exactly if no column has it.
+/// If columns stand by their least scenarios, no earlier scenario has the time. The one error is `OutOfMemory`.
 fn least_found(
     tree: &Tree<Option<u64>>,
     problem: &Problem,
@@ -202,7 +208,8 @@ fn least_found(
     Ok(least)
 }
 
-/// The least scenario that has the number; `None` exactly if no path has it.
+/// Returns the least scenario along the order that has the number; `None` exactly if no path has it. The one error is
+/// `OutOfMemory`.
 fn least_with(
     tree: &Tree<Option<u64>>,
     problem: &Problem,
@@ -215,15 +222,15 @@ fn least_with(
     ensures none { IfOk result (λ r. IfNone r (All (λ p. p.1 ≢ Some wanted) tree.now.paths)) }
     ensures some { IfOk result (λ r. IfSome r (IsLeast problem.now order.now (HasValueAt tree.now.paths (Some wanted)))) }
 {
-    // in this case the first path from the left has the least scenario, and neither a tree of this number alone nor a
-    // list is needed
+    // if the columns stand by their least scenarios, the first one with the number has the least, and no list is
+    // needed
     if stand_along(tree, problem, order)? {
         return least_found(tree, problem, wanted);
     }
     least_listed(tree, problem, order, wanted)
 }
 
-/// The greatest number of a path; `None` exactly if no path has one.
+/// Returns the greatest number of the paths; `None` exactly if no path has one.
 pub fn most(tree: &Tree<Option<u64>>) -> Option<u64>
     ensures none { IfNone result (All (λ p. p.1 ≡ None) tree.now.paths) }
     ensures some { IfSome result (IsGreatestNumber tree.now) }
@@ -231,7 +238,8 @@ pub fn most(tree: &Tree<Option<u64>>) -> Option<u64>
     most_of(tree.items())
 }
 
-/// The greatest number, with its least scenario; `None` exactly if no scenario has a number. The one error is `OutOfMemory`.
+/// Returns the greatest number with the least scenario along the order that has it; `None` exactly if no path has a
+/// number. The one error is `OutOfMemory`.
 pub fn greatest(
     tree: &Tree<Option<u64>>,
     problem: &Problem,
@@ -248,6 +256,7 @@ pub fn greatest(
     };
     match least_with(tree, problem, order, most)? {
         Some(least) => Ok(Some((most, least))),
+        // a leaf has the greatest number, so some path has it
         None => unreachable!(),
     }
 }

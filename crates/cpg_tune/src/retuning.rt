@@ -7,7 +7,7 @@ ghost use Rattle.cpg_tune.specs.Retuned.{retuned, in_parts_each, ArePartsOf};
 use cpg_base::{OutOfMemory, Problem, Process};
 use std::alloc::Global;
 
-/// The process in another number of parts.
+/// Returns a copy of the process that is cut into this many parts.
 fn in_parts(process: &Process, parts: u32) -> Result<Process, OutOfMemory>
     ensures { IfOk result (λ copy. copy ≡ in_parts process.now parts) }
 {
@@ -16,7 +16,8 @@ fn in_parts(process: &Process, parts: u32) -> Result<Process, OutOfMemory>
     Ok(copy)
 }
 
-/// Each process in the number of parts at its place.
+/// Returns a copy of each process that is cut into the number of parts at its place in `parts`. If one list is longer, the
+/// rest of it is left out.
 fn in_parts_each(
     alloc: Global,
     processes: &[Process],
@@ -25,13 +26,13 @@ fn in_parts_each(
     ensures { IfOk result (λ copies. copies.items ≡ in_parts_each processes.now parts.now) }
 {
     let mut copies = Vec::new(alloc);
-    for (process, parts) in processes.iter().zip(parts) {
-        copies.push(in_parts(process, *parts)?)?;
+    for (process, count) in processes.iter().zip(parts) {
+        copies.push(in_parts(process, *count)?)?;
     }
     Ok(copies)
 }
 
-/// The graph with another fault number, and each process in the number of parts at its place.
+/// Returns a copy of the graph with another fault number, and each process cut into the number of parts at its place.
 pub fn retuned(
     alloc: Global,
     problem: &Problem,
@@ -47,6 +48,7 @@ pub fn retuned(
     let processes = in_parts_each(alloc, problem.processes(), parts)?;
     let edges = Vec::from_slice(alloc, problem.edges())?;
     let order = problem.order_copy()?;
+    // made anew without an order, which is then put back
     let retuned = Problem::of(faults, problem.deadline(), nodes, slots, processes, edges);
     Ok(retuned.with_order(order))
 }

@@ -7,7 +7,7 @@ pub mod ExtraLists
 pub mod Columnwise
 pub mod SieveLaws
 pub mod ApartLaws
-pub mod LineLaws
+pub mod SievedRowLaws
 pub mod Matching
 pub mod Moments
 pub mod Tests

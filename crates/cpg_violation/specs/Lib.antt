@@ -10,6 +10,6 @@ pub mod PartedView
 pub mod PartedFalls
 pub mod Sieves
 pub mod Parts
-pub mod Lines
+pub mod SievedRows
 pub mod Always
 pub mod Sources

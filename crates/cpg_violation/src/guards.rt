@@ -1,5 +1,5 @@
-//! Whether processes and items are active in all scenarios of a space, or in none, as quick tests ask it: a yes is sure,
-//! and a no says nothing.
+//! Whether processes and items are active in all scenarios of a space, or in none, as quick tests ask it: true is sure,
+//! and false says nothing.
 ghost use Rattle.std.specs.Prelude.{◌≡◌, ◌≤◌, ◌<◌, ℕ, IfOk, false, true};
 ghost use Rattle.std.specs.Bool.{OnTrue};
 ghost use Rattle.cpg_base.specs.declared.limits.TheConstants.{MOST_CONDITIONS};
@@ -10,8 +10,9 @@ ghost use Rattle.cpg_base.specs.Scenario.{Scenario, IsScenario};
 ghost use Rattle.cpg_rules.specs.Trees.{TestsBelow};
 ghost use Rattle.cpg_tree.specs.Space.{IsInSpace};
 ghost use Rattle.cpg_violation.specs.Activity.{comes_to};
-ghost use Rattle.cpg_violation.specs.Always.{AreAlways};
+ghost use Rattle.cpg_violation.specs.Always.{AreAlways, IsAlways};
 
+use crate::marks::tested_marks;
 use crate::sources::{ItemSource, item_source};
 use crate::value_literal;
 use cpg_base::{Edge, OutOfMemory, Problem};
@@ -19,7 +20,8 @@ use cpg_rules::{Admitted, GuardTop, GuardTree};
 use cpg_tree::Space;
 use std::alloc::Global;
 
-/// Whether a tree comes to an activation, or else to none, as wanted, in no scenario of a space.
+/// Whether a guard's process is active in no scenario of a space, if `wanted` is true, or inactive in none, if it is
+/// false. False guarantees nothing: conditions may be tested on the way that no scenario of the space decides so.
 fn is_never(tree: &GuardTree, wanted: bool, space: &Space) -> bool
     requires { (n : ℕ) × (n ≤ MOST_CONDITIONS) × TestsBelow n tree.now }
     ensures { OnTrue result ((s : Scenario) → IsInSpace space.now s → comes_to tree.now wanted s ≡ false) }
@@ -28,13 +30,16 @@ fn is_never(tree: &GuardTree, wanted: bool, space: &Space) -> bool
         GuardTop::Leaf(activation) => activation.is_active() != wanted,
         GuardTop::Test { condition, no, yes } => {
             let on = value_literal(condition, true);
+            // the whole space goes to one side
             if space.implies(&on) {
                 return is_never(yes, wanted, space);
             }
+            // some of the space may go to the side of false, which isn't known to avoid what is wanted
             if !is_never(no, wanted, space) {
                 return false;
             }
             let off = value_literal(condition, false);
+            // the whole space goes to that side
             if space.implies(&off) {
                 return true;
             }
@@ -43,7 +48,7 @@ fn is_never(tree: &GuardTree, wanted: bool, space: &Space) -> bool
     }
 }
 
-/// Whether a process is active in no scenario of a space.
+/// Whether a process is active in no scenario of a space. False guarantees nothing.
 fn is_idle(admitted: &Admitted, process: u32, space: &Space) -> bool
     requires { process < process_count admitted.now.graph }
     ensures { OnTrue result ((s : Scenario) → IsScenario admitted.now.graph s → IsInSpace space.now s → active admitted.now.graph s.values process ≡ false) }
@@ -51,7 +56,7 @@ fn is_idle(admitted: &Admitted, process: u32, space: &Space) -> bool
     is_never(admitted.guards().guard_of(process), true, space)
 }
 
-/// Whether a process is active in each scenario of a space. Its false guarantees nothing.
+/// Whether a process is active in each scenario of a space. False guarantees nothing.
 pub fn is_running(admitted: &Admitted, process: u32, space: &Space) -> bool
     requires { process < process_count admitted.now.graph }
     ensures { OnTrue result ((s : Scenario) → IsScenario admitted.now.graph s → IsInSpace space.now s → active admitted.now.graph s.values process ≡ true) }
@@ -59,23 +64,29 @@ pub fn is_running(admitted: &Admitted, process: u32, space: &Space) -> bool
     is_never(admitted.guards().guard_of(process), false, space)
 }
 
-/// Which processes are known to be active in every scenario. A process that isn't marked may be, too. The one error is
-/// `OutOfMemory`.
+/// Whether a process is active in every scenario. False guarantees nothing.
+fn is_always_active(admitted: &Admitted, process: u32) -> bool
+    requires { process < process_count admitted.now.graph }
+    ensures { OnTrue result (IsAlways admitted.now.graph process) }
+{
+    let space = Space::whole(admitted.problem().faults());
+    is_running(admitted, process, &space)
+}
+
+/// A mark for each process, by number: whether it is known to be active in every scenario. One that isn't marked may
+/// be, too. The one error is `OutOfMemory`.
 pub fn always_active(alloc: Global, admitted: &Admitted) -> Result<Vec<bool>, OutOfMemory>
     ensures { IfOk result (λ marks. AreAlways admitted.now.graph marks.items) }
 {
-    let problem = admitted.problem();
-    let space = Space::whole(problem.faults());
-    let count = problem.processes().len() as u32;
-    let mut marks = Vec::new(alloc);
-    marks.reserve(count as usize)?;
-    for process in 0..count {
-        marks.push(is_running(admitted, process, &space))?;
-    }
+    let processes = admitted.problem().processes().len() as u32;
+    let marks = tested_marks(alloc, processes, |process| {
+        is_always_active(admitted, process)
+    })?;
     Ok(marks)
 }
 
-/// An edge.
+/// The edge with this number. The clauses say that its source is a process, and that the graph is within its limits, as
+/// those who ask for its condition have to know.
 fn edge_of(problem: &Problem, edge: u32) -> Edge
     requires { edge < edge_count problem.now }
     ensures edge { result ≡ edge_at problem.now edge }
@@ -85,39 +96,46 @@ fn edge_of(problem: &Problem, edge: u32) -> Edge
     problem.edges()[edge as usize]
 }
 
-/// Whether the source of an edge has the value that the edge asks for in no scenario of a space. Its false guarantees nothing.
+/// Whether in no scenario of a space the source of an edge has the value that the edge asks for. False guarantees
+/// nothing.
 pub fn is_refused(problem: &Problem, edge: u32, space: &Space) -> bool
     requires { edge < edge_count problem.now }
     ensures { OnTrue result ((s : Scenario) → IsInSpace space.now s →
         takes (edge_at problem.now edge).when (value_of problem.now s.values (source problem.now edge)) ≡ false) }
 {
     let edge = edge_of(problem, edge);
+    // the edge takes any value
     let Some(value) = edge.when else {
         return false;
     };
+    // the source has no condition of which a space could say something
     let Some(condition) = problem.condition_of(edge.from) else {
         return false;
     };
     space.implies(&value_literal(condition, !value))
 }
 
-/// Whether the source of an edge has the value that the edge asks for in each scenario of a space.
+/// Whether in each scenario of a space the source of an edge has the value that the edge asks for. False guarantees
+/// nothing.
 fn is_taken(problem: &Problem, edge: u32, space: &Space) -> bool
     requires { edge < edge_count problem.now }
     ensures { OnTrue result ((s : Scenario) → IsInSpace space.now s →
         takes (edge_at problem.now edge).when (value_of problem.now s.values (source problem.now edge)) ≡ true) }
 {
     let edge = edge_of(problem, edge);
+    // the edge takes any value
     let Some(value) = edge.when else {
         return true;
     };
+    // the source has no condition of which a space could say something
     let Some(condition) = problem.condition_of(edge.from) else {
         return false;
     };
     space.implies(&value_literal(condition, value))
 }
 
-/// Whether an edge is live in no scenario of a space.
+/// Whether an edge is live in no scenario of a space: its source never has the asked value, or is never active. False
+/// guarantees nothing.
 fn is_edge_idle(admitted: &Admitted, edge: u32, space: &Space) -> bool
     requires { edge < edge_count admitted.now.graph }
     ensures { OnTrue result ((s : Scenario) → IsScenario admitted.now.graph s → IsInSpace space.now s → live admitted.now.graph s.values edge ≡ false) }
@@ -129,7 +147,8 @@ fn is_edge_idle(admitted: &Admitted, edge: u32, space: &Space) -> bool
     is_idle(admitted, problem.source(edge), space)
 }
 
-/// Whether an edge is live in each scenario of a space.
+/// Whether an edge is live in each scenario of a space: its source always has the asked value, and is always active.
+/// False guarantees nothing.
 fn is_edge_running(admitted: &Admitted, edge: u32, space: &Space) -> bool
     requires { edge < edge_count admitted.now.graph }
     ensures { OnTrue result ((s : Scenario) → IsScenario admitted.now.graph s → IsInSpace space.now s → live admitted.now.graph s.values edge ≡ true) }
@@ -141,7 +160,7 @@ fn is_edge_running(admitted: &Admitted, edge: u32, space: &Space) -> bool
     is_running(admitted, problem.source(edge), space)
 }
 
-/// Whether an item is active in no scenario of a space. Its false guarantees nothing.
+/// Whether an item is active in no scenario of a space. False guarantees nothing.
 pub fn is_item_idle(admitted: &Admitted, item: u32, space: &Space) -> bool
     requires { item < item_count admitted.now.graph }
     ensures { OnTrue result ((s : Scenario) → IsScenario admitted.now.graph s → IsInSpace space.now s →
@@ -154,7 +173,7 @@ pub fn is_item_idle(admitted: &Admitted, item: u32, space: &Space) -> bool
     }
 }
 
-/// Whether an item is active in each scenario of a space. Its false guarantees nothing.
+/// Whether an item is active in each scenario of a space. False guarantees nothing.
 pub fn is_item_running(admitted: &Admitted, item: u32, space: &Space) -> bool
     requires { item < item_count admitted.now.graph }
     ensures { OnTrue result ((s : Scenario) → IsScenario admitted.now.graph s → IsInSpace space.now s →

@@ -9,6 +9,7 @@ ghost use Rattle.cpg_table.specs.declared.rule.Rule.{Rule};
 ghost use Rattle.cpg_violation.specs.Sure.{AreSure, IsSure};
 
 use crate::longest::longest;
+use crate::marks::tested_marks;
 use cpg_base::{OutOfMemory, Problem};
 use cpg_cube::Column;
 use cpg_rules::Admitted;
@@ -16,7 +17,8 @@ use cpg_table::Tables;
 use cpg_tree::Space;
 use std::alloc::Global;
 
-/// Whether an execution that a column starts ends by its process's due.
+/// Whether an execution that a column starts ends by its process's due in every scenario that the column matches. False
+/// guarantees nothing.
 fn ends_in_time(problem: &Problem, process: u32, column: &Column) -> bool
     requires { process < process_count problem.now }
     ensures { OnTrue result ((s : Scenario) → IsScenario problem.now s → matches column.now.cube s ≡ true →
@@ -26,13 +28,14 @@ fn ends_in_time(problem: &Problem, process: u32, column: &Column) -> bool
     let Some(space) = Space::of(problem.faults(), column.cube.literals()) else {
         return true;
     };
+    // if the sum is too great for 64 bits, it is past every due
     let end = column
         .time
         .saturating_add(longest(problem, process, &space));
     end <= problem.due(process)
 }
 
-/// Whether an execution ends by its process's due whichever of these columns starts it.
+/// Whether an execution ends by its process's due, whichever of these columns starts it. False guarantees nothing.
 fn all_end_in_time(problem: &Problem, process: u32, columns: &[Column]) -> bool
     requires { process < process_count problem.now }
     ensures { OnTrue result (All (λ c. (s : Scenario) → IsScenario problem.now s → matches c.cube s ≡ true →
@@ -52,7 +55,7 @@ fn all_end_in_time(problem: &Problem, process: u32, columns: &[Column]) -> bool
     true
 }
 
-/// Whether a row keeps the rule.
+/// Whether V9 is known to hold at an item.
 fn is_sure(problem: &Problem, tables: &Tables, item: u32) -> bool
     requires { item < item_count problem.now }
     ensures { OnTrue result (IsSure problem.now tables.now.nodes Rule.Due item) }
@@ -64,7 +67,8 @@ fn is_sure(problem: &Problem, tables: &Tables, item: u32) -> bool
     all_end_in_time(problem, item, tables.columns_of(item))
 }
 
-/// Items whose executions all end by their dues. An item that isn't marked may be one, too. The one error is `OutOfMemory`.
+/// A mark for each item, by number: whether V9 is known to hold there. It may hold at one that isn't marked, too. The
+/// one error is `OutOfMemory`.
 pub fn due_marks(
     alloc: Global,
     admitted: &Admitted,
@@ -73,11 +77,7 @@ pub fn due_marks(
     ensures { IfOk result (λ marks. AreSure admitted.now.graph tables.now.nodes Rule.Due marks.items) }
 {
     let problem = admitted.problem();
-    let count = problem.item_count();
-    let mut marks = Vec::new(alloc);
-    marks.reserve(count as usize)?;
-    for item in 0..count {
-        marks.push(is_sure(problem, tables, item))?;
-    }
+    let items = problem.item_count();
+    let marks = tested_marks(alloc, items, |item| is_sure(problem, tables, item))?;
     Ok(marks)
 }

@@ -5,16 +5,18 @@ ghost use Rattle.cpg_base.specs.Graph.{item_count};
 ghost use Rattle.cpg_table.specs.declared.rule.Rule.{Rule};
 ghost use Rattle.cpg_violation.specs.Sure.{AreSure, IsSure};
 
+use crate::marks::tested_marks;
 use cpg_base::{OutOfMemory, Problem};
 use cpg_cube::Column;
 use cpg_rules::Admitted;
 use cpg_table::Tables;
 use std::alloc::Global;
 
-/// Whether all these columns are at one time, also those that match in no scenario.
+/// Whether all these columns have one time, also those that match in no scenario.
 fn is_one_time(columns: &[Column]) -> bool
     ensures { OnTrue result ((time : ℕ) × All (λ c. c.time ≡ time) columns.now) }
 {
+    // no column has another time than the others
     let Some(first) = columns.first() else {
         return true;
     };
@@ -27,18 +29,20 @@ fn is_one_time(columns: &[Column]) -> bool
     true
 }
 
-/// Whether a row keeps the rule.
+/// Whether V8 is known to hold at an item.
 fn is_sure(problem: &Problem, tables: &Tables, item: u32) -> bool
     requires { item < item_count problem.now }
     ensures { OnTrue result (IsSure problem.now tables.now.nodes Rule.Frozen item) }
 {
+    // the rule is about frozen items alone
     if !problem.is_frozen(item) {
         return true;
     }
     is_one_time(tables.columns_of(item))
 }
 
-/// Items that aren't frozen, or have one time. An item that isn't marked may be one, too. The one error is `OutOfMemory`.
+/// A mark for each item, by number: whether V8 is known to hold there. It may hold at one that isn't marked, too. The
+/// one error is `OutOfMemory`.
 pub fn frozen_marks(
     alloc: Global,
     admitted: &Admitted,
@@ -47,11 +51,7 @@ pub fn frozen_marks(
     ensures { IfOk result (λ marks. AreSure admitted.now.graph tables.now.nodes Rule.Frozen marks.items) }
 {
     let problem = admitted.problem();
-    let count = problem.item_count();
-    let mut marks = Vec::new(alloc);
-    marks.reserve(count as usize)?;
-    for item in 0..count {
-        marks.push(is_sure(problem, tables, item))?;
-    }
+    let items = problem.item_count();
+    let marks = tested_marks(alloc, items, |item| is_sure(problem, tables, item))?;
     Ok(marks)
 }

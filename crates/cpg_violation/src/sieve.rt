@@ -1,5 +1,5 @@
-//! Columns sorted by the ranges of their literals, so that those that may match together with a cube are found without a
-//! look at each.
+//! The columns of a row, parted by the ranges of their literals: those that may match together with a cube are found
+//! without a look at each.
 ghost use Rattle.std.specs.Prelude.{◌≡◌, ◌≤◌, ◌<◌, ◌&&◌, ℕ, IfOk, IfSome, Contains, false, length, nat_le, not, true};
 ghost use Rattle.std.specs.Bool.{OnFalse};
 ghost use Rattle.cpg_base.specs.declared.limits.TheConstants.{MOST_LOAD};
@@ -16,25 +16,30 @@ use cpg_tree::Tally;
 use std::alloc::Global;
 use std::marker::Model;
 
-/// The most times that places are parted.
-const DEPTH: u32 = 160;
-/// A list of at most this many places isn't parted.
-const FEW: usize = 24;
-/// How many places are looked at to choose a cut.
-const SAMPLE: usize = 8;
+/// At most this many cuts are below one another: one for each variable that a graph may have (128 counts, 32 values).
+/// It only bounds the depth of recursion.
+const MOST_CUTS: u32 = 160;
+/// A list of at most this many places isn't parted, as a look at each takes little time.
+const MOST_IN_LEAF: usize = 24;
+/// By at most this many of its places it is tried first whether a cut parts a list.
+const SAMPLE_SIZE: usize = 8;
 
-/// The places of the columns of a row, parted by whether a variable may be at most a number: seen as a tree of such cuts.
-/// A place stands on both sides if its column may match on both.
+/// The places of the columns of a row, as a tree of cuts. A cut parts places by whether the column may match with a
+/// variable at most at a number, or above it: a place is on both sides if its column may match on both.
 #[cycle(sieve)]
 #[derive(Drop)]
 pub struct Sieve {
+    /// The root of the tree.
     node: SieveNode,
 }
 
+/// The root of a sieve.
 #[cycle(sieve)]
 #[derive(Drop)]
 enum SieveNode {
+    /// Places that aren't parted.
     Leaf(Vec<u32>),
+    /// Places that are parted by whether a variable is at most a number.
     Cut {
         variable: u8,
         most: u8,
@@ -62,7 +67,8 @@ impl Model for Sieve {
     ghost size_decreases = { λ a h. deep_le-size a.node };
 }
 
-/// Whether a literal lets a variable be at most a number, or else above it.
+/// Whether a literal leaves a variable a number on a side of a cut: one that is at most `most`, if `below`, or one
+/// above, if not.
 fn lets(literal: &Literal, variable: u8, most: u8, below: bool) -> bool
     ensures { OnFalse result ((s : Scenario) → holds s literal.now ≡ true → nat_le (number_of s variable) most ≡ not below) }
 {
@@ -76,7 +82,8 @@ fn lets(literal: &Literal, variable: u8, most: u8, below: bool) -> bool
     most < literal.high
 }
 
-/// Whether a cube lets a variable be at most a number, or else above it.
+/// Whether a cube leaves a variable a number on a side of a cut: one that is at most `most`, if `below`, or one above,
+/// if not.
 fn goes(cube: &Cube, variable: u8, most: u8, below: bool) -> bool
     ensures { OnFalse result ((s : Scenario) → matches cube.now s ≡ true → nat_le (number_of s variable) most ≡ not below) }
 {
@@ -92,7 +99,8 @@ fn goes(cube: &Cube, variable: u8, most: u8, below: bool) -> bool
     true
 }
 
-/// Whether the column at a place lets a variable be at most a number, or else above it; not if there is no column.
+/// Whether the cube of the column at a place leaves a variable a number on a side of a cut; false if there is no
+/// column.
 fn column_goes(columns: &[Column], place: u32, variable: u8, most: u8, below: bool) -> bool
     ensures { OnFalse result ((s : Scenario) → place < length columns.now → matches (column_at columns.now place).cube s ≡ true →
         nat_le (number_of s variable) most ≡ not below) }
@@ -103,7 +111,7 @@ fn column_goes(columns: &[Column], place: u32, variable: u8, most: u8, below: bo
     goes(&column.cube, variable, most, below)
 }
 
-/// How many of these places go to one side of a cut.
+/// How many of these places go to one side of a cut: below it, if `below`, or above it, if not.
 fn going(columns: &[Column], places: &[u32], variable: u8, most: u8, below: bool) -> usize {
     let mut count: usize = 0;
     for place in places {
@@ -114,14 +122,17 @@ fn going(columns: &[Column], places: &[u32], variable: u8, most: u8, below: bool
     count
 }
 
-/// Where to cut.
+/// A cut by whether a variable is at most a number.
 #[derive(Clone, Copy)]
 struct Cut {
+    /// The variable that is asked for.
     variable: u8,
+    /// The greatest number of the variable on the low side.
     most: u8,
 }
 
-/// Whether a cut parts `all` places, with few on both sides, if `below` of them go below it and `above` of them above it.
+/// Whether a cut parts `all` places well, if `below` of them go below it and `above` of them above it: some go to each
+/// side alone, and those that go to both are at most half as many as the fewer of these.
 fn is_parted(all: usize, below: usize, above: usize) -> bool {
     // all go below, so the cut parts nothing
     if below >= all {
@@ -131,21 +142,22 @@ fn is_parted(all: usize, below: usize, above: usize) -> bool {
     if above >= all {
         return false;
     }
-    // those that go below alone and those that go above alone; the rest of those below go both ways
+    // `low` go below alone, and `high` above alone; the rest of those that go below go both ways
     let low = all - above;
     let high = all - below;
     let both = below.saturating_sub(low);
     both <= low.min(high) / 2
 }
 
-/// Whether a cut parts these places, with few on both sides.
+/// Whether a cut parts these places well, as `is_parted` says.
 fn parts(columns: &[Column], places: &[u32], cut: Cut) -> bool {
     let below = going(columns, places, cut.variable, cut.most, true);
     let above = going(columns, places, cut.variable, cut.most, false);
     is_parted(places.len(), below, above)
 }
 
-/// The first of the cuts at the ends of a literal that parts the places, if one does.
+/// A cut at an end of a literal's range that parts the places well: at its high, or else just below its low; `None` if
+/// neither does.
 fn cut_at(columns: &[Column], places: &[u32], literal: &Literal) -> Option<Cut> {
     let cut = Cut {
         variable: literal.variable,
@@ -154,7 +166,7 @@ fn cut_at(columns: &[Column], places: &[u32], literal: &Literal) -> Option<Cut> 
     if parts(columns, places, cut) {
         return Some(cut);
     }
-    // no number is below the literal
+    // no number is below the range
     if literal.low == 0 {
         return None;
     }
@@ -168,8 +180,8 @@ fn cut_at(columns: &[Column], places: &[u32], literal: &Literal) -> Option<Cut> 
     None
 }
 
-/// The first of the cuts at the ends of a column's literals that parts the places, if one does. A better one of them
-/// saves a search little, and to compare all takes most of the time of making a sieve.
+/// The first of the cuts at the ends of a column's literals that parts the places well; `None` if none does. The best
+/// of them would save a search little, and to compare them all would take most of the time of making a sieve.
 fn first_cut(columns: &[Column], places: &[u32], column: &Column) -> Option<Cut> {
     for literal in column.cube.literals() {
         let cut = cut_at(columns, places, literal);
@@ -180,11 +192,12 @@ fn first_cut(columns: &[Column], places: &[u32], column: &Column) -> Option<Cut>
     None
 }
 
-/// Some of these places, evenly spread.
+/// At most `SAMPLE_SIZE` of these places, evenly spread.
 fn sample_of(alloc: Global, places: &[u32]) -> Result<Vec<u32>, OutOfMemory> {
     let mut sample = Vec::new(alloc);
-    let step = places.len() / SAMPLE + 1;
-    for part in 0..SAMPLE {
+    // rounded up, so the last ones may lie past the end: then there are fewer
+    let step = places.len() / SAMPLE_SIZE + 1;
+    for part in 0..SAMPLE_SIZE {
         if let Some(place) = places.get(part.saturating_mul(step)) {
             sample.push(*place)?;
         }
@@ -192,7 +205,8 @@ fn sample_of(alloc: Global, places: &[u32]) -> Result<Vec<u32>, OutOfMemory> {
     Ok(sample)
 }
 
-/// Where some of these places say to part them. This takes little time, and mostly there is such a cut.
+/// A cut that parts a sample of these places well, if the column in the middle has one. To find it takes little time,
+/// and mostly there is one.
 fn sampled_cut(
     alloc: Global,
     columns: &[Column],
@@ -202,6 +216,7 @@ fn sampled_cut(
     let Some(place) = places.get(places.len() / 2) else {
         return Ok(None);
     };
+    // every place has a column, but no clause says so
     let Some(column) = columns.get(*place as usize) else {
         return Ok(None);
     };
@@ -209,7 +224,7 @@ fn sampled_cut(
     Ok(first_cut(columns, sample.as_slice(), column))
 }
 
-/// The literals of the column at a place, if there is one.
+/// The literals of the column at a place; none if there is no column.
 fn literals_at(columns: &[Column], place: u32) -> &[Literal] {
     match columns.get(place as usize) {
         Some(column) => column.cube.literals(),
@@ -217,23 +232,24 @@ fn literals_at(columns: &[Column], place: u32) -> &[Literal] {
     }
 }
 
-/// Counts the literals of the columns at some places.
+/// Adds the literals of the columns at these places to a tally.
 fn count_all(columns: &[Column], places: &[u32], tally: &mut Tally) {
     for place in places {
         tally.add(literals_at(columns, *place));
     }
 }
 
-/// Takes these counts away.
+/// Takes from a tally what `count_all` has added for these places.
 fn clear_all(columns: &[Column], places: &[u32], tally: &mut Tally) {
     for place in places {
         tally.clear(literals_at(columns, *place));
     }
 }
 
-/// The cut that parts these places best, by all their columns' literals.
+/// The cut that parts these places best, by a tally of all their columns' literals; `None` if the tally finds none. The
+/// tally has to be empty, and is so again afterwards, for the next list of places.
 fn tallied_cut(columns: &[Column], places: &[u32], tally: &mut Tally) -> Option<Cut> {
-    // the counts are raised for these columns alone, and taken away again, so that the tally can be used once more
+    // a row has far fewer columns than 2^32, so there is a count
     let count = u32::try_from(places.len()).ok()?;
     count_all(columns, places, tally);
     let found = tally.best(count);
@@ -245,8 +261,8 @@ fn tallied_cut(columns: &[Column], places: &[u32], tally: &mut Tally) -> Option<
     })
 }
 
-/// The places that go to one side of a cut.
-fn part(
+/// Those of these places that go to one side of a cut: below it, if `below`, or above it, if not.
+fn places_on_side(
     alloc: Global,
     columns: &[Column],
     places: &[u32],
@@ -265,15 +281,18 @@ fn part(
     Ok(kept)
 }
 
-/// The places on both sides of a cut.
+/// A cut, with the places on each side. A place may be on both.
 #[derive(Drop)]
 struct SieveSides {
+    /// The cut itself.
     cut: Cut,
+    /// The places of columns that may match with the variable at most at the number of the cut.
     low: Vec<u32>,
+    /// The places of columns that may match with the variable above that number.
     high: Vec<u32>,
 }
 
-/// The sides of a cut, if it parts these places with few on both sides.
+/// The sides of a cut, and `None` if it doesn't part these places well.
 fn sides_at(
     alloc: Global,
     columns: &[Column],
@@ -282,15 +301,16 @@ fn sides_at(
 ) -> Result<Option<SieveSides>, OutOfMemory>
     ensures { IfOk result (λ r. IfSome r (ArePartsOf columns.now places.now)) }
 {
-    let low = part(alloc, columns, places, cut, true)?;
-    let high = part(alloc, columns, places, cut, false)?;
+    let low = places_on_side(alloc, columns, places, cut, true)?;
+    let high = places_on_side(alloc, columns, places, cut, false)?;
     if !is_parted(places.len(), low.len(), high.len()) {
         return Ok(None);
     }
     Ok(Some(SieveSides { cut, low, high }))
 }
 
-/// The sides of the cut that some of these places give, if it parts all of them with few on both sides.
+/// The sides of the cut that a sample of these places gives; `None` if it gives none, or if that doesn't part all of
+/// them well.
 fn sampled_sides(
     alloc: Global,
     columns: &[Column],
@@ -305,7 +325,8 @@ fn sampled_sides(
     Ok(sides)
 }
 
-/// The sides of the cut that parts these places best, if it leaves few on both sides.
+/// The sides of the cut that parts these places best by a tally; `None` if there is none, or if even that doesn't part
+/// them well.
 fn tallied_sides(
     alloc: Global,
     columns: &[Column],
@@ -314,6 +335,7 @@ fn tallied_sides(
 ) -> Result<Option<SieveSides>, OutOfMemory>
     ensures { IfOk result (λ r. IfSome r (ArePartsOf columns.now places.now)) }
 {
+    // the tables of the tally are made when they are first needed: most rows need none
     tally.keep(alloc)?;
     let Some(cut) = tallied_cut(columns, places, tally) else {
         return Ok(None);
@@ -322,7 +344,7 @@ fn tallied_sides(
     Ok(sides)
 }
 
-/// The sides of a cut of these places, if they are many and one parts them with few on both sides.
+/// The sides of a cut of these places; `None` if they are few, or if no cut is found that parts them well.
 fn sides_of(
     alloc: Global,
     columns: &[Column],
@@ -331,12 +353,10 @@ fn sides_of(
 ) -> Result<Option<SieveSides>, OutOfMemory>
     ensures { IfOk result (λ r. IfSome r (ArePartsOf columns.now places.now)) }
 {
-    // few places are looked at one by one
-    if places.len() <= FEW {
+    if places.len() <= MOST_IN_LEAF {
         return Ok(None);
     }
     let sampled = sampled_sides(alloc, columns, places)?;
-    // a sample has given a cut that parts all places well enough
     if sampled.is_some() {
         return Ok(sampled);
     }
@@ -344,7 +364,7 @@ fn sides_of(
     Ok(sides)
 }
 
-/// These places, parted at most `depth` times.
+/// A sieve of these places, with at most `depth` cuts below one another.
 fn sifted(
     alloc: Global,
     columns: &[Column],
@@ -354,7 +374,6 @@ fn sifted(
 ) -> Result<Sieve, OutOfMemory>
     ensures { IfOk result (Sifts columns.now places.items) }
 {
-    // the places are parted often enough
     if depth == 0 {
         return Ok(Sieve {
             node: SieveNode::Leaf(places),
@@ -380,7 +399,8 @@ fn sifted(
     })
 }
 
-/// Whether the column at a place may match some scenario together with a cube; not if there is no column.
+/// Whether the column at a place may match a scenario together with a cube; false if there is no column. True
+/// guarantees nothing.
 fn column_may_meet(columns: &[Column], place: u32, cube: &Cube) -> bool
     ensures { OnFalse result ((s : Scenario) → place < length columns.now → (matches cube.now s && matches (column_at columns.now place).cube s) ≡ false) }
 {
@@ -390,7 +410,7 @@ fn column_may_meet(columns: &[Column], place: u32, cube: &Cube) -> bool
     may_meet(cube.literals(), column.cube.literals())
 }
 
-/// Those of these places whose columns may match some scenario together with a cube.
+/// Those of these places whose columns may match a scenario together with a cube.
 fn meeting(
     alloc: Global,
     columns: &[Column],
@@ -409,12 +429,13 @@ fn meeting(
     Ok(kept)
 }
 
-/// The places of all columns.
+/// The places of all columns, from 0 on.
 fn places_of(alloc: Global, columns: &[Column]) -> Result<Vec<u32>, OutOfMemory>
     requires { length columns.now ≤ MOST_LOAD }
     ensures { IfOk result (λ places. (i : ℕ) → i < length columns.now → Contains places.items i) }
 {
     let mut places = Vec::new(alloc);
+    // `MOST_LOAD` is far below 2^32
     for place in 0..columns.len() as u32 {
         places.push(place)?;
     }
@@ -422,18 +443,19 @@ fn places_of(alloc: Global, columns: &[Column]) -> Result<Vec<u32>, OutOfMemory>
 }
 
 impl Sieve {
-    /// The columns of a row, by place.
+    /// The sieve of a row's columns, parted as far as that helps. The one error is `OutOfMemory`.
     pub fn of(alloc: Global, columns: &[Column]) -> Result<Sieve, OutOfMemory>
         requires { length columns.now ≤ MOST_LOAD }
         ensures { IfOk result (IsSieveOf columns.now) }
     {
         let places = places_of(alloc, columns)?;
         let mut tally = Tally::new(alloc);
-        let sieve = sifted(alloc, columns, places, DEPTH, &mut tally)?;
+        let sieve = sifted(alloc, columns, places, MOST_CUTS, &mut tally)?;
         Ok(sieve)
     }
 
-    /// The columns of a row, by place, all in one list.
+    /// The sieve of a row's columns that isn't parted: all places are in one leaf. It is quick to make, and slow to
+    /// search.
     pub(crate) fn whole(alloc: Global, columns: &[Column]) -> Result<Sieve, OutOfMemory>
         requires { length columns.now ≤ MOST_LOAD }
         ensures { IfOk result (IsSieveOf columns.now) }
@@ -444,7 +466,7 @@ impl Sieve {
         })
     }
 
-    /// Adds the places on one side of a cut, if the cube goes there.
+    /// Adds what `search` finds in this sieve, which is one side of a cut, unless the cube has no number on that side.
     #[cycle(search)]
     fn search_side(
         &self,
@@ -465,7 +487,7 @@ impl Sieve {
         Ok(())
     }
 
-    /// Adds the places to which scenarios come that the cube matches.
+    /// Adds the places in all leaves to which the cuts lead scenarios that the cube matches. It may add a place twice.
     #[cycle(search)]
     fn search(&self, cube: &Cube, found: &mut Vec<u32>) -> Result<(), OutOfMemory>
         ensures old { IfOk result (λ _. (i : ℕ) → Contains found.old.items i → Contains found.new.items i) }
@@ -493,8 +515,8 @@ impl Sieve {
         }
     }
 
-    /// Places of a row's columns: each column that matches some scenario together with a cube is among them. Some may
-    /// stand there that don't, as the faults don't suffice, and some twice.
+    /// Places of a row's columns. Each column that matches some scenario together with a cube is among them. Others may
+    /// be, if they ask for too many faults to do so, and a place may be there twice. The one error is `OutOfMemory`.
     pub fn candidates(
         &self,
         alloc: Global,

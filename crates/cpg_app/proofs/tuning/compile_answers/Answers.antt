@@ -1,4 +1,4 @@
--- Proof of `compile_answers`: the answers for an admitted graph with each fault number from 0 to 8.
+-- Proof of `compile_answers`, which returns the answers for an admitted graph with each fault number from 0 to 8.
 use Rattle.std.proofs.Common.{◌≡◌, ◌+◌, ◌∙◌, sym, ap, subst}
 use Rattle.cpg_base.specs.Graph.{Graph}
 use Rattle.cpg_rules.specs.FaultNumber.{with_fault_number}
@@ -11,13 +11,13 @@ use Rattle.cpg_app.proofs.tuning.compile_answers.Goals as goal
 pub loop-faults-preserved : goal.loop-faults-preserved
 loop-faults-preserved c =
     let g : Graph = c.args.admitted.graph in
-    let row = c.in_ok-row.row in
+    let varied = c.in_ok-varied.varied in
     let faults = c.loop-faults.faults in
-    let is : row.graph ≡ with_fault_number g faults = c.in_ok-row.ensures.graph ∙ c.loop-faults.invariant.same faults in
-    let judged : IsJudged row.graph c.in_ok-compile_answer.field-0 = record {
-      order = row.order;
-      guards = row.guards;
-      admitted = c.in_ok-row.ensures.admitted;
+    let is : varied.graph ≡ with_fault_number g faults = c.in_ok-varied.ensures.graph ∙ c.loop-faults.invariant.same faults in
+    let judged : IsJudged varied.graph c.in_ok-compile_answer.field-0 = record {
+      order = varied.order;
+      guards = varied.guards;
+      admitted = c.in_ok-varied.ensures.admitted;
       answer = c.in_ok-compile_answer.ensures;
     } in
     record {

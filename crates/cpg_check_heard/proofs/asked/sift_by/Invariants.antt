@@ -1,8 +1,8 @@
--- Loops of `sift_by`: sifts the rows of those of some items that have a column by a time.
+-- Loops of `sift_by`: sifts the rows of those of some items whose first columns are no later than a time.
 use Rattle.std.proofs.Common.{ℕ}
-use Rattle.cpg_violation.specs.Lines.{AreLines}
+use Rattle.cpg_violation.specs.SievedRows.{AreSievedRows}
 use Rattle.cpg_check_heard.proofs.asked.sift_by.Given as goal
 
--- the lines that stood for the rows of the tables still do after each item
+-- if `rows` were sieved rows of the first `count` items at first, they still are after each item
 abbrev pub invariant-loop-item : goal.invariant-loop-item
-invariant-loop-item l = (count : ℕ) → AreLines l.tables.nodes count l.fn.lines → AreLines l.tables.nodes count l.lines
+invariant-loop-item l = (count : ℕ) → AreSievedRows l.tables.nodes count l.fn.rows → AreSievedRows l.tables.nodes count l.rows

@@ -1,5 +1,5 @@
 -- Proof of `check_heard`: the first violation of V4, by item and column, with the least scenario in the urgency order
--- in which it stands: the column matches, and one of its literals isn't heard at the item's node by the column's time.
+-- in which it occurs: the column matches, and one of its literals isn't heard at the item's node by the column's time.
 use Rattle.cpg_violation.proofs.HeadLaws.{tables_of_graph}
 use Rattle.std.proofs.Common.{◌≡◌, ◌<◌, ap, false, ℕ, Contains, arith, refl, sym}
 use Rattle.std.proofs.lemmas.List.Elements.{All-weaker, All-contains_itself}
@@ -18,7 +18,7 @@ use Rattle.cpg_check_heard.specs.Ended.{HasActive}
 use Rattle.cpg_check_heard.specs.Unheard.{is_unheard}
 use Rattle.cpg_check_heard.proofs.heard.check_heard.Goals as goal
 
--- the graph is admitted, the tables are its, keep V1 to V3, and have the rows that were made
+-- the graph is admitted, the tables are its and keep V1 to V3, and the telling rows are theirs
 pub first_unheard-requires-clause-hearing : goal.first_unheard-requires-clause-hearing
 first_unheard-requires-clause-hearing c =
     let are : AreTablesOf (head_of c.args.admitted.now.graph) c.args.tables.now.nodes =
@@ -29,7 +29,7 @@ first_unheard-requires-clause-hearing c =
       head = c.requires.head;
       tables = are;
       rules = c.requires.rules;
-      telling_rows = c.in_ok-telling_rows.ensures c.args.tables.now.nodes c.requires.lines;
+      telling_rows = c.in_ok-telling_rows.ensures c.args.tables.now.nodes c.requires.rows;
     }
 
 -- by V1, the processes of a column's literals are active if it matches
@@ -57,7 +57,7 @@ first_unheard-requires-clause-columns c =
     rw c.columns_of-columns.ensures.columns
     (columns_known c.problem-problem.ensures.admitted c.args.tables.now.nodes are c.loop-item.item)
 
--- the row has at most as many columns as a row may have
+-- a row of lawful tables has at most `MOST_LOAD` columns
 pub first_unheard-requires-clause-few : goal.first_unheard-requires-clause-few
 first_unheard-requires-clause-few c = rw c.columns_of-columns.ensures.columns
     (columns_few c.args.tables.now.head c.args.tables.now.nodes c.columns_of-columns.ensures.lawful c.loop-item.item)

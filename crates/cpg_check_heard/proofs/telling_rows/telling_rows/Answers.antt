@@ -1,8 +1,8 @@
--- Proof of `telling_rows`: the rows of all items, by number, and by what means they tell.
+-- Proof of `telling_rows`: for each item, by number, its row and by what means that tells.
 use Rattle.std.proofs.Common.{◌≡◌, ◌<◌, arith, ap, sym, subst}
 use Rattle.cpg_base.specs.Graph.{item_count}
 use Rattle.cpg_table.specs.Table.{columns_of}
-use Rattle.cpg_violation.specs.Lines.{IsLine}
+use Rattle.cpg_violation.specs.SievedRows.{IsSievedRow}
 use Rattle.cpg_check_heard.specs.TellingRows.{AreTellingRows}
 use Rattle.cpg_check_heard.proofs.TellingRowLists.{rows_more}
 use Rattle.cpg_check_heard.proofs.telling_rows.telling_rows.Goals as goal
@@ -18,11 +18,11 @@ loop-item-preserved c = λ tables are.
       c.item_count-item-end.ensures,
       ap item_count c.problem-problem.ensures.problem,
     ) in
-    let line : IsLine (columns_of tables x) c.index-lines-item.result =
-    subst (IsLine (columns_of tables x)) (sym c.index-lines-item.is) (are.each x c.index-lines-item.result below) in
+    let row : IsSievedRow (columns_of tables x) c.index-rows-item.result =
+    subst (IsSievedRow (columns_of tables x)) (sym c.index-rows-item.is) (are.each x c.index-rows-item.result below) in
     rows_more g tables x c.loop-item.telling_rows.items c.push.new.self.items _ c.in_ok-push.ensures.items
     (c.loop-item.invariant tables are)
-    (record { line = line; means = rw (← c.problem-problem.ensures.problem) c.means_of-means.ensures })
+    (record { row = row; means = rw (← c.problem-problem.ensures.problem) c.means_of-means.ensures })
 
 -- the loop has seen all items
 pub returns : goal.returns

@@ -1,4 +1,5 @@
--- Proof of `heard_row_of`: an item as a node hears it, if it does and its row has a tree.
+-- Proof of `heard_row_of`: the row of an item as a node hears it; `None` if the node doesn't hear it, or its row has no
+-- tree.
 use Rattle.std.proofs.Common.{IfSome, ap, ◌∙◌, sym, subst, arith}
 use Rattle.cpg_base.specs.Bus.{slot_length}
 use Rattle.cpg_table.specs.Table.{columns_of}
@@ -18,5 +19,5 @@ returns c = λ tables are.
       columns = is.columns;
       tree = subst (λ o. IfSome o (IsRowTree g (columns_of tables c.args.item))) c.in-Some-tree.is is.tree;
       delay = c.slot_length.ensures ∙ ap (slot_length g) c.home.ensures.home;
-      value = rw c.item.ensures.item at c.value_of.ensures;
+      value = rw c.item.ensures.item at c.value_variable_of.ensures;
     }

@@ -1,9 +1,9 @@
--- Loops of `sift_lower`: sifts the rows of items from a number on that are lower than an item, and with which it may
--- clash.
+-- Loops of `sift_lower`: sifts the rows of the items from `from` up to `item`, this one left out, that may clash with
+-- `item`.
 use Rattle.std.proofs.Common.{ℕ}
-use Rattle.cpg_violation.specs.Lines.{AreLines}
+use Rattle.cpg_violation.specs.SievedRows.{AreSievedRows}
 use Rattle.cpg_check_time.proofs.asked.sift_lower.Given as goal
 
--- the lines that stood for the rows of the tables still do after each other item
+-- if `rows` were sieved rows of the first `count` items at first, they still are after each other item
 abbrev pub invariant-loop-other : goal.invariant-loop-other
-invariant-loop-other l = (count : ℕ) → AreLines l.tables.nodes count l.fn.lines → AreLines l.tables.nodes count l.lines
+invariant-loop-other l = (count : ℕ) → AreSievedRows l.tables.nodes count l.fn.rows → AreSievedRows l.tables.nodes count l.rows

@@ -1,56 +1,60 @@
--- Proof of `least_delay`: the least scenario that a column matches, and in which what some column of an item begins is
--- done after its time; if there is one.
+-- Proof of `least_delay`: the least scenario in which `column` and some column of `item` both match, and what the
+-- latter begins is done only after the time of the former.
 use Rattle.std.proofs.Common.{◌≤◌, ◌+◌, arith, sym, subst}
 use Rattle.std.specs.List.{list_any}
 use Rattle.cpg_base.specs.First.{IsFirst}
 use Rattle.cpg_table.specs.Table.{columns_of}
 use Rattle.cpg_check_time.specs.Delays.{IsMost, delays}
-use Rattle.cpg_violation.specs.Lines.{IsLine}
+use Rattle.cpg_violation.specs.SievedRows.{IsSievedRow}
 use Rattle.cpg_check_time.proofs.Judging.{columns_are}
 use Rattle.cpg_check_time.proofs.DelayLaws.{delays_both, first_delay, never_delays}
 use Rattle.cpg_check_time.proofs.delays.least_delay.Goals as goal
 
--- even from the last column, the delay is over by the column's time, so none is late
+-- even what the item's last column begins is done by the time, so no column is late
 pub returns-then-saturating_add-time : goal.returns-then-saturating_add-time
 returns-then-saturating_add-time c =
     let g = c.args.admitted.now.graph in
-    let line : IsLine (columns_of c.args.tables.now.nodes c.args.item) c.index-lines-item.result =
-    subst (IsLine (columns_of c.args.tables.now.nodes c.args.item)) (sym c.index-lines-item.is)
-    (c.requires.lines.each c.args.item c.index-lines-item.result c.requires.item) in
+    -- the sieved row of the item
+    let row : IsSievedRow (columns_of c.args.tables.now.nodes c.args.item) c.index-rows-item.result =
+    subst (IsSievedRow (columns_of c.args.tables.now.nodes c.args.item)) (sym c.index-rows-item.is)
+    (c.requires.rows.each c.args.item c.index-rows-item.result c.requires.item) in
+    -- no column is later than the row's last time, and the delay is never longer than the most
     let most : IsMost g c.args.delay c.most.result = rw (← c.problem-problem.ensures.problem) c.most.ensures.most in
-    let early : c.index-lines-item.result.last + c.most.result ≤ c.args.column.now.time =
+    let early : c.index-rows-item.result.last + c.most.result ≤ c.args.column.now.time =
     omega (arith, c.if-saturating_add-time.true, c.saturating_add.ensures, c.requires.time) in
     never_delays g c.args.column.now.cube c.args.delay c.args.column.now.time c.most.result
-    c.index-lines-item.result.last most (columns_of c.args.tables.now.nodes c.args.item) line.last early
+    c.index-rows-item.result.last most (columns_of c.args.tables.now.nodes c.args.item) row.last early
 
--- the line's columns are columns of the item, and of the graph
+-- the row's columns are columns of the item, and of the graph
 pub least_near-requires-clause-columns : goal.least_near-requires-clause-columns
 least_near-requires-clause-columns c =
-    let line : IsLine (columns_of c.args.tables.now.nodes c.args.item) c.index-lines-item.result =
-    subst (IsLine (columns_of c.args.tables.now.nodes c.args.item)) (sym c.index-lines-item.is)
-    (c.requires.lines.each c.args.item c.index-lines-item.result c.requires.item) in
-    rw line.all (columns_are c.problem-problem.ensures.admitted c.args.tables.now.nodes c.requires.lawful c.args.item)
+    -- the sieved row of the item
+    let row : IsSievedRow (columns_of c.args.tables.now.nodes c.args.item) c.index-rows-item.result =
+    subst (IsSievedRow (columns_of c.args.tables.now.nodes c.args.item)) (sym c.index-rows-item.is)
+    (c.requires.rows.each c.args.item c.index-rows-item.result c.requires.item) in
+    rw row.all (columns_are c.problem-problem.ensures.admitted c.args.tables.now.nodes c.requires.lawful c.args.item)
 
 -- the question fits: its cube and its delay are of the graph
 pub least_near-requires-clause-fits : goal.least_near-requires-clause-fits
 least_near-requires-clause-fits c = record { cube = c.requires.cube; delay = c.requires.delay }
 
--- only scenarios in which both columns match answer the question
+-- a column is late only in scenarios in which both columns match
 pub least_near-requires-clause-near : goal.least_near-requires-clause-near
 least_near-requires-clause-near c =
     λ s d t. delays_both c.args.admitted.now.graph c.args.column.now.cube c.args.delay c.args.column.now.time s d t
 
--- the least scenario of a late column near the cube is the least of all columns of the item
+-- the search went over all columns of the item that may be late, so its answer is the least for them all
 pub returns : goal.returns
 returns c =
     let g = c.args.admitted.now.graph in
     let order = c.args.admitted.now.order in
-    let line : IsLine (columns_of c.args.tables.now.nodes c.args.item) c.index-lines-item.result =
-    subst (IsLine (columns_of c.args.tables.now.nodes c.args.item)) (sym c.index-lines-item.is)
-    (c.requires.lines.each c.args.item c.index-lines-item.result c.requires.item) in
+    -- the sieved row of the item
+    let row : IsSievedRow (columns_of c.args.tables.now.nodes c.args.item) c.index-rows-item.result =
+    subst (IsSievedRow (columns_of c.args.tables.now.nodes c.args.item)) (sym c.index-rows-item.is)
+    (c.requires.rows.each c.args.item c.index-rows-item.result c.requires.item) in
     let first : IsFirst g order
     (λ s. list_any (λ d. delays g c.args.column.now.cube c.args.delay c.args.column.now.time d s)
     (columns_of c.args.tables.now.nodes c.args.item)) c.in_ok-found.found =
-    rw line.all at c.in_ok-found.ensures in
+    rw row.all at c.in_ok-found.ensures in
     first_delay g c.args.column.now.cube c.args.delay c.args.column.now.time order
     (columns_of c.args.tables.now.nodes c.args.item) c.in_ok-found.found first

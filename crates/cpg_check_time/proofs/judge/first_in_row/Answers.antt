@@ -1,4 +1,5 @@
--- Proof of `first_in_row`: the first column of an item that breaks the rule, and the least scenario in which it does.
+-- Proof of `first_in_row`: the place of the first column of an item that breaks the rule in some scenario, with the
+-- least such scenario.
 use Rattle.cpg_violation.proofs.HeadLaws.{tables_of_graph}
 use Rattle.std.proofs.Common.{length, arith, ap, subst}
 use Rattle.cpg_base.specs.First.{IsFirst}
@@ -12,11 +13,11 @@ pub least-requires-clause-lawful : goal.least-requires-clause-lawful
 least-requires-clause-lawful g c = tables_of_graph c.args.admitted.now.graph c.args.tables.now.head
     c.args.tables.now.nodes c.requires.head c.columns_of-columns.ensures.lawful
 
--- the tables have few columns, so a place is a small number
+-- a row has at most `MOST_LOAD` columns, so a place fits into 32 bits
 pub overflow_cast-result : goal.overflow_cast-result
 overflow_cast-result g c = omega (
   arith,
-  c.loop-column-test.true,
+  c.loop-place-test.true,
   ap length c.columns_of-columns.ensures.columns,
   columns_few c.args.tables.now.head c.args.tables.now.nodes c.columns_of-columns.ensures.lawful c.args.item,
 )
@@ -26,11 +27,11 @@ pub least-requires-clause-column : goal.least-requires-clause-column
 least-requires-clause-column g c =
     column_is c.requires.admitted c.args.tables.now.nodes
     (tables_of_graph c.args.admitted.now.graph c.args.tables.now.head c.args.tables.now.nodes c.requires.head
-    c.columns_of-columns.ensures.lawful) c.args.item c.index-columns-column.result
+    c.columns_of-columns.ensures.lawful) c.args.item c.index-columns-place.result
     (place_there g.J.TimeJudge.rule g.met.J.TimeJudge.alone c.args.admitted.now.graph c.args.tables.now.nodes
     c.args.item c.args.admitted.now.order c.columns_of-columns.result.now
     c.columns_of-columns.ensures.columns
-    c.loop-column.column c.index-columns-column.result c.loop-column-test.true c.index-columns-column.is)
+    c.loop-place.place c.index-columns-place.result c.loop-place-test.true c.index-columns-place.is)
 
 -- no earlier column breaks the rule, so this is the first one that does
 pub returns-in-Some-clause-first : goal.returns-in-Some-clause-first
@@ -38,20 +39,20 @@ returns-in-Some-clause-first g c =
     first_here g.J.TimeJudge.rule g.met.J.TimeJudge.alone c.args.admitted.now.graph c.args.tables.now.nodes c.args.item
     c.args.admitted.now.order c.columns_of-columns.result.now
     c.columns_of-columns.ensures.columns
-    c.loop-column.column c.index-columns-column.result c.loop-column-test.true c.index-columns-column.is
-    c.in-Some.scenario c.loop-column.invariant
+    c.loop-place.place c.index-columns-place.result c.loop-place-test.true c.index-columns-place.is
+    c.in-Some.scenario c.loop-place.invariant
     (subst (IsFirst c.args.admitted.now.graph c.args.admitted.now.order (breaks_column g.J.TimeJudge.rule
-    c.args.admitted.now.graph c.args.tables.now.nodes c.args.item c.index-columns-column.result))
+    c.args.admitted.now.graph c.args.tables.now.nodes c.args.item c.index-columns-place.result))
     c.in-Some.is c.in_ok-least.ensures)
 
 -- this column doesn't break the rule, so none so far does
-pub loop-column-preserved : goal.loop-column-preserved
-loop-column-preserved g c =
+pub loop-place-preserved : goal.loop-place-preserved
+loop-place-preserved g c =
     none_here g.J.TimeJudge.rule g.met.J.TimeJudge.alone c.args.admitted.now.graph c.args.tables.now.nodes c.args.item
     c.args.admitted.now.order c.columns_of-columns.result.now
     c.columns_of-columns.ensures.columns
-    c.loop-column.column c.index-columns-column.result c.loop-column-test.true c.index-columns-column.is
-    c.loop-column.invariant
+    c.loop-place.place c.index-columns-place.result c.loop-place-test.true c.index-columns-place.is
+    c.loop-place.invariant
     (subst (IsFirst c.args.admitted.now.graph c.args.admitted.now.order (breaks_column g.J.TimeJudge.rule
-    c.args.admitted.now.graph c.args.tables.now.nodes c.args.item c.index-columns-column.result))
+    c.args.admitted.now.graph c.args.tables.now.nodes c.args.item c.index-columns-place.result))
     c.in_default.is c.in_ok-least.ensures)

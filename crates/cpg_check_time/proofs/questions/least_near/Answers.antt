@@ -1,4 +1,4 @@
--- Proof of `least_near`: the least scenario in which a column of a line is as asked, if there is one.
+-- Proof of `least_near`: the least scenario in which some column of a row is as asked.
 use Rattle.std.proofs.Common.{map, Contains, Bor}
 use Rattle.std.specs.List.{list_any}
 use Rattle.std.proofs.lemmas.List.Elements.{All-weaker, All-contains}
@@ -19,16 +19,16 @@ pub least_of-requires-clause-order : goal.least_of-requires-clause-order
 least_of-requires-clause-order g c =
     rw (c.order-order.ensures.order, c.problem-problem.ensures.problem) (long_order c.order-order.ensures.admitted)
 
--- the columns near the cube are columns of the line
+-- the columns near the cube are columns of the row
 pub least_of-requires-clause-columns : goal.least_of-requires-clause-columns
 least_of-requires-clause-columns g c =
     rw (c.problem-problem.ensures.problem, c.as_slice.ensures.value)
     (all_unmapped (IsColumn c.args.admitted.now.graph) at c.in_ok-near.near.items
-    (All-weaker (λ d. Contains c.args.line.now.columns.now d) (IsColumn c.args.admitted.now.graph)
-    (λ d k. All-contains (IsColumn c.args.admitted.now.graph) c.args.line.now.columns.now d c.requires.columns k)
+    (All-weaker (λ d. Contains c.args.row.now.columns.now d) (IsColumn c.args.admitted.now.graph)
+    (λ d k. All-contains (IsColumn c.args.admitted.now.graph) c.args.row.now.columns.now d c.requires.columns k)
     (map at c.in_ok-near.near.items) c.in_ok-near.ensures.among))
 
--- only columns near the cube can be as asked, so the least scenario of these is the least of all
+-- each column that can be as asked is among those of `meeting`, so the least scenario of these is the least of all
 pub returns : goal.returns
 returns g c =
     let graph = c.args.admitted.now.graph in
@@ -39,5 +39,5 @@ returns g c =
     rw (← c.problem-problem.ensures.problem, ← c.order-order.ensures.order, ← c.as_slice.ensures.value)
     c.in_ok-found.ensures in
     first_same graph order (λ s. list_any (λ d. asks d s) (map at c.in_ok-near.near.items))
-    (λ s. list_any (λ d. asks d s) c.args.line.now.columns.now) c.in_ok-found.found
+    (λ s. list_any (λ d. asks d s) c.args.row.now.columns.now) c.in_ok-found.found
     (λ s _. c.in_ok-near.ensures.same s (λ d. asks d s) (λ d t. c.requires.near s d t)) first

@@ -1,4 +1,4 @@
--- Proof of `fewest`: a number that is no greater than the faults of any scenario that none of the cubes matches.
+-- Proof of `fewest`, which returns a lower bound of the faults that it takes that none of the cubes matches.
 use Rattle.std.proofs.Common.{rules, ◌-◌, true, false, arith}
 use Rattle.cpg_cover.specs.Fewest.{Needs}
 use Rattle.cpg_cover.proofs.FewestLaws.{Steps, without_from, value_from, count_without, count_from, parts_from}
@@ -8,6 +8,7 @@ use Rattle.cpg_cover.proofs.fewest.+fewest.Goals as goal
 pub fewest_by_count-fewest_with-requires : goal.fewest_by_count-fewest_with-requires
 fewest_by_count-fewest_with-requires t c =
     let cubes = c.args.cubes.now in
+    -- what a step assumes, and what the cubes need after it
     let steps : Steps cubes c.args.variable false c.args.bound.budget c.in_ok-zero.zero.items =
     rw (c.zero.ensures.variable, c.zero.ensures.more) at c.in_ok-zero.ensures in
     let needs : Needs c.in_ok-zero.zero.items c.in_ok-without.without =
@@ -24,11 +25,11 @@ fewest_by_count-fewest_with-requires t c =
 pub fewest_by_parts-returns : goal.fewest_by_parts-returns
 fewest_by_parts-returns t c =
     let sum = c.saturating_add.ensures in
-    parts_from c.args.cubes.now c.in_ok-first.first.items c.in_ok-others.others.items c.args.joined.now c.in_ok-few.few
-    c.in_ok-more.more c.saturating_add.result
+    parts_from c.args.cubes.now c.in_ok-first.first.items c.in_ok-others.others.items c.args.joined.now
+    c.in_ok-first_faults.first_faults c.in_ok-other_faults.other_faults c.saturating_add.result
     c.in_ok-first.ensures.marked c.in_ok-others.ensures.marked c.in_ok-first.ensures.kept c.in_ok-others.ensures.kept
-    (rw c.as_slice.ensures.value at c.in_ok-few.ensures)
-    (rw c.as_slice-2.ensures.value at c.in_ok-more.ensures) (omega arith)
+    (rw c.as_slice.ensures.value at c.in_ok-first_faults.ensures)
+    (rw c.as_slice-2.ensures.value at c.in_ok-other_faults.ensures) (omega arith)
 
 -- the cubes need the lesser of what they need with the value false and with it true
 pub fewest_by_value-returns : goal.fewest_by_value-returns
@@ -36,9 +37,10 @@ fewest_by_value-returns t c =
     let cubes = c.args.cubes.now in
     let v = c.args.variable in
     let budget = c.args.bound.budget in
-    -- the steps to the value 0 and to the value 1
+    -- the cubes after the step that takes the value to be false
     let off : Steps cubes v false budget c.in_ok-zero.zero.items =
     rw (c.zero.ensures.variable, c.zero.ensures.more) at c.in_ok-zero.ensures in
+    -- the cubes after the step that takes the value to be true
     let on : Steps cubes v true budget c.in_ok-one.one.items =
     rw (c.more.ensures.variable, c.more.ensures.more) at c.in_ok-one.ensures in
     let a = c.min-fewer.ensures in
@@ -61,11 +63,12 @@ pub fewest_with-returns : goal.fewest_with-returns
 fewest_with-returns t c =
     let cubes = c.args.cubes.now in
     let most = c.min-most.result in
+    -- what the step with one fault taken assumes
     let on : Steps cubes c.args.variable true (most - 1) c.in_ok-more.more.items =
     rw (c.more.ensures.variable, c.more.ensures.more) at c.in_ok-more.ensures in
     let a = c.saturating_sub.ensures in
     let b = c.min-most.ensures in
-    let d = c.saturating_add-few.ensures in
+    let d = c.saturating_add-least_faults.ensures in
     let e = c.min-2.ensures in
     count_from cubes c.in_ok-more.more.items c.args.variable c.args.bound.budget c.args.without most c.in_ok-with.with
     c.min-2.result c.requires.count c.requires.without (omega arith) (omega arith)

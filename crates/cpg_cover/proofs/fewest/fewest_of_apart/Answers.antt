@@ -1,10 +1,10 @@
--- Proof of `fewest_of_apart`: how many faults it takes at least that none of the cubes matches, by some without common
--- variables.
+-- Proof of `fewest_of_apart`, which returns a lower bound of the faults that it takes that none of the cubes matches:
+-- the sum over some cubes that have no variable in common, taken as they come.
 use Rattle.std.proofs.Common.{◌∙◌, sym, arith}
 use Rattle.cpg_cover.specs.Fewest.{AreMore}
 use Rattle.cpg_cover.proofs.FewestLaws.{marked_all, marked_more, one_is_off}
 use Rattle.cpg_cover.proofs.fewest.fewest_of_apart.Goals as goal
-use Rattle.cpg_cover.proofs.fewest.fewest_of_apart.Goals.{then-few-gt0+then-are_all, else-few-gt0}
+use Rattle.cpg_cover.proofs.fewest.fewest_of_apart.Goals.{then-least_faults-gt0+then-are_all, else-least_faults-gt0}
 
 -- the next cube shares no variable with those counted and adds what it needs, or is left out
 pub loop-cube-preserved : goal.loop-cube-preserved
@@ -14,19 +14,19 @@ loop-cube-preserved c =
     let item = c.cube-item.result in
     let marks = c.loop-cube.marks in
     let inv = c.loop-cube.invariant in
-    elim c.if-few-gt0.branch [
+    elim c.if-least_faults-gt0.branch [
       -- the cube shares no variable with those counted, and is counted
-      | then-few-gt0+then-are_all w ↦
+      | then-least_faults-gt0+then-are_all w ↦
           let sum = w.saturating_add-sum.ensures in
           let later = w.mark_all.new.marks in
           let more : AreMore item marks later = rw w.literals-then-are_all.ensures.literals at w.mark_all.ensures in
-          rw (w.marks-is, w.sum-is) (marked_more cubes item marks later c.loop-cube.sum c.fewest_of_cube-few.result
+          rw (w.marks-is, w.sum-is) (marked_more cubes item marks later c.loop-cube.sum c.fewest_of_cube-least_faults.result
           w.saturating_add-sum.result inv
-          (λ n off. rw c.cube-item.is (one_is_off cubes at item (omega arith) n off)) c.fewest_of_cube-few.ensures
+          (λ n off. rw c.cube-item.is (one_is_off cubes at item (omega arith) n off)) c.fewest_of_cube-least_faults.ensures
           (rw w.literals.ensures.literals at (sym w.are_all.ensures ∙ w.if-are_all.true)) more.kept
           more.marked (omega arith))
       -- it is left out
-      | else-few-gt0 w ↦ rw (w.marks-is, w.sum-is) inv
+      | else-least_faults-gt0 w ↦ rw (w.marks-is, w.sum-is) inv
     ]
 
 -- the faults of the marked variables are at most all faults

@@ -56,10 +56,12 @@ make_start-requires-clause-known c =
     let order = c.args.listed.now.order.now in
     let p = c.at-process.result in
     let rows = columns_of_rows c.args.rows.now.items in
+    -- the node that the code finds is that of the process
     let node : c.node_of-node.result ≡ node_of g p =
     c.node_of-node.ensures.node ∙ ap (λ (h : Graph). node_of h p) c.problem.ensures.problem in
     let on : node_of g p < length g.nodes = omega
     (arith, node, c.node_of-node.ensures.within, ap (λ (h : Graph). length h.nodes) c.problem.ensures.problem) in
+    -- the cubes that the code takes are those of this node
     let read : get_or c.args.known.now.items (node_of g p) [] ≡ c.index_mut.result.now =
     ap (λ n. get_or c.args.known.now.items n []) (sym node) ∙
     sym (c.index_mut.ensures.value ∙ get_or_default c.args.known.now.items c.node_of-node.result c.index_mut.result.now
@@ -69,9 +71,9 @@ make_start-requires-clause-known c =
     (passed_by g rows (node_before g order (node_of g p) i)) (get_or c.args.known.now.items (node_of g p) []))
     (sym c.at-process.ensures.back) (c.requires.carried.carries (node_of g p) on))
 
--- the node's queue stays as it is while the row of the start is made
-pub make_sends_after-requires-clause-sent : goal.make_sends_after-requires-clause-sent
-make_sends_after-requires-clause-sent c =
+-- the cubes of the node's queue stay right while the row of the start is made, since earlier rows stay
+pub make_sends_after-requires-clause-queue : goal.make_sends_after-requires-clause-queue
+make_sends_after-requires-clause-queue c =
     let g = c.args.listed.now.admitted.now.graph in
     let order = c.args.listed.now.order.now in
     let p = c.at-process.result in
@@ -85,19 +87,19 @@ make_sends_after-requires-clause-sent c =
     let on : node_of g p < length g.nodes = omega
     (arith, node, c.node_of-node.ensures.within, ap (λ (h : Graph). length h.nodes) c.problem.ensures.problem) in
     -- the queue that is read is the node's
-    let read : get_or c.args.sent.now.items (node_of g p) [] ≡ c.index_mut-2.result.now =
-    ap (λ n. get_or c.args.sent.now.items n []) (sym node) ∙
-    sym (c.index_mut-2.ensures.value ∙ get_or_default c.args.sent.now.items c.node_of-node.result
+    let read : get_or c.args.queues.now.items (node_of g p) [] ≡ c.index_mut-2.result.now =
+    ap (λ n. get_or c.args.queues.now.items n []) (sym node) ∙
+    sym (c.index_mut-2.ensures.value ∙ get_or_default c.args.queues.now.items c.node_of-node.result
     c.index_mut-2.result.now [] (omega (arith, node, on, c.requires.carried.sent_count))) in
     -- its cubes are those from before, since no earlier row was changed
     subst (AreCubesOf g.faults c.args.listed.now.scenarios.now
     (queued_by g order next (sent_before g order (node_of g p) (place order p)))) read
     (queued_cubes g order c.requires.listed.topological rows next
     (place order p) c.in_ok-make_start.ensures.same g.faults c.args.listed.now.scenarios.now
-    (get_or c.args.sent.now.items (node_of g p) []) (sent_before g order (node_of g p) (place order p))
+    (get_or c.args.queues.now.items (node_of g p) []) (sent_before g order (node_of g p) (place order p))
     (sent_early g order c.requires.listed.topological p l (node_of g p))
     (subst (λ i. AreCubesOf g.faults c.args.listed.now.scenarios.now
-    (queued_by g order rows (sent_before g order (node_of g p) i)) (get_or c.args.sent.now.items (node_of g p) []))
+    (queued_by g order rows (sent_before g order (node_of g p) i)) (get_or c.args.queues.now.items (node_of g p) []))
     (sym c.at-process.ensures.back) (c.requires.carried.queues (node_of g p) on)))
 
 -- the node's cubes and queue are those before the next place, and other nodes keep theirs
@@ -127,14 +129,14 @@ returns-clause-carried c =
     let own = passed_cubes g order top next last
     (place order p) c.in_ok-make_sends_after.ensures.same g.faults scenarios c.make_start.new.known after
     (own_early g order top p l) c.in_ok-make_start.ensures.known in
-    let carried = subst (λ i. AreCarried g order rows scenarios i c.args.known.now.items c.args.sent.now.items)
+    let carried = subst (λ i. AreCarried g order rows scenarios i c.args.known.now.items c.args.queues.now.items)
     (sym back) c.requires.carried in
     -- so all nodes carry what they carry before the next place
-    let all = carried_next g order top p l rows last same scenarios c.args.known.now.items c.args.sent.now.items carried
-    on c.make_start.new.known c.make_sends_after.new.sent own
-    c.in_ok-make_sends_after.ensures.sent in
+    let all = carried_next g order top p l rows last same scenarios c.args.known.now.items c.args.queues.now.items carried
+    on c.make_start.new.known c.make_sends_after.new.queue own
+    c.in_ok-make_sends_after.ensures.queue in
     subst (λ i. AreCarried g order last scenarios (i + 1)
     (set c.args.known.now.items c.node_of-node.result c.make_start.new.known)
-    (set c.args.sent.now.items c.node_of-node.result c.make_sends_after.new.sent)) back
+    (set c.args.queues.now.items c.node_of-node.result c.make_sends_after.new.queue)) back
     (subst (λ n. AreCarried g order last scenarios (place order p + 1) (set c.args.known.now.items n
-    c.make_start.new.known) (set c.args.sent.now.items n c.make_sends_after.new.sent)) (sym node) all)
+    c.make_start.new.known) (set c.args.queues.now.items n c.make_sends_after.new.queue)) (sym node) all)

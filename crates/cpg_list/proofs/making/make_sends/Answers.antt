@@ -23,6 +23,7 @@ send_entries-requires-clause-item c =
     let g = c.args.listed.now.admitted.now.graph in
     let p = c.args.process in
     let m = c.loop-item.item-index in
+    -- the code goes over the queue of the process
     let all : c.queue-item-items.result.now ≡ queue_of g p =
     c.queue-item-items.ensures ∙ ap (λ (h : Graph). queue_of h p) c.problem.ensures.problem in
     let inside : m < length (queue_of g p) = omega (arith, ap length all, c.loop-item-test.true) in
@@ -42,9 +43,10 @@ send_entries-requires-clause-ends c =
     (place order p) c.loop-item.invariant.same c.args.listed.now.scenarios.now p c.args.ends.now
     (omega arith) c.requires.ends)
 
--- the items in the queue are those before this one
-pub send_entries-requires-clause-sent : goal.send_entries-requires-clause-sent
-send_entries-requires-clause-sent c =
+-- the cubes are those of what the items before this one leave: the items so far are just the ones that are before it in
+-- the node's queue
+pub send_entries-requires-clause-queue : goal.send_entries-requires-clause-queue
+send_entries-requires-clause-queue c =
     let g = c.args.listed.now.admitted.now.graph in
     let order = c.args.listed.now.order.now in
     let p = c.args.process in
@@ -58,11 +60,11 @@ send_entries-requires-clause-sent c =
     let nth = get_or (queue_of g p) m 0 in
     -- the cubes of the queue are those of the items before this one, since the same items are in both
     subst (λ (rs : List Row). AreCubesOf g.faults scenarios (queued_by g order (columns_of_rows rs)
-    (queued_before g order (get_or c.queue-item-items.result.now m 0))) c.loop-item.sent)
+    (queued_before g order (get_or c.queue-item-items.result.now m 0))) c.loop-item.queue)
     (sym c.as_slice.ensures.value)
-    (subst (λ x. AreCubesOf g.faults scenarios (queued_by g order rows (queued_before g order x)) c.loop-item.sent)
+    (subst (λ x. AreCubesOf g.faults scenarios (queued_by g order rows (queued_before g order x)) c.loop-item.queue)
     (ap (λ xs. get_or xs m 0) (sym all))
-    (queued_members g.faults g order rows scenarios c.loop-item.sent
+    (queued_members g.faults g order rows scenarios c.loop-item.queue
     (sent_before g order (node_of g p) (place order p) ++ take m (queue_of g p)) (queued_before g order nth)
     (before_from g order c.requires.listed.topological p c.requires.process m inside)
     (before_to g order c.requires.listed.topological p c.requires.process m inside) c.loop-item.invariant.queue))
@@ -73,6 +75,7 @@ set_row-requires-clause-item c =
     let g = c.args.listed.now.admitted.now.graph in
     let p = c.args.process in
     let m = c.loop-item.item-index in
+    -- the code goes over the queue of the process
     let all : c.queue-item-items.result.now ≡ queue_of g p =
     c.queue-item-items.ensures ∙ ap (λ (h : Graph). queue_of h p) c.problem.ensures.problem in
     let inside : m < length (queue_of g p) = omega (arith, ap length all, c.loop-item-test.true) in
@@ -146,31 +149,32 @@ loop-item-preserved c =
     (nth_earlier g order top p l m inside) entries found
     (nth_new g order top p l m inside) (nth_late g order top p l m inside) next is (place order p)
     (omega (arith, nth_place g order top p l m inside)) in
-    -- what stands before the item in its node's queue, with the item, is what was sent before
+    -- the items before this one in its node's queue, and this one
     let items = queued_before g order nth ++ nth ∷ [] in
     let after = sent_before g order (node_of g p) (place order p) ++ take (m + 1) (queue_of g p) in
     -- the cubes that are left are those of the queue up to the item
     let left = subst (λ x. AreCubesOf g.faults scenarios
-    (queued_by g order (columns_of_rows rows) (queued_before g order x ++ x ∷ [])) c.send_entries.new.sent) here
+    (queued_by g order (columns_of_rows rows) (queued_before g order x ++ x ∷ [])) c.send_entries.new.queue) here
     (subst (λ (rs : List Row). AreCubesOf g.faults scenarios
     (queued_by g order (columns_of_rows rs) (queued_before g order (get_or c.queue-item-items.result.now m 0)
-    ++ get_or c.queue-item-items.result.now m 0 ∷ [])) c.send_entries.new.sent)
-    c.as_slice.ensures.value c.in_ok-entries.ensures.sent) in
+    ++ get_or c.queue-item-items.result.now m 0 ∷ [])) c.send_entries.new.queue)
+    c.as_slice.ensures.value c.in_ok-entries.ensures.queue) in
     -- the rows made, the queue with one item more, and the rows that stay as they were
     record {
       made = made_same g a.order order frozen (λ y. IsSent g order p m y ⊎ (y ≡ nth)) (IsSent g order p (m + 1)) next
           made (sent_back g order top p l m inside) (sent_next g order top p l m inside);
-      queue = queued_members g.faults g order (columns_of_rows next) scenarios c.send_entries.new.sent items after
+      queue = queued_members g.faults g order (columns_of_rows next) scenarios c.send_entries.new.queue items after
           (next_to g order top p l m inside) (next_from g order top p l m inside)
           (queued_cubes g order top (columns_of_rows rows) (columns_of_rows next)
-          (place order p) same g.faults scenarios c.send_entries.new.sent items
+          (place order p) same g.faults scenarios c.send_entries.new.queue items
           (λ y j. queue_early g order top p l (m + 1) y (next_to g order top p l m inside y j)) left);
       same = λ y e. c.loop-item.invariant.same y e ∙ same y e;
     }
 
--- all items of the process are in the queue, as are those before
-pub returns-clause-sent : goal.returns-clause-sent
-returns-clause-sent c =
+-- after the loop the cubes have what all items of the process leave, which with the earlier ones are all that the node sends
+-- before the next place
+pub returns-clause-queue : goal.returns-clause-queue
+returns-clause-queue c =
     let g = c.args.listed.now.admitted.now.graph in
     let order = c.args.listed.now.order.now in
     let p = c.args.process in
@@ -180,13 +184,15 @@ returns-clause-sent c =
     let l = c.requires.process in
     let rows = columns_of_rows c.loop-item.rows.items in
     let before = sent_before g order (node_of g p) (place order p) in
+    -- the code goes over the queue of the process
     let all : c.queue-item-items.result.now ≡ queue_of g p =
     c.queue-item-items.ensures ∙ ap (λ (h : Graph). queue_of h p) c.problem.ensures.problem in
+    -- the loop has gone over the whole queue
     let whole : take m (queue_of g p) ≡ queue_of g p =
     take_all m (queue_of g p) (omega (arith, ap length all, c.loop-item-test.false)) in
-    queued_members g.faults g order rows scenarios c.loop-item.sent (before ++ queue_of g p)
+    queued_members g.faults g order rows scenarios c.loop-item.queue (before ++ queue_of g p)
     (sent_before g order (node_of g p) (place order p + 1)) (all_to g order top p l) (all_from g order top p l)
-    (subst (λ ys. AreCubesOf g.faults scenarios (queued_by g order rows (before ++ ys)) c.loop-item.sent) whole
+    (subst (λ ys. AreCubesOf g.faults scenarios (queued_by g order rows (before ++ ys)) c.loop-item.queue) whole
     c.loop-item.invariant.queue)
 
 -- all items of the process are made, so all before the next place are
@@ -196,6 +202,7 @@ returns-clause-made c =
     let g = a.graph in
     let order = c.args.listed.now.order.now in
     let p = c.args.process in
+    -- the code goes over the queue of the process
     let all : c.queue-item-items.result.now ≡ queue_of g p =
     c.queue-item-items.ensures ∙ ap (λ (h : Graph). queue_of h p) c.problem.ensures.problem in
     let last : c.loop-item.item-index ≡ length (queue_of g p) =

@@ -9,7 +9,8 @@ use Rattle.cpg_run.specs.RowLaws.{SameRowsBefore}
 use Rattle.cpg_list.proofs.making.make_sends.Given as goal
 
 -- `made`: the items of earlier processes, the process's start and the items that it sends so far have their rows.
--- `queue`: for each scenario the cube of what these sent items leave to those behind them in the node's queue.
+-- `queue`: for each scenario the cube of what the items that the node sends for earlier processes, and those that this one
+-- sends so far, leave to the items behind them in the node's queue.
 -- `same`: the rows of earlier processes are as before the loop.
 abbrev pub invariant-loop-item : goal.invariant-loop-item
 invariant-loop-item l = record {
@@ -19,7 +20,7 @@ invariant-loop-item l = record {
       (queued_by l.listed.admitted.now.graph l.listed.order.now (columns_of_rows l.rows.items)
       (sent_before l.listed.admitted.now.graph l.listed.order.now (node_of l.listed.admitted.now.graph l.process)
       (place l.listed.order.now l.process) ++ take l.item-index
-      (queue_of l.listed.admitted.now.graph l.process))) l.sent;
+      (queue_of l.listed.admitted.now.graph l.process))) l.queue;
   same : SameRowsBefore l.listed.admitted.now.graph l.listed.order.now (place l.listed.order.now l.process)
       (columns_of_rows l.fn.rows.items) (columns_of_rows l.rows.items);
 }

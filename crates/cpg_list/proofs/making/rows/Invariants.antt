@@ -1,5 +1,5 @@
 -- Loops of `rows`: the rows of all items of a graph, given all scenarios, each once, and their runs: one entry for
--- each group of scenarios in which the item's node has learnt the same, merged.
+-- each group of scenarios in which the same literals are carried beside the item's time, merged.
 use Rattle.cpg_list.specs.Made.{AreCarried, AreMade, IsBefore}
 use Rattle.cpg_run.specs.Found.{columns_of_rows}
 use Rattle.cpg_list.proofs.making.rows.Given as goal
@@ -9,7 +9,7 @@ use Rattle.cpg_list.proofs.making.rows.Given as goal
 abbrev pub invariant-loop-place : goal.invariant-loop-place
 invariant-loop-place l = record {
   carried : AreCarried l.admitted.graph l.order
-      (columns_of_rows l.rows.items) l.scenarios l.place l.known.items l.sent.items;
+      (columns_of_rows l.rows.items) l.scenarios l.place l.known.items l.queues.items;
   made : AreMade l.admitted.graph l.admitted.order l.order l.frozen
       (IsBefore l.admitted.graph l.order l.place) l.rows.items;
 }

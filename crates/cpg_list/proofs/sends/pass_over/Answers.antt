@@ -1,4 +1,4 @@
--- Proof of `pass_over`: narrows what stands in the queue by an item that isn't sent in the scenario.
+-- Proof of `pass_over`: narrows what the queue leaves by an item that isn't sent in the scenario.
 use Rattle.std.proofs.Common.{◌≡◌, ◌∙◌, true, false, is_some, [], sym, ap, subst}
 use Rattle.cpg_base.specs.Graph.{Graph}
 use Rattle.cpg_base.specs.Activity.{active}
@@ -14,12 +14,13 @@ returns-in_default c ends =
     let g = c.args.admitted.now.graph in
     let s = c.args.scenario.now in
     let p = c.args.process in
+    -- the run has no time for the process, so it is inactive
     let off : active g s.values p ≡ false =
     sym (process_active g [] s p c.requires.process c.args.times.now c.requires.active)
     ∙ ap is_some (sym c.time.ensures ∙ c.in_default.is) in
-    subst (λ ls. IsNarrowed g.faults ls c.args.sent.now c.narrow_by_decided.new.cube)
+    subst (λ ls. IsNarrowed g.faults ls c.args.queue.now c.narrow_by_decided.new.cube)
     (sym (left_idle g s p c.args.item (queue_by g p c.args.item c.requires.item) ends off c.requires.idle))
-    (subst (λ (h : Graph). IsNarrowed h.faults (decided h s p) c.args.sent.now c.narrow_by_decided.new.cube)
+    (subst (λ (h : Graph). IsNarrowed h.faults (decided h s p) c.args.queue.now c.narrow_by_decided.new.cube)
     c.problem.ensures.problem c.in_ok-narrow_by_decided.ensures)
 
 -- the producer is active and the item isn't, so it also leaves the value that decides the sending
@@ -31,6 +32,6 @@ returns c ends =
     let on : active g s.values p ≡ true =
     sym (process_active g [] s p c.requires.process c.args.times.now c.requires.active)
     ∙ ap is_some (sym c.time.ensures ∙ c.in-Some.is) in
-    subst (λ ls. IsNarrowed g.faults ls c.args.sent.now c.narrow_by_sending.new.cube)
+    subst (λ ls. IsNarrowed g.faults ls c.args.queue.now c.narrow_by_sending.new.cube)
     (sym (left_skipped g s p c.args.item (queue_by g p c.args.item c.requires.item) ends on c.requires.idle))
     c.in_ok-narrow_by_sending.ensures

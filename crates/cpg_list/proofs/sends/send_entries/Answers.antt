@@ -24,9 +24,9 @@ loop-at-init c =
       found = subst (AreEntriesAmong g order c.args.listed.now.frozen.now rows c.args.item [])
           (sym c.new-entries.ensures.items) (none_yet g order c.args.listed.now.frozen.now rows c.args.item);
       carried = none_done g.faults c.args.listed.now.scenarios.now (queued_by g order rows before)
-          (queued_by g order rows (before ++ c.args.item ∷ [])) c.sent.inside.cubes.items
+          (queued_by g order rows (before ++ c.args.item ∷ [])) c.queue.inside.cubes.items
           (subst (AreCubesOf g.faults c.args.listed.now.scenarios.now (queued_by g order rows before))
-          (sym c.sent.view_is) c.requires.sent);
+          (sym c.queue.view_is) c.requires.queue);
     }
 
 -- the process has a time in the scenario exactly if it is active
@@ -64,7 +64,7 @@ loop-at-preserved c =
     let before = queued_before g order x in
     let queue = queued_by g order rows before s in
     let ends = carried_at_end g order rows s p in
-    let cubes = c.loop-at.sent-inside.cubes.items in
+    let cubes = c.loop-at.queue-inside.cubes.items in
     -- the cube of the queue for this scenario
     let is = cube_here g.faults c.args.listed.now.scenarios.now (queued_by g order rows before)
     (queued_by g order rows (before ++ x ∷ [])) c.loop-at.at cubes s c.index_mut.result.now c.loop-at-test.true
@@ -78,8 +78,8 @@ loop-at-preserved c =
     -- the entry is kept if the scenario is the least of what is carried at the send
     let entry = subst (λ ls. IsKeptAt g s (get_or t.times x None) ls c.in_ok-entry.entry)
     (sym (carried_send g order rows s p x c.requires.item)) (c.in_ok-entry.ensures.entry queue ends is end) in
-    let left = subst (λ ls. IsNarrowed g.faults ls c.index_mut.result.now c.send_in.new.sent)
-    (sym (queued_is g order rows s p x c.requires.item)) (c.in_ok-entry.ensures.sent ends end) in
+    let left = subst (λ ls. IsNarrowed g.faults ls c.index_mut.result.now c.send_in.new.queue)
+    (sym (queued_is g order rows s p x c.requires.item)) (c.in_ok-entry.ensures.queue ends end) in
     -- the entries with this one, and the cubes with what the item leaves in the queue
     record {
       found = found_more g order c.requires.listed.topological c.args.listed.now.frozen.now rows x
@@ -89,9 +89,9 @@ loop-at-preserved c =
           c.push_entry.new.entries.items c.loop-at.invariant.found c.in_ok-entry.entry entry
           c.in_ok-push_entry.ensures;
       carried = one_done g.faults c.args.listed.now.scenarios.now (queued_by g order rows before)
-          (queued_by g order rows (before ++ x ∷ [])) c.loop-at.at cubes s c.send_in.new.sent c.loop-at-test.true
+          (queued_by g order rows (before ++ x ∷ [])) c.loop-at.at cubes s c.send_in.new.queue c.loop-at-test.true
           c.loop-at.invariant.carried
-          c.index-scenarios-at.is (subst (λ ls. IsCubeOf g.faults ls c.send_in.new.sent)
+          c.index-scenarios-at.is (subst (λ ls. IsCubeOf g.faults ls c.send_in.new.queue)
           (flat_map_push (queued g order rows s) before x) (left.by queue is));
     }
 
@@ -108,12 +108,12 @@ returns-clause-entries c =
     c.loop-at.entries.items) all c.loop-at.invariant.found) c.requires.listed.scenarios.all
 
 -- the loop has seen all scenarios, so all cubes of the queue have the item
-pub returns-clause-sent : goal.returns-clause-sent
-returns-clause-sent c =
+pub returns-clause-queue : goal.returns-clause-queue
+returns-clause-queue c =
     let g = c.args.listed.now.admitted.now.graph in
     let order = c.args.listed.now.order.now in
     let rows = columns_of_rows c.args.rows.now in
     let before = queued_before g order c.args.item in
     all_done g.faults c.args.listed.now.scenarios.now (queued_by g order rows before)
-    (queued_by g order rows (before ++ c.args.item ∷ [])) c.loop-at.at c.loop-at.sent-inside.cubes.items
+    (queued_by g order rows (before ++ c.args.item ∷ [])) c.loop-at.at c.loop-at.queue-inside.cubes.items
     c.loop-at-test.false c.loop-at.invariant.carried

@@ -18,5 +18,5 @@ invariant-loop-at l = record {
       (queued_before l.listed.admitted.now.graph l.listed.order.now l.item))
       (queued_by l.listed.admitted.now.graph l.listed.order.now (columns_of_rows l.rows)
       (queued_before l.listed.admitted.now.graph l.listed.order.now l.item ++ l.item ∷ [])) l.at
-      l.sent-inside.cubes.items;
+      l.queue-inside.cubes.items;
 }

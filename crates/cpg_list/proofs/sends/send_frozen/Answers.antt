@@ -10,7 +10,8 @@ use Rattle.cpg_list.proofs.CodeSends.{queue_by, left_frozen, sends_frozen}
 use Rattle.cpg_run.proofs.SameSends.{producer_active}
 use Rattle.cpg_list.proofs.sends.send_frozen.Goals as goal
 
--- the entry has what decides the process and the sending, and nothing else
+-- the cube of the entry is that of what decides the process and whether the message is sent; a frozen message carries no
+-- more
 pub returns-clause-entry : goal.returns-clause-entry
 returns-clause-entry c queue ends =
     let g = c.args.admitted.now.graph in
@@ -25,9 +26,9 @@ returns-clause-entry c queue ends =
     (subst (λ (h : Graph). IsLeastEntry h s c.args.time c.narrow_by_sending.new.cube c.in_ok-entry.entry)
     c.problem.ensures.problem c.in_ok-entry.ensures))
 
--- the queue is narrowed by what decides the process and the sending, and nothing else
-pub returns-clause-sent : goal.returns-clause-sent
-returns-clause-sent c ends =
+-- the cube of the queue is narrowed by the same literals; a frozen message leaves no more
+pub returns-clause-queue : goal.returns-clause-queue
+returns-clause-queue c ends =
     let g = c.args.admitted.now.graph in
     let s = c.args.scenario.now in
     let p = c.args.process in
@@ -38,6 +39,6 @@ returns-clause-sent c ends =
     c.in_ok-narrow_by_sending.ensures in
     let on : active g s.values p ≡ true =
     ap (active g s.values) (sym by) ∙ producer_active g s.values (item_at g x) c.requires.active in
-    subst (λ ls. IsNarrowed g.faults ls c.args.sent.now c.narrow_by_cube.new.cube)
+    subst (λ ls. IsNarrowed g.faults ls c.args.queue.now c.narrow_by_cube.new.cube)
     (sym (left_frozen g s p x by ends on c.requires.active c.requires.frozen))
     (c.in_ok-narrow_by_cube.ensures g.faults literals is)

@@ -17,13 +17,13 @@ pub is_frozen-requires : goal.is_frozen-requires
 is_frozen-requires c = subst (λ (h : Graph). c.args.sending.item < item_count h) (sym c.problem-problem.ensures.problem)
     (queue_within c.args.admitted.now.graph c.args.sending.process c.args.sending.item c.requires.item)
 
--- the item is one that the process sends; the problem is the same graph
+-- the item is in the queue of the process, and the problem is the admitted graph
 pub send_plain-requires-clause-item : goal.send_plain-requires-clause-item
 send_plain-requires-clause-item c =
     subst (λ (h : Graph). Contains (queue_of h c.args.sending.process) c.args.sending.item)
     (sym c.problem-problem.ensures.problem) c.requires.item
 
--- the time of the entry is the item's time in the run, so the entry is kept at that time
+-- a frozen item: the entry has the item's time of the run
 pub returns-then-is_frozen-clause-entry : goal.returns-then-is_frozen-clause-entry
 returns-then-is_frozen-clause-entry c queue ends is_queue is_end =
     let g = c.args.admitted.now.graph in
@@ -31,7 +31,8 @@ returns-then-is_frozen-clause-entry c queue ends is_queue is_end =
     subst (λ o. IsKeptAt g s o (send_after g s c.args.sending.item queue ends) c.in_ok-entry.entry)
     (sym c.in-Some.is ∙ c.time.ensures) (c.in_ok-entry.ensures.entry queue ends)
 
--- the item is active and sent at its time, frozen or not
+-- an item that isn't frozen: as it has a time, it and its process are active, so the cube of the end is known; the entry has
+-- the item's time of the run
 pub returns-clause-entry : goal.returns-clause-entry
 returns-clause-entry c queue ends is_queue is_end =
     let g = c.args.admitted.now.graph in
@@ -42,15 +43,15 @@ returns-clause-entry c queue ends is_queue is_end =
     sym c.requires.item_active ∙ ap is_some (sym c.time.ensures ∙ c.in-Some.is) in
     let on : active g s.values p ≡ true =
     ap (active g s.values) (sym (queue_by g p x c.requires.item)) ∙ producer_active g s.values (item_at g x) acts in
-    let found = subst (λ (h : Graph). IsCubeOf h.faults queue c.args.sent.now → IsCubeOf h.faults ends c.args.end.now →
+    let found = subst (λ (h : Graph). IsCubeOf h.faults queue c.args.queue.now → IsCubeOf h.faults ends c.args.end.now →
     IsKeptOf h s c.in-Some.time (send_after h s x queue ends) c.in_ok-entry-2.entry) c.problem-problem.ensures.problem
     (c.in_ok-entry-2.ensures.entry queue ends) in
     subst (λ o. IsKeptAt g s o (send_after g s x queue ends) c.in_ok-entry-2.entry) (sym c.in-Some.is ∙ c.time.ensures)
     (found is_queue (is_end.cube on))
 
--- the item is active and leaves what it does, frozen or not
-pub returns-clause-sent : goal.returns-clause-sent
-returns-clause-sent c ends is_end =
+-- an item that isn't frozen: as it has a time, it and its process are active, and it leaves what is carried at the end
+pub returns-clause-queue : goal.returns-clause-queue
+returns-clause-queue c ends is_end =
     let g = c.args.admitted.now.graph in
     let s = c.args.scenario.now in
     let x = c.args.sending.item in
@@ -60,6 +61,6 @@ returns-clause-sent c ends is_end =
     let on : active g s.values p ≡ true =
     ap (active g s.values) (sym (queue_by g p x c.requires.item)) ∙ producer_active g s.values (item_at g x) acts in
     let found = subst (λ (h : Graph). IsCubeOf h.faults ends c.args.end.now → Within (decided h s p) ends →
-    IsNarrowed h.faults (queued_after h s x ends) c.args.sent.now c.send_plain.new.sent)
-    c.problem-problem.ensures.problem (c.in_ok-entry-2.ensures.sent ends) in
+    IsNarrowed h.faults (queued_after h s x ends) c.args.queue.now c.send_plain.new.queue)
+    c.problem-problem.ensures.problem (c.in_ok-entry-2.ensures.queue ends) in
     found (is_end.cube on) is_end.decided

@@ -11,7 +11,8 @@ use Rattle.cpg_list.proofs.CodeSends.{queue_by, left_plain, sends_plain, end_wit
 use Rattle.cpg_run.proofs.SameSends.{producer_active}
 use Rattle.cpg_list.proofs.sends.send_plain.Goals as goal
 
--- the entry has what stands in the queue, the producer's end and the value that decides the sending
+-- the cube of the queue is narrowed by the end of the process and by the value that decides the sending, so the entry's cube
+-- is that of all three
 pub returns-clause-entry : goal.returns-clause-entry
 returns-clause-entry c queue ends is_queue is_ends =
     let g = c.args.problem.now in
@@ -26,8 +27,8 @@ returns-clause-entry c queue ends is_queue is_ends =
     c.in_ok-entry.entry c.in_ok-entry.ensures)
 
 -- the queue is narrowed by the producer's end and the value that decides the sending
-pub returns-clause-sent : goal.returns-clause-sent
-returns-clause-sent c ends is_ends within =
+pub returns-clause-queue : goal.returns-clause-queue
+returns-clause-queue c ends is_ends within =
     let g = c.args.problem.now in
     let s = c.args.scenario.now in
     let p = c.args.sending.process in
@@ -35,10 +36,10 @@ returns-clause-sent c ends is_ends within =
     let by = queue_by g p x c.requires.item in
     let on : active g s.values p ≡ true =
     ap (active g s.values) (sym by) ∙ producer_active g s.values (item_at g x) c.requires.active in
-    subst (λ ls. IsNarrowed g.faults ls c.args.sent.now c.narrow_by_sent_value.new.cube)
+    subst (λ ls. IsNarrowed g.faults ls c.args.queue.now c.narrow_by_sent_value.new.cube)
     (sym (left_plain g s p x by ends on c.requires.active c.requires.plain))
     (end_with_value g.faults (decided g s p)
-    (sent_by_value g s x) ends c.args.sent.now c.narrow_by_sent_value.new.cube within
+    (sent_by_value g s x) ends c.args.queue.now c.narrow_by_sent_value.new.cube within
     (narrowed_then g.faults ends
-    (sent_by_value g s x) c.args.sent.now c.narrow_by_cube.new.cube c.narrow_by_sent_value.new.cube
+    (sent_by_value g s x) c.args.queue.now c.narrow_by_cube.new.cube c.narrow_by_sent_value.new.cube
     (c.in_ok-narrow_by_cube.ensures g.faults ends is_ends) c.in_ok-narrow_by_sent_value.ensures))

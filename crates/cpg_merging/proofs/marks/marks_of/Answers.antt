@@ -1,4 +1,5 @@
--- Proof of `marks_of`: the variables at which some column may follow another, marked by number.
+-- Proof of `marks_of`, which returns at which variables some column may follow another one, by number; false says that
+-- none does there.
 use Rattle.std.proofs.Common.{◌≡◌, Bor, List, length, map, rules, subst}
 use Rattle.cpg_cube.specs.declared.column.Column.{Column}
 use Rattle.cpg_merging.specs.Totals.{AreMarkedBy, total_of}
@@ -9,13 +10,13 @@ use Rattle.cpg_merging.proofs.MergingTotals.{from_off}
 use Rattle.cpg_merging.proofs.marks.marks_of.Goals as goal
 
 -- no two columns of one time ask differently, so none of them touch
-pub returns-then-not-many : goal.returns-then-not-many
-returns-then-not-many c v known off =
+pub returns-then-not-differ : goal.returns-then-not-differ
+returns-then-not-differ c v known off =
     let g = c.args.problem.now in
     let few = c.processes-processes.ensures.within.few_processes in
     settled_by_demands g few c.processes-processes.ensures.within.faults v known c.args.columns.now
     (good_of g few c.args.columns.now c.requires)
-    (from_off c.in_ok-many.many c.if-not-many.true c.in_ok-many.ensures)
+    (from_off c.in_ok-differ.differ c.if-not-differ.true c.in_ok-differ.ensures)
 
 -- no column is a candidate, so no two touch
 pub returns-then-is_empty : goal.returns-then-is_empty

@@ -8,11 +8,11 @@ pub returns-in_ok-push-clause-ready : goal.returns-in_ok-push-clause-ready
 returns-in_ok-push-clause-ready c = rw c.in_ok-push.ensures.items
     (ready_more c.args.waiting.now.items c.args.ready.now.items c.requires.ready c.args.process
     (c.index.result.now - 1) c.requires.waits
-    (within_waiting c.args.waiting.now.items c.args.process c.requires.waits) c.if-left-eq0.true)
+    (within_waiting c.args.waiting.now.items c.args.process c.requires.waits) c.if-waits_for-eq0.true)
 
 -- the process still waits for inputs, so the same processes are ready
-pub returns-else-left-eq0-clause-ready : goal.returns-else-left-eq0-clause-ready
-returns-else-left-eq0-clause-ready c =
+pub returns-else-waits_for-eq0-clause-ready : goal.returns-else-waits_for-eq0-clause-ready
+returns-else-waits_for-eq0-clause-ready c =
     ready_kept c.args.waiting.now.items c.args.ready.now.items c.requires.ready c.args.process
     (c.index.result.now - 1) c.requires.waits
-    (within_waiting c.args.waiting.now.items c.args.process c.requires.waits) c.if-left-eq0.false
+    (within_waiting c.args.waiting.now.items c.args.process c.requires.waits) c.if-waits_for-eq0.false

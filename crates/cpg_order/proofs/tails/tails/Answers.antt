@@ -1,4 +1,4 @@
--- Proof of `tails`: the length of the longest way from each process to an end.
+-- Proof of `tails`: returns the tail of each process, by number.
 use Rattle.std.proofs.Common.{◌+◌, ◌<◌, ◌≡◌, ◌∙◌, sym, ap, ap₂, subst, get_or, length, Contains, set, arith, replicate}
 use Rattle.std.proofs.Common.{rules}
 use Rattle.std.proofs.lemmas.List.{get_or-replicate, length-replicate}
@@ -20,7 +20,7 @@ loop-done-init c =
     (ap length zeros ∙ length-replicate (length c.processes-count.result.now) 0 ∙ count)
     (λ p l. ap (λ xs. get_or xs p 0) zeros ∙ get_or-replicate (length c.processes-count.result.now) p 0 0 (omega arith))
 
--- the order is as long as there are processes
+-- the order is as long as there are processes, so it has a process at the place that is asked for
 pub at-process-requires : goal.at-process-requires
 at-process-requires c = omega (
   arith,
@@ -40,12 +40,12 @@ longest-way-requires-clause-outputs c e k =
     (outputs_parts c.args.problem.now c.at-process.result e
     (subst (λ xs. Contains xs e) (c.outputs.ensures.of_graph c.args.problem.now c.requires.links) k)).0
 
--- a round of the bus is within the limits
-pub longest-way-requires-clause-turn : goal.longest-way-requires-clause-turn
-longest-way-requires-clause-turn c =
-    omega (arith, c.round-turn.ensures, round-le c.args.problem.now c.processes-count.ensures.within)
+-- a round is at most 16 slots of at most 10^9
+pub longest-way-requires-clause-round : goal.longest-way-requires-clause-round
+longest-way-requires-clause-round c =
+    omega (arith, c.round-round.ensures, round-le c.args.problem.now c.processes-count.ensures.within)
 
--- no tail found so far is longer than 2^60
+-- no tail found so far is longer than 2^60: it sums up at most 128 executions and rounds, each below 2^41
 pub longest-way-requires-clause-low : goal.longest-way-requires-clause-low
 longest-way-requires-clause-low c p =
     let low = c.loop-done.invariant.low p in
@@ -64,9 +64,9 @@ overflow_add-duration c =
     omega (arith, length_order (process_count c.args.problem.now) c.args.order.now c.requires.order.all) in
     let at : place c.args.order.now c.at-process.result + c.loop-done.done + 1 ≡ process_count c.args.problem.now =
     omega (arith, c.at-process.ensures.back, ap length c.processes-count.ensures.processes) in
-    let way = c.longest-way.ensures ∙ way_is c.args.problem.now c.round-turn.result c.at-process.result
+    let way = c.longest-way.ensures ∙ way_is c.args.problem.now c.round-round.result c.at-process.result
     c.outputs.result.now c.as_slice.result.now c.loop-done.tails.items
-    c.round-turn.ensures c.as_slice.ensures.value (c.outputs.ensures.of_graph c.args.problem.now c.requires.links) in
+    c.round-round.ensures c.as_slice.ensures.value (c.outputs.ensures.of_graph c.args.problem.now c.requires.links) in
     omega (
       arith,
       c.duration.ensures.duration,
@@ -92,9 +92,9 @@ loop-done-preserved c =
     omega (arith, length_order (process_count c.args.problem.now) c.args.order.now c.requires.order.all) in
     let at : place c.args.order.now c.at-process.result + c.loop-done.done + 1 ≡ process_count c.args.problem.now =
     omega (arith, c.at-process.ensures.back, ap length c.processes-count.ensures.processes) in
-    let way = c.longest-way.ensures ∙ way_is c.args.problem.now c.round-turn.result c.at-process.result
+    let way = c.longest-way.ensures ∙ way_is c.args.problem.now c.round-round.result c.at-process.result
     c.outputs.result.now c.as_slice.result.now c.loop-done.tails.items
-    c.round-turn.ensures c.as_slice.ensures.value (c.outputs.ensures.of_graph c.args.problem.now c.requires.links) in
+    c.round-round.ensures c.as_slice.ensures.value (c.outputs.ensures.of_graph c.args.problem.now c.requires.links) in
     subst (λ x. AreFound c.args.problem.now c.args.order.now (set c.loop-done.tails.items c.at-process.result x)
     (c.loop-done.done + 1)) (sym (ap₂ ◌+◌ c.duration.ensures.duration way))
     (found_more c.args.problem.now c.processes-count.ensures.within c.args.order.now c.requires.order

@@ -6,7 +6,8 @@ use Rattle.cpg_live.specs.declared.following.Broken.{Broken}
 use Rattle.cpg_outputs.proofs.Followed.{closed_sound, failed_rose}
 use Rattle.cpg_outputs.proofs.living.follow.Goals as goal
 
--- the shelf keeps its names, and no call failed, as the stream was followed to its close
+-- what stands under names is unchanged, and the newest fetch is that of the stream, which didn't fail, as the stream was
+-- followed to its close
 pub returns-in-Ok-clause-keeps : goal.returns-in-Ok-clause-keeps
 returns-in-Ok-clause-keeps g c =
     let s = c.in-Ok.ensures.whole in
@@ -21,7 +22,7 @@ returns-in-Ok-clause-keeps g c =
           (g.O.Sink.state c.args.out.now) (g.O.Sink.state c.follow.new.out) s fetch past is failed);
     }
 
--- the stream is one fetch more, and was followed to its close
+-- there is one fetch more, that of the stream, which is followed to its close; `err` is untouched
 pub returns-in-Ok-clause-followed : goal.returns-in-Ok-clause-followed
 returns-in-Ok-clause-followed g c =
     let s = c.in-Ok.ensures.whole in
@@ -32,7 +33,7 @@ returns-in-Ok-clause-followed g c =
       ends = inl (s.is, refl, record { faultless = refl; taken = refl });
     }
 
--- the stream is one fetch more, and the node reported why it wasn't followed to its close
+-- there is one fetch more, that of the stream, and `end_broken` wrote why it isn't followed to its close
 pub returns-in-Err-clause-followed : goal.returns-in-Err-clause-followed
 returns-in-Err-clause-followed g c =
     let s = c.in-Err.ensures.broken in
@@ -40,10 +41,11 @@ returns-in-Err-clause-followed g c =
       fetch = s.fetch;
       named = s.named;
       history = s.history_is;
-      ends = inr (c.in-Err.broken, s.is, c.say.ensures);
+      ends = inr (c.in-Err.broken, s.is, c.end_broken.ensures);
     }
 
--- the shelf keeps its names, and a call failed only if the count of faults rose
+-- what stands under names is unchanged, and if the fetch of the stream failed, it was the shelf that broke off, so its count
+-- of faults rose
 pub returns-in-Err-clause-keeps : goal.returns-in-Err-clause-keeps
 returns-in-Err-clause-keeps g c =
     let old = g.S.Shelf.state c.args.shelf.now in

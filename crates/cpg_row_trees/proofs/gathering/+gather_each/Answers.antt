@@ -1,5 +1,4 @@
--- Proof of `gather_each`: adds the places that scenarios of a space come to, as long as there is one and a test
--- passes at each; false if it stopped before the last.
+-- Proof of `gather_each`, which adds the places that scenarios of a space come to.
 use Rattle.std.proofs.Common.{ℕ, ◌≡◌, ◌∙◌, Option, sym}
 use Rattle.std.proofs.lemmas.Bool.{OnTrue_at}
 use Rattle.cpg_base.specs.Scenario.{Scenario}
@@ -26,6 +25,7 @@ returns-in_ok-there-in-Value-clause-found g t c =
 -- no scenario of the space is below the cut, so the places above it are all
 pub returns-then-not-is_open_below-clause-found : goal.returns-then-not-is_open_below-clause-found
 returns-then-not-is_open_below-clause-found g t c =
+    -- what the top shows: the trees of both sides (0, 1), and that the lists are theirs (2, 3) and their fork's (4)
     let shows = c.in-Cut.ensures.shows in
     of_true c.in_ok-all-in-Cut.all c.in_ok-all-in-Cut.ensures.found
     (λ all n are. holds_above (λ (x : Option ℕ) (s : Scenario). g.J.Test.guarantees c.args.test.now x s ×
@@ -38,6 +38,7 @@ returns-then-not-is_open_below-clause-found g t c =
 -- no scenario of the space is above the cut, so the places below it are all
 pub returns-then-not-is_open_above-clause-found : goal.returns-then-not-is_open_above-clause-found
 returns-then-not-is_open_above-clause-found g t c =
+    -- what the top shows: the trees of both sides (0, 1), and that the lists are theirs (2, 3) and their fork's (4)
     let shows = c.in-Cut.ensures.shows in
     of_true c.in_ok-all-in-Cut-2.all c.in_ok-all-in-Cut-2.ensures.found
     (λ all n are. holds_below (λ (x : Option ℕ) (s : Scenario). g.J.Test.guarantees c.args.test.now x s ×
@@ -48,27 +49,28 @@ returns-then-not-is_open_above-clause-found g t c =
     (from_false c.is_open_above.result c.if-not-is_open_above.true c.is_open_above.ensures.none))
 
 -- the places of both sides pass and were added, and each scenario of the space lies in one of the sides
-pub returns-else-not-high-clause-found : goal.returns-else-not-high-clause-found
-returns-else-not-high-clause-found g t c n are =
+pub returns-else-not-all_above-clause-found : goal.returns-else-not-all_above-clause-found
+returns-else-not-all_above-clause-found g t c n are =
+    -- what the top shows: the trees of both sides (0, 1), and that the lists are theirs (2, 3) and their fork's (4)
     let shows = c.in-Cut.ensures.shows in
     let space : Space = c.args.space.now in
     let v = c.in-Cut.variable in
     let cut = c.in-Cut.cut in
     -- the space below the cut, the one above it, and the space as it is opened again
-    let under : Space = c.close_above-most.new.self in
-    let over : Space = c.close_below-was.new.self in
+    let under : Space = c.close_above-old_high.new.self in
+    let over : Space = c.close_below-old_low.new.self in
     let again : Space = c.reopen_above.new.self in
     let some = c.gather_each-in-Cut.new.found.items in
     let all = c.gather_each-in-Cut-2.new.found.items in
     -- the side below leaves its space as it was, so that what is opened again is the given space
-    let same : c.gather_each-in-Cut.new.space ≡ under = OnTrue_at c.if-not-low.false c.in_ok-low-in-Cut.ensures.same in
+    let same : c.gather_each-in-Cut.new.space ≡ under = OnTrue_at c.if-not-all_below.false c.in_ok-all_below-in-Cut.ensures.same in
     let back : again ≡ space = above_again space under c.gather_each-in-Cut.new.space again v same
-    c.close_above-most.result c.reopen_above.ensures c.close_above-most.ensures.back in
-    let goes_over = goes_again space again over v cut back c.close_below-was.ensures.lies in
+    c.close_above-old_high.result c.reopen_above.ensures c.close_above-old_high.ensures.back in
+    let goes_over = goes_again space again over v cut back c.close_below-old_low.ensures.lies in
     -- the places of both sides pass, and those of the side below are still among all
-    let low = OnTrue_at c.if-not-low.false c.in_ok-low-in-Cut.ensures.found shows.0 shows.2 in
-    let high = OnTrue_at c.if-not-high.false c.in_ok-high-in-Cut.ensures.found shows.1 shows.3 in
+    let low = OnTrue_at c.if-not-all_below.false c.in_ok-all_below-in-Cut.ensures.found shows.0 shows.2 in
+    let high = OnTrue_at c.if-not-all_above.false c.in_ok-all_above-in-Cut.ensures.found shows.1 shows.3 in
     holds_fork (λ (x : Option ℕ) (s : Scenario). g.J.Test.guarantees c.args.test.now x s × IsAmong all x) space v cut
     shows.0 shows.1 n (flat-same n (Fork v cut shows.0 shows.1) (sym are ∙ shows.4))
-    (λ s lies h. let r = low s (c.close_above-most.ensures.lies s lies h) in
-    (r.0, among_more some all c.in_ok-high-in-Cut.ensures.kept _ r.1)) (λ s lies h. high s (goes_over s lies h))
+    (λ s lies h. let r = low s (c.close_above-old_high.ensures.lies s lies h) in
+    (r.0, among_more some all c.in_ok-all_above-in-Cut.ensures.kept _ r.1)) (λ s lies h. high s (goes_over s lies h))

@@ -1,5 +1,5 @@
--- Proof of `build_listed`: adds the tree for the scenarios of a space from the cube at a place on, unless there would
--- be too many items, and answers the place behind its last cube.
+-- Proof of `build_listed`, which adds the tree for the scenarios of a space, whose first cube is at a place, and
+-- returns the place behind its last cube; the space is as before then.
 use Rattle.std.proofs.Common.{ℕ, arith, rules, refl, map, ap, take, Bor, List, Option, None, Some, ◌≡◌, ◌++◌, ◌∙◌, sym}
 use Rattle.std.proofs.Common.{subst}
 use Rattle.std.proofs.lemmas.Bool.{OnTrue_at}
@@ -18,20 +18,20 @@ use Rattle.cpg_row_trees.proofs.SliceLaws.{finds_here, finds_nowhere, slice_tree
 use Rattle.cpg_row_trees.proofs.SliceLaws.{over_again, goes_again}
 use Rattle.cpg_row_trees.proofs.listed.+build_listed.Goals as goal
 
--- the space below the cut has fewer items left, and its ranges and the first literals say who is in it
+-- the space below the cut has fewer items left, and its ranges and the first literals say which scenarios are in it
 pub build_listed_fork-build_listed-requires : goal.build_listed_fork-build_listed-requires
 build_listed_fork-build_listed-requires t c =
     let space : Space = c.args.space.now in
-    let under : Space = c.close_above-most.new.self in
+    let under : Space = c.close_above-old_high.new.self in
     let v = c.args.part.cut.variable in
     let cut = c.args.part.cut.most in (
       omega (arith, c.decreases),
       (
         ranges_under c.args.k space under v cut (search rules) c.requires.ranges c.requires.open
-            c.see_lists-is_seen.ensures.highs c.close_above-most.ensures.is c.close_above-most.ensures.lies,
+            c.see_lists-is_seen.ensures.highs c.close_above-old_high.ensures.is c.close_above-old_high.ensures.lies,
         on_under c.args.k space under v cut
             (search rules) c.requires.ranges c.requires.open c.see_lists-is_seen.ensures.highs
-            c.close_above-most.ensures.is c.close_above-most.ensures.lies _ c.requires.own,
+            c.close_above-old_high.ensures.is c.close_above-old_high.ensures.lies _ c.requires.own,
       ),
     )
 
@@ -43,8 +43,8 @@ build_listed_fork-build_listed_above-requires t c =
     let v = c.args.part.cut.variable in
     let cut = c.args.part.cut.most in
     -- the space below the cut, the one above it, and the space as it is opened again
-    let under : Space = c.close_above-most.new.self in
-    let over : Space = c.close_below-was.new.self in
+    let under : Space = c.close_above-old_high.new.self in
+    let over : Space = c.close_below-old_low.new.self in
     let again : Space = c.reopen_above.new.self in
     -- the side below leaves its space as it was, so that what is opened again is the given space
     let same : c.build_listed.new.space ≡ under = at_some (λ to. c.build_listed.new.space ≡ under) c.in_ok-below.below
@@ -52,10 +52,10 @@ build_listed_fork-build_listed_above-requires t c =
     let low =
     at_some (λ to. AddsSliceTree cubes c.args.k under c.args.place to c.args.growth.now c.build_listed.new.growth)
     c.in_ok-below.below c.in-Some.border c.in-Some.is c.in_ok-below.ensures.added in
-    let back : again ≡ space = above_again space under c.build_listed.new.space again v same c.close_above-most.result
-    c.reopen_above.ensures c.close_above-most.ensures.back in
-    let is_over = over_again space again over v cut back c.close_below-was.ensures.is in
-    let goes_over = goes_again space again over v cut back c.close_below-was.ensures.lies in (
+    let back : again ≡ space = above_again space under c.build_listed.new.space again v same c.close_above-old_high.result
+    c.reopen_above.ensures c.close_above-old_high.ensures.back in
+    let is_over = over_again space again over v cut back c.close_below-old_low.ensures.is in
+    let goes_over = goes_again space again over v cut back c.close_below-old_low.ensures.lies in (
       -- fewer items are left, and the space above is known by its ranges and by its literals
       omega (arith, c.decreases, low.fewer),
       (
@@ -73,8 +73,8 @@ build_listed_fork-returns t c =
     let space : Space = c.args.space.now in
     let v = c.args.part.cut.variable in
     let cut = c.args.part.cut.most in
-    let under : Space = c.close_above-most.new.self in
-    let over : Space = c.close_below-was.new.self in
+    let under : Space = c.close_above-old_high.new.self in
+    let over : Space = c.close_below-old_low.new.self in
     -- the space below the cut, the one above it, and the space as it is opened again
     let again : Space = c.reopen_above.new.self in
     let same : c.build_listed.new.space ≡ under = at_some (λ to. c.build_listed.new.space ≡ under) c.in_ok-below.below
@@ -83,10 +83,10 @@ build_listed_fork-returns t c =
     let low =
     at_some (λ to. AddsSliceTree cubes c.args.k under c.args.place to c.args.growth.now c.build_listed.new.growth)
     c.in_ok-below.below c.in-Some.border c.in-Some.is c.in_ok-below.ensures.added in
-    let back : again ≡ space = above_again space under c.build_listed.new.space again v same c.close_above-most.result
-    c.reopen_above.ensures c.close_above-most.ensures.back in
-    let is_over = over_again space again over v cut back c.close_below-was.ensures.is in
-    let goes_over = goes_again space again over v cut back c.close_below-was.ensures.lies in
+    let back : again ≡ space = above_again space under c.build_listed.new.space again v same c.close_above-old_high.result
+    c.reopen_above.ensures c.close_above-old_high.ensures.back in
+    let is_over = over_again space again over v cut back c.close_below-old_low.ensures.is in
+    let goes_over = goes_again space again over v cut back c.close_below-old_low.ensures.lies in
     -- the side above has added its tree, behind that of the side below
     let new : TreeGrowth = record { items = c.fork_of.new.out; left = c.build_listed_above.new.growth.left } in
     let same_over : c.build_listed_above.new.space ≡ over = at_some (λ to. c.build_listed_above.new.space ≡ over)
@@ -99,17 +99,17 @@ build_listed_fork-returns t c =
     record {
       added = listed_parted cubes c.args.k space under over c.args.place c.in-Some.border c.in-Some-above.to v cut
           (search rules) c.see_lists-is_seen.ensures.lows c.see_lists-is_seen.ensures.highs
-          c.requires.ranges c.requires.open c.close_above-most.ensures.is is_over
-          c.close_above-most.ensures.lies goes_over
+          c.requires.ranges c.requires.open c.close_above-old_high.ensures.is is_over
+          c.close_above-old_high.ensures.lies goes_over
           c.len-start.result c.len-middle.result c.args.growth.now c.build_listed.new.growth
           c.build_listed_above.new.growth new c.in_ok-fork_of.ensures.made refl
           (c.len-start.ensures ∙ c.args.growth.now.items.ok.0)
           (c.len-middle.ensures ∙ c.build_listed.new.growth.items.ok.0) low high;
       same = below_again again over c.build_listed_above.new.space c.reopen_below.new.self v same_over
-          c.close_below-was.result c.reopen_below.ensures c.close_below-was.ensures.back ∙ back;
+          c.close_below-old_low.result c.reopen_below.ensures c.close_below-old_low.ensures.back ∙ back;
     }
 
--- the next cube has the same first literals, so these and the variable's range say who is in the space
+-- the next cube has the same first literals, so these and the variable's range say which scenarios are in the space
 pub build_listed_above-build_listed-requires : goal.build_listed_above-build_listed-requires
 build_listed_above-build_listed-requires t c =
     let next = from_true c.next_above.result c.if-next_above.true c.next_above.ensures in (
@@ -132,9 +132,10 @@ build_listed_above-returns-clause-added t c =
     ∙ ap (λ (xs : List (TreeItem (Option ℕ))). xs ++ flat leaf) c.may_grow.ensures.items)
     (omega (arith, c.in_ok-add_leaf.ensures.left, OnTrue_at c.if-not-may_grow.false c.may_grow.ensures.left))
 
--- the cube's first literals and the variable's range say who is in the space
+-- the cube's first literals and the variable's range say which scenarios are in the space
 pub build_listed-top_on-requires : goal.build_listed-top_on-requires
 build_listed-top_on-requires t c =
+    -- the cube that was looked up is the one at its place in the list
     let look = c.in-Some.ensures.lookup in
     let at = cube_here c.args.cubes.now c.args.place c.in-Some.cube.now look.3.0 look.1 in
     subst
@@ -144,6 +145,7 @@ build_listed-top_on-requires t c =
 -- there are fewer items left, and the cut that the cube gives is open on both sides
 pub build_listed-build_listed_fork-requires : goal.build_listed-build_listed_fork-requires
 build_listed-build_listed_fork-requires t c =
+    -- the cube that was looked up is the one at its place in the list
     let look = c.in-Some.ensures.lookup in
     let at = cube_here c.args.cubes.now c.args.place c.in-Some.cube.now look.3.0 look.1 in (
       omega (arith, c.decreases, OnTrue_at c.if-not-may_grow.false c.may_grow.ensures.left),
@@ -162,6 +164,7 @@ build_listed-build_listed_fork-requires t c =
 pub build_listed-returns-in_ok-add_leaf-in-Own-clause-added :
     goal.build_listed-returns-in_ok-add_leaf-in-Own-clause-added
 build_listed-returns-in_ok-add_leaf-in-Own-clause-added t c =
+    -- the cube that was looked up is the one at its place in the list
     let look = c.in-Some.ensures.lookup in
     let cubes : List (List Literal) = map (λ (b : Bor (List Literal)). b.now) c.args.cubes.now in
     let at = cube_here c.args.cubes.now c.args.place c.in-Some.cube.now look.3.0 look.1 in

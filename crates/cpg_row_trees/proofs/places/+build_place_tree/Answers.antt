@@ -1,5 +1,5 @@
--- Proof of `build_place_tree`: adds the tree of these places for the scenarios of a space, unless there would be too
--- many items; false if there is none: then two cubes may match together, or there would be more items.
+-- Proof of `build_place_tree`, which adds the tree of these places for the scenarios of a space, and leaves the space
+-- as it was.
 use Rattle.std.proofs.Common.{ℕ, map, Bor, List, Option, subst, sym, ap, refl, arith, ◌≡◌, ◌≤◌, ◌<◌, ◌++◌, ◌∙◌}
 use Rattle.std.proofs.lemmas.Bool.{OnTrue_at}
 use Rattle.cpg_base.specs.Scenario.{number_of}
@@ -39,15 +39,15 @@ build_forked_places-returns t c =
     let v = c.args.cut.variable in
     let cut = c.args.cut.most in
     -- the space below the cut, the one above it, and the space as it is opened again
-    let under : Space = c.close_above-most.new.self in
-    let over : Space = c.close_below-was.new.self in
+    let under : Space = c.close_above-old_high.new.self in
+    let over : Space = c.close_below-old_low.new.self in
     let again : Space = c.reopen_above.new.self in
     -- the side below leaves its space as it was, so that what is opened again is the given space
     let same : c.build_place_tree.new.space ≡ under =
     OnTrue_at c.if-not-has_below.false c.in_ok-has_below.ensures.same in
     let back : again ≡ space = above_again space under c.build_place_tree.new.space again v same
-    c.close_above-most.result c.reopen_above.ensures (c.close_above-most.ensures.back ∙ kept) in
-    let goes_over = goes_again space again over v cut back c.close_below-was.ensures.lies in
+    c.close_above-old_high.result c.reopen_above.ensures (c.close_above-old_high.ensures.back ∙ kept) in
+    let goes_over = goes_again space again over v cut back c.close_below-old_low.ensures.lies in
     -- the places that are kept for the sides: those of all that some scenario there may match
     let cubes : List (List Literal) = map (λ (b : Bor (List Literal)). b.now) c.args.cubes.now in
     let low = places_of c.in_ok-sides.sides.low.items in
@@ -74,10 +74,10 @@ build_forked_places-returns t c =
           (c.len-middle.ensures ∙ c.build_place_tree.new.growth.items.ok.0) keeps_below keeps_above
           (OnTrue_at c.if-not-has_below.false c.in_ok-has_below.ensures.added)
           (OnTrue_at c.if-not-has_above.false c.in_ok-has_above.ensures.added)
-          (λ s lies. c.close_above-most.ensures.lies s (subst (λ (r : Space). IsInSpace r s) (sym kept) lies))
+          (λ s lies. c.close_above-old_high.ensures.lies s (subst (λ (r : Space). IsInSpace r s) (sym kept) lies))
           goes_over;
       same = below_again again over c.build_place_tree-2.new.space c.reopen_below.new.self v same_over
-          c.close_below-was.result c.reopen_below.ensures c.close_below-was.ensures.back ∙ back;
+          c.close_below-old_low.result c.reopen_below.ensures c.close_below-old_low.ensures.back ∙ back;
     }
 
 -- the leaf says which of the places a scenario of the space matches, so it is their tree

@@ -1,5 +1,5 @@
--- Proof of `build_slice_tree`: adds the tree of a slice for the scenarios of a space, which are those that the
--- literals of a path match, unless there would be too many items.
+-- Proof of `build_slice_tree`, which adds the tree of a slice for the scenarios of a space, which are those that the
+-- literals of a path match, and leaves the space and the path as they were.
 use Rattle.std.proofs.Common.{ℕ, arith, rules, refl, map, ap, length, Bor, List, Option, ◌≡◌, ◌++◌, ◌∙◌, ◌&&◌}
 use Rattle.std.proofs.lemmas.Bool.{OnTrue_at}
 use Rattle.cpg_cube.specs.declared.literal.Literal.{Literal}
@@ -14,41 +14,43 @@ use Rattle.cpg_row_trees.proofs.SliceLaws.{under_reached, over_reached, own_unde
 use Rattle.cpg_row_trees.proofs.SliceLaws.{slice_tree_parted, above_again, below_again, over_again, goes_again}
 use Rattle.cpg_row_trees.proofs.slices.+build_slice_tree.Goals as goal
 
--- forks lead to the side below the cut, and the path with the range below says who is in it
+-- forks lead to the side below the cut, and the path with the range below says which scenarios are in it
 pub build_forked_slice-build_slice_tree-requires : goal.build_forked_slice-build_slice_tree-requires
 build_forked_slice-build_slice_tree-requires t c = (
+  -- the measure, that forks lead to the side, and that the path is its own
   omega (arith, c.decreases),
   (
-    under_reached c.args.k c.args.space.now c.close_above-most.new.self c.args.part.cut.variable c.args.part.cut.most
+    under_reached c.args.k c.args.space.now c.close_above-old_high.new.self c.args.part.cut.variable c.args.part.cut.most
         c.args.slice.narrow c.in-Some.narrow
         (search rules) c.sides_of-sides.ensures.highs c.requires.reached c.requires.open c.in-Some.ensures
-        c.close_above-most.ensures.is c.close_above-most.ensures.lies,
-    own_under c.args.k c.args.space.now c.close_above-most.new.self c.args.part.cut.variable c.args.part.cut.most
+        c.close_above-old_high.ensures.is c.close_above-old_high.ensures.lies,
+    own_under c.args.k c.args.space.now c.close_above-old_high.new.self c.args.part.cut.variable c.args.part.cut.most
         c.args.slice.narrow c.in-Some.narrow
         (search rules) c.requires.reached c.requires.open c.in-Some.ensures
         c.args.path.now.items c.enter.new.path.items c.requires.own c.sides_of-sides.ensures.highs
-        c.close_above-most.ensures.is c.close_above-most.ensures.lies c.sides_of-sides.result.below
+        c.close_above-old_high.ensures.is c.close_above-old_high.ensures.lies c.sides_of-sides.result.below
         c.sides_of-sides.ensures.sides.below c.in_ok-under.ensures.both,
   ),
 )
 
--- the same for the side above the cut, once the space and the path are as before
+-- forks lead to the side above the cut, and the path with the range above says which scenarios are in it; for this the space
+-- and the path are as they were before the side below
 pub build_forked_slice-build_slice_tree-requires-2 : goal.build_forked_slice-build_slice_tree-requires-2
 build_forked_slice-build_slice_tree-requires-2 t c =
     let space : Space = c.args.space.now in
     let v = c.args.part.cut.variable in
     let cut = c.args.part.cut.most in
     -- the space below the cut, the one above it, and the space as it is opened again
-    let under : Space = c.close_above-most.new.self in
-    let over : Space = c.close_below-was.new.self in
+    let under : Space = c.close_above-old_high.new.self in
+    let over : Space = c.close_below-old_low.new.self in
     let again : Space = c.reopen_above.new.self in
     -- the side below leaves its space as it was, so that what is opened again is the given space
     let same : c.build_slice_tree.new.space ≡ under =
     OnTrue_at c.if-not-has_below.false c.in_ok-has_below.ensures.same in
     let back : again ≡ space = above_again space under c.build_slice_tree.new.space again v same
-    c.close_above-most.result c.reopen_above.ensures c.close_above-most.ensures.back in
-    let is_over = over_again space again over v cut back c.close_below-was.ensures.is in
-    let goes_over = goes_again space again over v cut back c.close_below-was.ensures.lies in
+    c.close_above-old_high.result c.reopen_above.ensures c.close_above-old_high.ensures.back in
+    let is_over = over_again space again over v cut back c.close_below-old_low.ensures.is in
+    let goes_over = goes_again space again over v cut back c.close_below-old_low.ensures.lies in
     let below = OnTrue_at c.if-not-has_below.false c.in_ok-has_below.ensures.added in
     -- the path is left as it was entered
     let same_path : c.build_slice_tree.new.path.items ≡ c.enter.new.path.items =
@@ -76,21 +78,21 @@ build_forked_slice-returns t c =
     let v = c.args.part.cut.variable in
     let cut = c.args.part.cut.most in
     -- the space below the cut, the one above it, and the space as it is opened again
-    let under : Space = c.close_above-most.new.self in
-    let over : Space = c.close_below-was.new.self in
+    let under : Space = c.close_above-old_high.new.self in
+    let over : Space = c.close_below-old_low.new.self in
     let again : Space = c.reopen_above.new.self in
     -- each side leaves its space as it was, so that what is opened again is the given space
     let same : c.build_slice_tree.new.space ≡ under =
     OnTrue_at c.if-not-has_below.false c.in_ok-has_below.ensures.same in
     let back : again ≡ space = above_again space under c.build_slice_tree.new.space again v same
-    c.close_above-most.result c.reopen_above.ensures c.close_above-most.ensures.back in
-    let is_over = over_again space again over v cut back c.close_below-was.ensures.is in
-    let goes_over = goes_again space again over v cut back c.close_below-was.ensures.lies in
+    c.close_above-old_high.result c.reopen_above.ensures c.close_above-old_high.ensures.back in
+    let is_over = over_again space again over v cut back c.close_below-old_low.ensures.is in
+    let goes_over = goes_again space again over v cut back c.close_below-old_low.ensures.lies in
     let cubes : List (List Literal) = map (λ (b : Bor (List Literal)). b.now) c.args.cubes.now in
     let new : TreeGrowth = record { items = c.fork_of.new.out; left = c.build_slice_tree-2.new.growth.left } in
     let same_over : c.build_slice_tree-2.new.space ≡ over =
     OnTrue_at c.if-not-has_above.false c.in_ok-has_above.ensures.same in
-    -- and each leaves the path as it was entered
+    -- each side leaves the path as it was entered
     let same_path : c.build_slice_tree.new.path.items ≡ c.enter.new.path.items =
     OnTrue_at c.if-not-has_below.false c.in_ok-has_below.ensures.path in
     let left : c.leave.new.path.items ≡ c.args.path.now.items =
@@ -102,8 +104,8 @@ build_forked_slice-returns t c =
       added = slice_tree_parted cubes c.args.k space under over c.args.slice.from c.border_of-border.result
           c.args.slice.to v cut c.args.slice.narrow c.in-Some.narrow
           (search rules) c.sides_of-sides.ensures.lows c.sides_of-sides.ensures.highs c.requires.reached c.requires.open
-          c.in-Some.ensures c.close_above-most.ensures.is is_over
-          c.close_above-most.ensures.lies goes_over
+          c.in-Some.ensures c.close_above-old_high.ensures.is is_over
+          c.close_above-old_high.ensures.lies goes_over
           c.len-start.result c.len-middle.result c.args.growth.now c.build_slice_tree.new.growth
           c.build_slice_tree-2.new.growth new c.in_ok-fork_of.ensures.made refl
           (c.len-start.ensures ∙ c.args.growth.now.items.ok.0)
@@ -112,17 +114,17 @@ build_forked_slice-returns t c =
           (OnTrue_at c.if-not-has_above.false c.in_ok-has_above.ensures.added);
       path = c.leave-2.ensures ∙ ap (left_by c.in_ok-over.over) same_above ∙ c.in_ok-over.ensures.back ∙ left;
       same = below_again again over c.build_slice_tree-2.new.space c.reopen_below.new.self v same_over
-          c.close_below-was.result c.reopen_below.ensures c.close_below-was.ensures.back ∙ back;
+          c.close_below-old_low.result c.reopen_below.ensures c.close_below-old_low.ensures.back ∙ back;
     }
 
--- below the fork the path is left as it was entered
+-- The call for the side below leaves the path as it was entered, so it isn't empty, and its last literal can be taken back.
 pub build_forked_slice-leave-requires : goal.build_forked_slice-leave-requires
 build_forked_slice-leave-requires t c =
     let same_path : c.build_slice_tree.new.path.items ≡ c.enter.new.path.items =
     OnTrue_at c.if-not-has_below.false c.in_ok-has_below.ensures.path in
     omega (arith, ap (λ (ls : List Literal). length ls) same_path, c.in_ok-under.ensures.some)
 
--- above the fork the path is left as it was entered
+-- The call for the side above leaves the path as it was entered, so it isn't empty, and its last literal can be taken back.
 pub build_forked_slice-leave-requires-2 : goal.build_forked_slice-leave-requires-2
 build_forked_slice-leave-requires-2 t c =
     let same_above : c.build_slice_tree-2.new.path.items ≡ c.enter-2.new.path.items =

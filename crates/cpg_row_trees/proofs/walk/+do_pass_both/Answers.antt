@@ -1,4 +1,5 @@
--- Proof of `do_pass_both`: whether a test passes at each two places that scenarios of a space come to in two trees.
+-- Proof of `do_pass_both`: whether a test passes at each pair of places to which a scenario of a space comes in two
+-- trees.
 use Rattle.std.proofs.Common.{ℕ, ◌≡◌, ◌∙◌, Option, sym}
 use Rattle.cpg_base.specs.Scenario.{Scenario}
 use Rattle.cpg_tree.specs.TreeNode.{Leaf, Fork}
@@ -24,10 +25,12 @@ do_pass_both-returns-in-Value-clause-passed g t c =
 pub do_pass_both-returns-then-not-is_open_below-clause-passed :
     goal.do_pass_both-returns-then-not-is_open_below-clause-passed
 do_pass_both-returns-then-not-is_open_below-clause-passed g t c =
+    -- what the top shows: the trees of both sides (0, 1), and that the lists are theirs (2, 3) and their fork's (4)
     let shows = c.in-Cut.ensures.shows in
     let space : Space = c.args.space.now in
     of_true c.do_pass_both.result c.do_pass_both.ensures.passed
     (λ all n m are seconds.
+    -- the part of the other tree that the space comes to
     let part = c.part_in-part.ensures.part m seconds in
     holds_beside (g.J.PairTest.guarantees c.args.test.now) space n part.0 m part.2.same.value
     (holds_above (λ (x : Option ℕ) (s : Scenario). g.J.PairTest.guarantees c.args.test.now x (value_at part.0 s) s)
@@ -40,10 +43,12 @@ do_pass_both-returns-then-not-is_open_below-clause-passed g t c =
 pub do_pass_both-returns-then-not-is_open_above-clause-passed :
     goal.do_pass_both-returns-then-not-is_open_above-clause-passed
 do_pass_both-returns-then-not-is_open_above-clause-passed g t c =
+    -- what the top shows: the trees of both sides (0, 1), and that the lists are theirs (2, 3) and their fork's (4)
     let shows = c.in-Cut.ensures.shows in
     let space : Space = c.args.space.now in
     of_true c.do_pass_both-then-not-is_open_above.result c.do_pass_both-then-not-is_open_above.ensures.passed
     (λ all n m are seconds.
+    -- the part of the other tree that the space comes to
     let part = c.part_in-part.ensures.part m seconds in
     holds_beside (g.J.PairTest.guarantees c.args.test.now) space n part.0 m part.2.same.value
     (holds_below (λ (x : Option ℕ) (s : Scenario). g.J.PairTest.guarantees c.args.test.now x (value_at part.0 s) s)
@@ -56,21 +61,23 @@ do_pass_both-returns-then-not-is_open_above-clause-passed g t c =
 pub do_pass_both-returns-else-not-do_pass_beside-2-clause-passed :
     goal.do_pass_both-returns-else-not-do_pass_beside-2-clause-passed
 do_pass_both-returns-else-not-do_pass_beside-2-clause-passed g t c n m are seconds =
+    -- what the top shows: the trees of both sides (0, 1), and that the lists are theirs (2, 3) and their fork's (4)
     let shows = c.in-Cut.ensures.shows in
+    -- the part of the other tree that the space comes to
     let part = c.part_in-part.ensures.part m seconds in
     let space : Space = c.args.space.now in
     let v = c.in-Cut.variable in
     let cut = c.in-Cut.cut in
     -- the space below the cut, the one above it, and the space as it is opened again
-    let under : Space = c.close_above-most.new.self in
-    let over : Space = c.close_below-was.new.self in
+    let under : Space = c.close_above-old_high.new.self in
+    let over : Space = c.close_below-old_low.new.self in
     let again : Space = c.reopen_above.new.self in
     -- the side below leaves its space as it was, so that what is opened again is the given space
     let same : c.do_pass_beside.new.space ≡ under =
     from_true c.do_pass_beside.result c.if-not-do_pass_beside.false c.do_pass_beside.ensures.same in
-    let back : again ≡ space = above_again space under c.do_pass_beside.new.space again v same c.close_above-most.result
-    c.reopen_above.ensures c.close_above-most.ensures.back in
-    let goes_over = goes_again space again over v cut back c.close_below-was.ensures.lies in
+    let back : again ≡ space = above_again space under c.do_pass_beside.new.space again v same c.close_above-old_high.result
+    c.reopen_above.ensures c.close_above-old_high.ensures.back in
+    let goes_over = goes_again space again over v cut back c.close_below-old_low.ensures.lies in
     -- the test passes below the cut and above it
     let low = from_true c.do_pass_beside.result c.if-not-do_pass_beside.false c.do_pass_beside.ensures.passed shows.0
     part.0 shows.2 part.1 in
@@ -81,7 +88,7 @@ do_pass_both-returns-else-not-do_pass_beside-2-clause-passed g t c n m are secon
     (holds_fork (λ (x : Option ℕ) (s : Scenario). g.J.PairTest.guarantees c.args.test.now x (value_at part.0 s) s) space
     v cut shows.0 shows.1 n
     (flat-same n (Fork v cut shows.0 shows.1) (sym are ∙ shows.4))
-    (λ s lies h. low s (c.close_above-most.ensures.lies s lies h)) (λ s lies h. high s (goes_over s lies h)))
+    (λ s lies h. low s (c.close_above-old_high.ensures.lies s lies h)) (λ s lies h. high s (goes_over s lies h)))
 
 -- the first tree is one leaf, which passes beside each place of the second
 pub do_pass_beside-returns-in-Value-clause-passed : goal.do_pass_beside-returns-in-Value-clause-passed

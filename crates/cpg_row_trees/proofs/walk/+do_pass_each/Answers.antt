@@ -22,6 +22,7 @@ do_pass_each-returns-in-Value-clause-passed g t c =
 pub do_pass_each-returns-then-not-is_open_below-clause-passed :
     goal.do_pass_each-returns-then-not-is_open_below-clause-passed
 do_pass_each-returns-then-not-is_open_below-clause-passed g t c =
+    -- what the top shows: the trees of both sides (0, 1), and that the lists are theirs (2, 3) and their fork's (4)
     let shows = c.in-Cut.ensures.shows in
     of_true c.do_pass_each.result c.do_pass_each.ensures.passed
     (λ all n are. holds_above (λ (x : Option ℕ) (s : Scenario). g.J.Test.guarantees c.args.test.now x s)
@@ -33,6 +34,7 @@ do_pass_each-returns-then-not-is_open_below-clause-passed g t c =
 pub do_pass_each-returns-then-not-is_open_above-clause-passed :
     goal.do_pass_each-returns-then-not-is_open_above-clause-passed
 do_pass_each-returns-then-not-is_open_above-clause-passed g t c =
+    -- what the top shows: the trees of both sides (0, 1), and that the lists are theirs (2, 3) and their fork's (4)
     let shows = c.in-Cut.ensures.shows in
     of_true c.do_pass_each-then-not-is_open_above.result c.do_pass_each-then-not-is_open_above.ensures.passed
     (λ all n are. holds_below (λ (x : Option ℕ) (s : Scenario). g.J.Test.guarantees c.args.test.now x s)
@@ -44,20 +46,21 @@ do_pass_each-returns-then-not-is_open_above-clause-passed g t c =
 pub do_pass_each-returns-else-not-do_pass_side-2-clause-passed :
     goal.do_pass_each-returns-else-not-do_pass_side-2-clause-passed
 do_pass_each-returns-else-not-do_pass_side-2-clause-passed g t c n are =
+    -- what the top shows: the trees of both sides (0, 1), and that the lists are theirs (2, 3) and their fork's (4)
     let shows = c.in-Cut.ensures.shows in
     let space : Space = c.args.space.now in
     let v = c.in-Cut.variable in
     let cut = c.in-Cut.cut in
     -- the space below the cut, the one above it, and the space as it is opened again
-    let under : Space = c.close_above-most.new.self in
-    let over : Space = c.close_below-was.new.self in
+    let under : Space = c.close_above-old_high.new.self in
+    let over : Space = c.close_below-old_low.new.self in
     let again : Space = c.reopen_above.new.self in
     -- the side below leaves its space as it was, so that what is opened again is the given space
     let same : c.do_pass_side.new.space ≡ under =
     from_true c.do_pass_side.result c.if-not-do_pass_side.false c.do_pass_side.ensures.same in
-    let back : again ≡ space = above_again space under c.do_pass_side.new.space again v same c.close_above-most.result
-    c.reopen_above.ensures c.close_above-most.ensures.back in
-    let goes_over = goes_again space again over v cut back c.close_below-was.ensures.lies in
+    let back : again ≡ space = above_again space under c.do_pass_side.new.space again v same c.close_above-old_high.result
+    c.reopen_above.ensures c.close_above-old_high.ensures.back in
+    let goes_over = goes_again space again over v cut back c.close_below-old_low.ensures.lies in
     -- the test passes below the cut and above it
     let low =
     from_true c.do_pass_side.result c.if-not-do_pass_side.false c.do_pass_side.ensures.passed shows.0 shows.2 in
@@ -66,7 +69,7 @@ do_pass_each-returns-else-not-do_pass_side-2-clause-passed g t c n are =
     -- so it passes at each place that a scenario of the space comes to
     holds_fork (λ (x : Option ℕ) (s : Scenario). g.J.Test.guarantees c.args.test.now x s) space v cut shows.0 shows.1 n
     (flat-same n (Fork v cut shows.0 shows.1) (sym are ∙ shows.4))
-    (λ s lies h. low s (c.close_above-most.ensures.lies s lies h)) (λ s lies h. high s (goes_over s lies h))
+    (λ s lies h. low s (c.close_above-old_high.ensures.lies s lies h)) (λ s lies h. high s (goes_over s lies h))
 
 -- a leaf: the test has passed at its place, to which each scenario of the space comes
 pub do_pass_side-returns-in-Value-clause-passed : goal.do_pass_side-returns-in-Value-clause-passed

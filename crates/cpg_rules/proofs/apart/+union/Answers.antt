@@ -1,4 +1,5 @@
--- Proof of `union`: the part of a join with these inputs, if no two of them are live at once.
+-- Proof of `union`: returns the part of a join with these inputs, and `None` exactly if two of them are live at once
+-- in some outcome.
 use Rattle.std.proofs.Common.{rules, ◌<◌, None, ap₂, sym, ◌∙◌}
 use Rattle.std.proofs.lemmas.List.Elements.{All-rest}
 use Rattle.cpg_base.specs.Graph.{process_count}
@@ -16,7 +17,7 @@ union-requires t c = (
   (
     roots_stay c.args.parts.now c.input_part.new.parts
         (process_count c.args.problem.now) c.args.roots.now c.in_ok-first.ensures.more c.requires.roots,
-    All-rest (λ (i : Input). i.source < process_count c.args.problem.now) c.in-Some.input.now c.in-Some.left.now
+    All-rest (λ (i : Input). i.source < process_count c.args.problem.now) c.in-Some.input.now c.in-Some.rest.now
         c.args.inputs.now (search rules) c.requires.inputs,
   ),
 )
@@ -25,7 +26,7 @@ union-requires t c = (
 pub returns-in_default-2 : goal.returns-in_default-2
 returns-in_default-2 t c = union_none c.args.problem.now c.args.parts.now c.input_part.new.parts c.union.new.parts
     (process_count c.args.problem.now) c.args.roots.now c.requires.roots
-    c.in-Some.input.now c.in-Some.left.now c.args.inputs.now (search rules)
+    c.in-Some.input.now c.in-Some.rest.now c.args.inputs.now (search rules)
     (sym c.is_empty.ensures ∙ c.if-is_empty.false) c.in_ok-first.first c.in_ok-first.ensures c.in_ok-later.field-0
     c.in_default-2.is c.in_ok-later.ensures
 
@@ -34,12 +35,14 @@ pub returns-then-are_both_live : goal.returns-then-are_both_live
 returns-then-are_both_live t c = union_stays c.args.parts.now c.union.new.parts c.are_both_live.new.self
     (union c.args.problem.now c.args.parts.now.ranks
     (trees_of c.args.parts.now.parts c.args.roots.now) c.args.inputs.now) None
+    -- None is right after the later inputs are joined
     (union_live c.args.problem.now c.args.parts.now c.input_part.new.parts c.union.new.parts
     (process_count c.args.problem.now) c.args.roots.now c.requires.roots
-    c.in-Some.input.now c.in-Some.left.now c.args.inputs.now (search rules)
+    c.in-Some.input.now c.in-Some.rest.now c.args.inputs.now (search rules)
     (sym c.is_empty.ensures ∙ c.if-is_empty.false) c.in_ok-first.first c.in_ok-first.ensures c.in-Some-2.later
     c.in_ok-later.field-0 c.in-Some-2.is c.in_ok-later.ensures
     (sym c.are_both_live.ensures.live ∙ c.if-are_both_live.true))
+    -- and the question of whether both are live only keeps answers
     (extends_known c.union.new.parts c.are_both_live.new.self c.are_both_live.ensures.parts
     c.are_both_live.ensures.ranks)
 
@@ -47,12 +50,12 @@ returns-then-are_both_live t c = union_stays c.args.parts.now c.union.new.parts 
 pub returns : goal.returns
 returns t c = union_apart c.args.problem.now c.args.parts.now c.input_part.new.parts c.are_both_live.new.self
     (process_count c.args.problem.now) c.args.roots.now c.requires.roots
-    c.in-Some.input.now c.in-Some.left.now c.args.inputs.now (search rules)
+    c.in-Some.input.now c.in-Some.rest.now c.args.inputs.now (search rules)
     (sym c.is_empty.ensures ∙ c.if-is_empty.false) c.in_ok-first.first c.in_ok-first.ensures c.in-Some-2.later
     c.met.new.self c.in_ok-made.made c.in_ok-made.ensures c.in_ok-later.field-0 c.in-Some-2.is
     (union_stays c.input_part.new.parts c.union.new.parts c.are_both_live.new.self
     (union c.args.problem.now c.input_part.new.parts.ranks
-    (trees_of c.input_part.new.parts.parts c.args.roots.now) c.in-Some.left.now) c.in_ok-later.field-0
+    (trees_of c.input_part.new.parts.parts c.args.roots.now) c.in-Some.rest.now) c.in_ok-later.field-0
     c.in_ok-later.ensures (extends_known c.union.new.parts c.are_both_live.new.self c.are_both_live.ensures.parts
     c.are_both_live.ensures.ranks))
     (ap₂ (λ ranks parts. are_both_live ranks (tree_at parts c.in_ok-first.first) (tree_at parts c.in-Some-2.later))

@@ -1,4 +1,4 @@
--- Proof of `composed`: the part of a process with these inputs.
+-- Proof of `composed`: returns the part with the tree of a process with these inputs.
 use Rattle.std.proofs.Common.{rules, ◌<◌, sym, ◌∙◌}
 use Rattle.std.proofs.lemmas.List.Elements.{All-rest}
 use Rattle.cpg_base.specs.Graph.{process_count}
@@ -14,7 +14,7 @@ composed-requires t c = (
   (
     roots_stay c.args.parts.now c.input_part.new.parts
         (process_count c.args.problem.now) c.args.roots.now c.in_ok-first.ensures.more c.requires.roots,
-    All-rest (λ (i : Input). i.source < process_count c.args.problem.now) c.in-Some.input.now c.in-Some.left.now
+    All-rest (λ (i : Input). i.source < process_count c.args.problem.now) c.in-Some.input.now c.in-Some.rest.now
         c.args.inputs.now (search rules) c.requires.inputs,
   ),
 )
@@ -24,6 +24,6 @@ pub returns : goal.returns
 returns t c = composed_more c.args.problem.now c.args.join c.args.parts.now c.input_part.new.parts
     c.composed.new.parts c.met.new.self
     (process_count c.args.problem.now) c.args.roots.now c.requires.roots
-    c.in-Some.input.now c.in-Some.left.now c.args.inputs.now (search rules)
+    c.in-Some.input.now c.in-Some.rest.now c.args.inputs.now (search rules)
     (sym c.is_empty.ensures ∙ c.if-is_empty.false) c.in_ok-first.first c.in_ok-later.later c.in_ok-made.made
     c.in_ok-first.ensures c.in_ok-later.ensures c.in_ok-made.ensures

@@ -1,8 +1,8 @@
--- Loops of `are_counts`: whether each literal is such a part.
+-- Loops of `are_counts`: whether each of some literals is a lawful one on a fault count.
 use Rattle.std.proofs.Common.{◌≡◌, true, All, take}
 use Rattle.cpg_table.specs.Lawful.{IsCountLiteral}
 use Rattle.cpg_table.proofs.space.are_counts.Given as goal
 
--- while `are` is true, each literal so far is a literal on a count of faults
+-- while `all_counts` is true, each literal so far is a lawful one on a fault count
 abbrev pub invariant-loop-literal : goal.invariant-loop-literal
-invariant-loop-literal l = l.are ≡ true → All (IsCountLiteral l.space) (take l.literal-index l.literals)
+invariant-loop-literal l = l.all_counts ≡ true → All (IsCountLiteral l.space) (take l.literal-index l.literals)

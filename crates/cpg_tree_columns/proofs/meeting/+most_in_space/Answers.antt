@@ -1,4 +1,7 @@
--- Proof of `most_in_space`: the greatest of a number and of a tree's numbers in a space where another tree is true.
+-- Proof of `most_in_space`, which returns the greater of `best` and of the greatest number that the tree has in a
+-- scenario of the space in which `wanted` is true; `None` exactly if there is neither. `shows` has the trees below and
+-- above the cut (0 and 1), that the lists of the two sides are theirs (2 and 3), and that the items are the fork's
+-- (4).
 use Rattle.std.proofs.Common.{◌≡◌, ◌∙◌, sym, ap, subst}
 use Rattle.cpg_tree.specs.TreeNode.{Leaf, Fork}
 use Rattle.cpg_tree_columns.specs.Meeting.{IsMostInSpace}
@@ -61,7 +64,7 @@ returns-else-not-is_open_above-clause-most t c n w are wanted =
     let space : Space = c.args.space.now in
     -- the space is opened again, and closed below the cut it is the one above it
     let back : c.reopen_above.new.self ≡ space = c.reopen_above.ensures
-    ∙ ap (λ (r : Space). below_cut r c.in-Cut.variable c.close_above-most.result) c.most_in_space-low.ensures.back ∙
+    ∙ ap (λ (r : Space). below_cut r c.in-Cut.variable c.close_above-most.result) c.most_in_space-with_below.ensures.back ∙
     c.close_above-most.ensures.back in
     let upper : c.close_below-least.new.self ≡ above_cut space c.in-Cut.variable c.in-Cut.cut =
     c.close_below-least.ensures.is ∙
@@ -69,20 +72,20 @@ returns-else-not-is_open_above-clause-most t c n w are wanted =
     -- the greatest number of both sides, one after the other, is that of the fork
     most_both c.in-Cut.variable c.in-Cut.cut c.in-Cut.ensures.variable shows.0 shows.1 n
     (flat-same n (Fork c.in-Cut.variable c.in-Cut.cut shows.0 shows.1) (sym are ∙ shows.4)) w space c.args.best
-    c.most_in_space-low.result
-    c.most_in_space-high.result
+    c.most_in_space-with_below.result
+    c.most_in_space-with_both.result
     (sym c.is_open_below.ensures.is ∙ c.if-not-is_open_below.false)
     (sym c.is_open_above.ensures.is ∙ c.if-not-is_open_above.false)
     -- the scenarios of each side lie in its space
     (λ s lies h.
     subst (λ (r : Space). IsInSpace r s) c.close_above-most.ensures.is (c.close_above-most.ensures.lies s lies h))
     (λ s lies h. subst (λ (r : Space). IsInSpace r s) upper
-    (lies_reopened space c.close_above-most.new.self c.most_in_space-low.new.space c.reopen_above.new.self
+    (lies_reopened space c.close_above-most.new.self c.most_in_space-with_below.new.space c.reopen_above.new.self
     c.close_below-least.new.self c.in-Cut.variable c.close_above-most.result c.in-Cut.cut
-    c.close_above-most.ensures.back c.most_in_space-low.ensures.back c.reopen_above.ensures
+    c.close_above-most.ensures.back c.most_in_space-with_below.ensures.back c.reopen_above.ensures
     c.close_below-least.ensures.lies s lies h))
     -- what each side was asked for is the greatest number in its space
-    (subst (λ (r : Space). IsMostInSpace r shows.0 w c.args.best c.most_in_space-low.result)
-    c.close_above-most.ensures.is (c.most_in_space-low.ensures.most shows.0 w shows.2 wanted))
-    (subst (λ (r : Space). IsMostInSpace r shows.1 w c.most_in_space-low.result c.most_in_space-high.result) upper
-    (c.most_in_space-high.ensures.most shows.1 w shows.3 wanted))
+    (subst (λ (r : Space). IsMostInSpace r shows.0 w c.args.best c.most_in_space-with_below.result)
+    c.close_above-most.ensures.is (c.most_in_space-with_below.ensures.most shows.0 w shows.2 wanted))
+    (subst (λ (r : Space). IsMostInSpace r shows.1 w c.most_in_space-with_below.result c.most_in_space-with_both.result) upper
+    (c.most_in_space-with_both.ensures.most shows.1 w shows.3 wanted))

@@ -1,10 +1,10 @@
--- Proof of `Hearing::add_own`: adds the parts of cubes in which the node's own ends tell a bound by a time, as far as
--- they match together with a cube: those of the row of the process of the bound's variable, if that is on the node.
+-- Proof of `Hearing::add_own`: adds to `told`, where `cube` matches, the parts of cubes in which the node's own ends
+-- tell a bound by a time.
 use Rattle.std.proofs.Common.{◌≡◌, ◌<◌, ◌==◌, ◌&&◌, ◌||◌, ◌∙◌, [], arith, sym, ap, subst, eq-eqb}
 use Rattle.std.specs.List.{list_any}
 use Rattle.cpg_base.specs.Graph.{item_count, node_of, process_count, process_of_variable}
 use Rattle.cpg_cube.specs.Cube.{matches}
-use Rattle.cpg_violation.specs.Lines.{IsLine}
+use Rattle.cpg_violation.specs.SievedRows.{IsSievedRow}
 use Rattle.cpg_violation.proofs.Violations.{columns_known}
 use Rattle.cpg_check_heard.specs.Bounds.{variable_of}
 use Rattle.cpg_check_heard.specs.Untold.{item_tells}
@@ -12,7 +12,7 @@ use Rattle.cpg_check_heard.proofs.Facts.{own_can}
 use Rattle.cpg_check_heard.proofs.TellingRowLists.{row_at}
 use Rattle.cpg_check_heard.proofs.hearing.Hearing.add_own.Goals as goal
 
--- the row of the variable's process can tell the bound
+-- the end of a process can tell a bound of its own variables, and the bound's variable is one of them
 pub add_row-requires-clause-can : goal.add_row-requires-clause-can
 add_row-requires-clause-can c =
     let g = c.args.self.now.admitted.now.graph in
@@ -43,12 +43,12 @@ add_row-requires-clause-columns c =
     let below : p < item_count g = omega arith in
     let is = row_at g tables
     (item_count g) c.args.self.now.telling_rows.items p t c.requires.hearing.telling_rows below c.index-row.ensures in
-    rw (c.problem-problem.ensures.problem, is.line.all)
+    rw (c.problem-problem.ensures.problem, is.row.all)
     (columns_known c.requires.hearing.admitted tables c.requires.hearing.tables p)
 
--- the row is that of the process
-pub add_row-requires-clause-line : goal.add_row-requires-clause-line
-add_row-requires-clause-line c =
+-- the telling row at the process's number has the sieved row of the process
+pub add_row-requires-clause-row : goal.add_row-requires-clause-row
+add_row-requires-clause-row c =
     let g = c.args.self.now.admitted.now.graph in
     let tables = c.args.self.now.tables.now.nodes in
     let p = c.process_of_variable-process.result in
@@ -58,7 +58,7 @@ add_row-requires-clause-line c =
     let below : p < item_count g = omega arith in
     let is = row_at g tables
     (item_count g) c.args.self.now.telling_rows.items p t c.requires.hearing.telling_rows below c.index-row.ensures in
-    subst (λ columns. IsLine columns t.line.now) (sym is.line.all) is.line
+    subst (λ columns. IsSievedRow columns t.row.now) (sym is.row.all) is.row
 
 -- the process is on the node, so its row tells all that the node's own ends tell
 pub returns-clause-told : goal.returns-clause-told
@@ -81,7 +81,7 @@ returns-clause-told c =
     -- so what the node's own ends tell is what this row tells
     λ s i m.
     let tells = item_tells g tables c.args.time c.args.bound s in
-    rw (c.problem-problem.ensures.problem, is.means, is.line.all) at c.in_ok-add_row.ensures.told s i m
+    rw (c.problem-problem.ensures.problem, is.means, is.row.all) at c.in_ok-add_row.ensures.told s i m
     ∙ ap (λ a. list_any (λ b. matches b s) c.args.told.now.items || a)
     (sym (ap (λ q. (node_of g q == c.args.node) && tells q) (sym here)
     ∙ ap (λ a. a && tells p) (eq-eqb (node_of g p) c.args.node home)))

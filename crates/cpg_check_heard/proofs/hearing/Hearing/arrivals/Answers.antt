@@ -1,12 +1,12 @@
--- Proof of `Hearing::arrivals`: the columns of rows that a node hears whose frames may have come by a time, as far as
--- they may match together with a cube.
+-- Proof of `Hearing::arrivals`: the columns of these items' rows that may match together with a cube, and whose frames
+-- may have come by a time.
 use Rattle.std.proofs.Common.{◌<◌, [], get_or, All, arith, false, subst, sym}
 use Rattle.cpg_base.proofs.Lists.{Contains-filter_parts, numbers-Contains}
 use Rattle.cpg_base.specs.Graph.{is_heard_by, item_at, item_count}
 use Rattle.cpg_base.specs.Numbers.{numbers_below}
 use Rattle.cpg_cube.specs.Fit.{IsKnown}
 use Rattle.cpg_cube.specs.declared.column.Column.{Column}
-use Rattle.cpg_violation.specs.Lines.{IsLine}
+use Rattle.cpg_violation.specs.SievedRows.{IsSievedRow}
 use Rattle.cpg_violation.proofs.Violations.{columns_known}
 use Rattle.cpg_check_heard.specs.declared.bound.LiteralBound.{LiteralBound}
 use Rattle.cpg_check_heard.specs.Arrivals.{do_tell}
@@ -27,7 +27,7 @@ index-row-requires c =
     heard_below g c.args.node x (c.requires.items c.loop-item.item-index 0 c.loop-item-test.true) in
     omega (arith, below, c.requires.hearing.telling_rows.count)
 
--- the row is that of the item, and its columns are on variables of the graph
+-- the telling row at the item's number has the sieved row of the item
 pub add_row-requires : goal.add_row-requires
 add_row-requires c =
     let g = c.args.self.now.admitted.now.graph in
@@ -37,7 +37,7 @@ add_row-requires c =
     let t = c.index-row.result.now in
     let is = row_at g c.args.self.now.tables.now.nodes
     (item_count g) c.args.self.now.telling_rows.items x t c.requires.hearing.telling_rows below c.index-row.ensures in
-    subst (λ columns. IsLine columns t.line.now) (sym is.line.all) is.line
+    subst (λ columns. IsSievedRow columns t.row.now) (sym is.row.all) is.row
 
 -- with the next item's row, the columns tell what the rows of one item more tell
 pub loop-item-preserved : goal.loop-item-preserved
@@ -53,8 +53,8 @@ loop-item-preserved c =
     let is = row_at g tables
     (item_count g) c.args.self.now.telling_rows.items x t c.requires.hearing.telling_rows below c.index-row.ensures in
     -- the row's columns have variables of the graph alone, and can tell each bound
-    let known : All (λ (d : Column). IsKnown g d.cube) t.line.now.columns.now =
-    rw is.line.all (columns_known c.requires.hearing.admitted tables c.requires.hearing.tables x) in
+    let known : All (λ (d : Column). IsKnown g d.cube) t.row.now.columns.now =
+    rw is.row.all (columns_known c.requires.hearing.admitted tables c.requires.hearing.tables x) in
     let can : (b : LiteralBound) → CanTell g b t.means = λ b.
     rw is.means (heard_can g tables c.args.time b (record { values = []; faults = [] }) x c.args.node parts.1) in
     -- with the row, the columns tell a bound where the rows of one item more do
@@ -64,5 +64,5 @@ loop-item-preserved c =
           row_more (item_tells g tables c.args.time b s) c.args.items.now c.loop-item.item-index 0 c.loop-item-test.true
           false (do_tell g c.args.time b c.loop-item.arrivals.items s)
           (do_tell g c.args.time b c.add_row.new.arrivals.items s) (c.loop-item.invariant.told b s m)
-          (rw (is.means, is.line.all) at c.in_ok-add_row.ensures.told g b s m);
+          (rw (is.means, is.row.all) at c.in_ok-add_row.ensures.told g b s m);
     }

@@ -1,5 +1,5 @@
--- Proof of `Hearing::has_ended`: whether the process of a variable is on a node, and no execution of it ends after a
--- time.
+-- Proof of `Hearing::has_ended`: whether the process of a variable is on a node, and ends by a time even if it starts
+-- by its last column and has all faults.
 use Rattle.std.proofs.Common.{◌≡◌, ◌<◌, ◌≤◌, ◌∙◌, All, arith, sym, subst}
 use Rattle.cpg_base.specs.Duration.{duration}
 use Rattle.cpg_base.specs.Graph.{item_count, node_of, process_count, process_of_variable}
@@ -31,7 +31,7 @@ returns c =
     let longest : c.duration-longest.result ≡ duration g p g.faults =
     rw (← c.problem-problem.ensures.problem) (rw c.faults.ensures.faults at c.duration-longest.ensures.duration) in
     -- even that, from the row's last column on, has ended by the time
-    ended_by g tables c.args.node c.args.variable c.args.time t.line.now.last c.duration-longest.result
+    ended_by g tables c.args.node c.args.variable c.args.time t.row.now.last c.duration-longest.result
     c.has_come.result c.has_come.ensures.is (subst (λ q. node_of g q ≡ c.args.node) here home)
     (subst (λ q. c.duration-longest.result ≡ duration g q g.faults) here longest)
-    (subst (λ q. All (λ (d : Column). d.time ≤ t.line.now.last) (columns_of tables q)) here is.line.last)
+    (subst (λ q. All (λ (d : Column). d.time ≤ t.row.now.last) (columns_of tables q)) here is.row.last)

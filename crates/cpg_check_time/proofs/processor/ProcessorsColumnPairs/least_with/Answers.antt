@@ -1,5 +1,5 @@
 -- Proof of `ProcessorsColumnPairs::least_with`: the least scenario in which the execution that a column starts overlaps
--- one of another process of its node, if there is one.
+-- one of another process of its node.
 use Rattle.std.proofs.Common.{◌≡◌, ◌∙◌, arith, sym, subst}
 use Rattle.std.specs.List.{list_any}
 use Rattle.cpg_base.specs.Duration.{duration}
@@ -7,48 +7,53 @@ use Rattle.cpg_base.specs.Graph.{node_of}
 use Rattle.cpg_base.specs.First.{IsFirst}
 use Rattle.cpg_table.specs.Table.{columns_of}
 use Rattle.cpg_check_time.specs.Clashes.{overlaps}
-use Rattle.cpg_violation.specs.Lines.{IsLine}
+use Rattle.cpg_violation.specs.SievedRows.{IsSievedRow}
 use Rattle.cpg_check_time.proofs.Judging.{columns_are}
 use Rattle.cpg_check_time.proofs.ProcessorLaws.{overlaps_both, starts_late, ends_early, other_node}
 use Rattle.cpg_check_time.proofs.processor.ProcessorsColumnPairs.least_with.Goals as goal
 
 -- the column's longest execution ends before the other item's first column, so none overlaps
-pub returns-then-line-column : goal.returns-then-line-column
-returns-then-line-column c = λ s i.
+pub returns-then-row-column : goal.returns-then-row-column
+returns-then-row-column c = λ s i.
     let g = c.args.admitted.now.graph in
-    let line : IsLine (columns_of c.args.tables.now.nodes c.args.other) c.index-lines-other.result =
-    subst (IsLine (columns_of c.args.tables.now.nodes c.args.other)) (sym c.index-lines-other.is)
-    (c.requires.fits.each c.args.other c.index-lines-other.result (omega (arith, c.requires.other))) in
+    -- the sieved row of the other item
+    let row : IsSievedRow (columns_of c.args.tables.now.nodes c.args.other) c.index-rows-other.result =
+    subst (IsSievedRow (columns_of c.args.tables.now.nodes c.args.other)) (sym c.index-rows-other.is)
+    (c.requires.fits.each c.args.other c.index-rows-other.result (omega (arith, c.requires.other))) in
+    -- an execution lasts longest with all faults of the graph
     let longest : c.duration.result ≡ duration g c.args.item g.faults =
     rw (← c.problem-problem.ensures.problem) (rw c.faults.ensures.faults at c.duration.ensures.duration) in
     starts_late g c.args.tables.now.nodes c.args.item c.args.column.now c.args.other
-    c.problem-problem.ensures.admitted.limits.few_processes s i c.requires.item c.index-lines-other.result.first
-    line.first (omega (arith, c.if-line-column.true, longest))
+    c.problem-problem.ensures.admitted.limits.few_processes s i c.requires.item c.index-rows-other.result.first
+    row.first (omega (arith, c.if-row-column.true, longest))
 
 -- the other item's longest execution from its last column ends before the column, so none overlaps
 pub returns-then-saturating_add-column : goal.returns-then-saturating_add-column
 returns-then-saturating_add-column c = λ s i.
     let g = c.args.admitted.now.graph in
-    let line : IsLine (columns_of c.args.tables.now.nodes c.args.other) c.index-lines-other.result =
-    subst (IsLine (columns_of c.args.tables.now.nodes c.args.other)) (sym c.index-lines-other.is)
-    (c.requires.fits.each c.args.other c.index-lines-other.result (omega (arith, c.requires.other))) in
+    -- the sieved row of the other item
+    let row : IsSievedRow (columns_of c.args.tables.now.nodes c.args.other) c.index-rows-other.result =
+    subst (IsSievedRow (columns_of c.args.tables.now.nodes c.args.other)) (sym c.index-rows-other.is)
+    (c.requires.fits.each c.args.other c.index-rows-other.result (omega (arith, c.requires.other))) in
+    -- an execution lasts longest with all faults of the graph
     let longest : c.duration-longest.result ≡ duration g c.args.other g.faults =
     rw (← c.problem-problem.ensures.problem)
     (rw c.faults-2.ensures.faults at c.duration-longest.ensures.duration) in
     ends_early g c.args.tables.now.nodes c.args.item c.args.column.now c.args.other
-    c.problem-problem.ensures.admitted.limits.few_processes s i c.requires.other c.index-lines-other.result.last
-    line.last
+    c.problem-problem.ensures.admitted.limits.few_processes s i c.requires.other c.index-rows-other.result.last
+    row.last
     (omega (arith, c.if-saturating_add-column.true, c.saturating_add.ensures, c.requires.column.early, longest))
 
--- the line's columns are columns of the other item, and of the graph
+-- the row's columns are columns of the other item, and of the graph
 pub least_near-requires-clause-columns : goal.least_near-requires-clause-columns
 least_near-requires-clause-columns c =
-    let line : IsLine (columns_of c.args.tables.now.nodes c.args.other) c.index-lines-other.result =
-    subst (IsLine (columns_of c.args.tables.now.nodes c.args.other)) (sym c.index-lines-other.is)
-    (c.requires.fits.each c.args.other c.index-lines-other.result (omega (arith, c.requires.other))) in
-    rw line.all (columns_are c.problem-problem.ensures.admitted c.args.tables.now.nodes c.requires.lawful c.args.other)
+    -- the sieved row of the other item
+    let row : IsSievedRow (columns_of c.args.tables.now.nodes c.args.other) c.index-rows-other.result =
+    subst (IsSievedRow (columns_of c.args.tables.now.nodes c.args.other)) (sym c.index-rows-other.is)
+    (c.requires.fits.each c.args.other c.index-rows-other.result (omega (arith, c.requires.other))) in
+    rw row.all (columns_are c.problem-problem.ensures.admitted c.args.tables.now.nodes c.requires.lawful c.args.other)
 
--- the question is about a column and processes of the graph
+-- the question fits: its column and both processes are the graph's
 pub least_near-requires-clause-fits : goal.least_near-requires-clause-fits
 least_near-requires-clause-fits c = record {
   limits = c.problem-problem.ensures.admitted.limits;
@@ -57,22 +62,24 @@ least_near-requires-clause-fits c = record {
   other = c.requires.other;
 }
 
--- only scenarios in which both columns match answer the question
+-- two executions overlap only in scenarios in which both columns match
 pub least_near-requires-clause-near : goal.least_near-requires-clause-near
 least_near-requires-clause-near c = λ s d t. overlaps_both c.args.admitted.now.graph
     c.problem-problem.ensures.admitted.limits c.args.item c.requires.item c.args.column.now c.args.other d s t
 
--- both items are on one node, so the least scenario of two columns that overlap is the least of a clash
+-- both processes are on one node, and the search went over all columns that may overlap, so its answer is that of the
+-- clash
 pub returns : goal.returns
 returns c =
     let g = c.args.admitted.now.graph in
     let order = c.args.admitted.now.order in
-    let line : IsLine (columns_of c.args.tables.now.nodes c.args.other) c.index-lines-other.result =
-    subst (IsLine (columns_of c.args.tables.now.nodes c.args.other)) (sym c.index-lines-other.is)
-    (c.requires.fits.each c.args.other c.index-lines-other.result (omega (arith, c.requires.other))) in
+    -- the sieved row of the other item
+    let row : IsSievedRow (columns_of c.args.tables.now.nodes c.args.other) c.index-rows-other.result =
+    subst (IsSievedRow (columns_of c.args.tables.now.nodes c.args.other)) (sym c.index-rows-other.is)
+    (c.requires.fits.each c.args.other c.index-rows-other.result (omega (arith, c.requires.other))) in
     let node : node_of g c.args.other ≡ node_of g c.args.item = rw (← c.problem-problem.ensures.problem)
     (sym c.node_of.ensures.node ∙ c.if-node_of.false ∙ c.node_of-2.ensures.node) in
     let first : IsFirst g order (λ s. list_any (λ d. overlaps g c.args.item c.args.column.now c.args.other d s)
     (columns_of c.args.tables.now.nodes c.args.other)) c.in_ok-found.found =
-    rw line.all at c.in_ok-found.ensures in
+    rw row.all at c.in_ok-found.ensures in
     other_node g c.args.tables.now.nodes c.args.item c.args.column.now c.args.other node order c.in_ok-found.found first

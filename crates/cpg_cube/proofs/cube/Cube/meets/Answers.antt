@@ -1,4 +1,4 @@
--- Proof of `Cube::meets`: whether a scenario within the problem's faults matches this cube and another.
+-- Proof of `Cube::meets`: whether some scenario within the problem's faults matches this cube and another.
 use Rattle.std.proofs.Common.{rules, ◌≡◌, ◌∙◌, false, true}
 use Rattle.cpg_cube.specs.Fit.{do_meet, both_lows}
 use Rattle.cpg_cube.proofs.CubeLaws.{apart_from_meet}
@@ -8,14 +8,14 @@ use Rattle.cpg_cube.proofs.cube.Cube.meets.Goals as goal
 -- there are no bounds of both, so no scenario matches both cubes
 pub returns-in_default-clause-apart : goal.returns-in_default-clause-apart
 returns-in_default-clause-apart c =
-    let e = c.bounds_of_both.ensures in
+    let e = c.raised_bounds.ensures in
     let meet : do_meet c.args.problem.now c.args.self.now c.args.other.now ≡ false = search rules in
     apart_from_meet c.args.problem.now e.within.few_processes c.args.self.now c.args.other.now e.cubes.0 e.cubes.1 meet
 
 -- the written scenario is that of the greater lows, which is the least that both cubes match
 pub returns-clause-least : goal.returns-clause-least
 returns-clause-least c order =
-    let e = c.bounds_of_both.ensures in
+    let e = c.raised_bounds.ensures in
     let meet : do_meet c.args.problem.now c.args.self.now c.args.other.now ≡ true = search rules in
     let same : c.write_lows.new.least ≡ both_lows c.args.problem.now c.args.self.now c.args.other.now =
     c.write_lows.ensures.lows ∙ c.in-Some.ensures.lows in

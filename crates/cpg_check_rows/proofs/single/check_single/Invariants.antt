@@ -1,0 +1,12 @@
+-- Loops of `check_single`: the first violation of V2, by item and column, with the least scenario in the urgency order
+-- in which it occurs: the column and an earlier one of its row both match.
+use Rattle.std.proofs.Common.{ℕ, ◌≡◌, ◌<◌, false, Option}
+use Rattle.cpg_base.specs.Scenario.{Scenario, IsScenario}
+use Rattle.cpg_table.specs.Valid.{breaks}
+use Rattle.cpg_table.specs.declared.rule.Rule.{Rule}
+use Rattle.cpg_check_rows.proofs.single.check_single.Given as goal
+
+-- V2 is broken in no scenario at any item so far, whatever the column
+abbrev pub invariant-loop-item : goal.invariant-loop-item
+invariant-loop-item l = (x : ℕ) (column : Option ℕ) (s : Scenario) → x < l.item → IsScenario l.admitted.graph s →
+    breaks Rule.Single l.admitted.graph l.tables.nodes s x column ≡ false
